@@ -1,0 +1,13 @@
+-- `bits::leaf::byte` meets its contract: past the end the list's default stands. Assumes nothing.
+use borrow.Author.Needs.{needs}
+use mathlib.Core.Path.{sym}
+use denote.Ref.{now}
+use lib.ListN.{List·getD-eq-default}
+use Rattle.bits.proofs.leaf.byte.Statement.{statement}
+use Rattle.bits.proofs.leaf.byte.Tie as tie
+
+returns-2 : tie.Need-returns-2
+returns-2 c = (sym (List·getD-eq-default (now (c .before .before .args .s)) 0 (c .if1 .left)), search needs)
+
+pub byte-spec : {M : Type 1} → statement M
+byte-spec = tie.close (tie.spec (λ c. search needs) (λ c κs. search needs) (λ c. search needs) returns-2)

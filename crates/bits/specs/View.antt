@@ -1,0 +1,59 @@
+-- What the code's cursor stands for, and what a function that reads promises.
+use mathlib.Core.Path.{_≡_}
+use mathlib.Core.Bool.{Bool, true, false}
+use mathlib.Core.List.{List}
+use Prim.Native.Nat.{ℕ, _+_, _-_, _*_, _<_}
+use lib.ListN.{getD}
+use lib.Dec.{eqb, leb}
+use Rattle.units.specs.declared.BitPos.{BitPos}
+use Rattle.bits.specs.declared.Cur.{Cur}
+use Rattle.bits.specs.declared.Limit.{Limit}
+use Rattle.bits.specs.Language.{Res, ok, no, pick, Bits, P, run, pastPayload, pastDeclared}
+
+-- the four bytes from i as one number, the first the highest; past the end they are 0
+abbrev pub wordAt : List ℕ → ℕ → ℕ
+wordAt s i = ((getD s i 0 * 256 + getD s (i + 1) 0) * 256 + getD s (i + 2) 0) * 256 + getD s (i + 3) 0
+
+-- the refusal for passing a limit's end
+abbrev pub overOf : Bool → ℕ
+overOf inner = pick inner pastDeclared pastPayload
+
+-- go on from the cursor, if it has met no refusal
+abbrev pub goOn : {A : Type 0} → Cur → (ℕ → Res A) → Res A
+goOn c f = pick (eqb (c .no) 0) (f (c .at .0)) (no (c .no) (c .at .0) (c .missing))
+
+-- what p answers from the cursor c
+abbrev pub runFrom : {A : Type 0} → P A → Bits → Cur → Limit → Res A
+runFrom p b c l = goOn c (λ at. run p b at (l .end .0) (overOf (l .inner)))
+
+-- from the cursor c the reader p gives the value v and the cursor d, or the refusal that d carries
+pub record Reads {A : Type 0} (p : P A) (b : Bits) (c : Cur) (l : Limit) (v : A) (d : Cur) : Type 0 where
+  pub same : goOn d (λ at. ok v at) ≡ runFrom p b c l
+
+-- the same for a number below n, refused or not, that the cursor holds
+pub record Took (p : P ℕ) (n : ℕ) (b : Bits) (c : Cur) (l : Limit) (d : Cur) : Type 0 where
+  pub reads : Reads p b c l (d .v) d
+  pub small : d .v < n
+
+-- the cursor with another value
+abbrev pub valued : Cur → ℕ → Cur
+valued c v = record { v = v; missing = c .missing; at = c .at; no = c .no }
+
+-- the cursor before an element of n bits, or its refusal, back bits before it
+unfoldable pub openAt : Limit → Cur → ℕ → ℕ → Cur
+openAt l c n back =
+    pick (eqb (c .no) 0)
+    (pick (leb (c .at .0 + n) (l .end .0)) c
+    (record { v = 0; missing = c .at .0 + n - l .end .0; at = record { 0 = c .at .0 - back }; no = overOf (l .inner) }))
+    c
+
+-- the element's own limit
+unfoldable pub innerOf : Limit → Cur → ℕ → Limit
+innerOf l c n =
+    pick (leb (c .at .0 + n) (l .end .0))
+    (record { end = record { 0 = c .at .0 + n }; inner = true })
+    (record { end = l .end; inner = true })
+
+-- the cursor behind the element, where nothing in it was refused
+unfoldable pub closeAt : Cur → Limit → Cur
+closeAt e l = pick (eqb (e .no) 0) (record { v = 0; missing = 0; at = l .end; no = 0 }) e

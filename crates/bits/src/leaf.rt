@@ -1,0 +1,76 @@
+// The one function that reads a field.
+ghost use mathlib.Core.Path.{_≡_};
+ghost use Prim.Native.Nat.{_^_, _≤_, _<_};
+ghost use lib.ListN.{getD};
+ghost use Rattle.bits.specs.Language.{bits, bit};
+ghost use Rattle.bits.specs.View.{wordAt, overOf, Took};
+use crate::Cur;
+use crate::Limit;
+use units::BitPos;
+
+fn wide(x: u8) -> u32
+    ensures { λ r. ⌜ (r ≡ x) × (r < 256) ⌝ }
+{
+    x as u32
+}
+
+// The byte at i, or 0 past the end.
+fn byte(s: &[u8], i: usize) -> u32
+    ensures { λ r. ⌜ (r ≡ getD (now (s .entry)) i 0) × (r < 256) ⌝ }
+{
+    if i < s.len() { wide(s[i]) } else { 0 }
+}
+
+// The four bytes from i as one number, bytes past the end as 0.
+fn word(s: &[u8], i: usize) -> u32
+    requires { ⌜ i < 536870912 ⌝ }
+    ensures { λ r. ⌜ r ≡ wordAt (now (s .entry)) i ⌝ }
+{
+    if i + 4 <= s.len() {
+        ((wide(s[i]) * 256 + wide(s[i + 1])) * 256 + wide(s[i + 2])) * 256 + wide(s[i + 3])
+    } else {
+        ((byte(s, i) * 256 + byte(s, i + 1)) * 256 + byte(s, i + 2)) * 256 + byte(s, i + 3)
+    }
+}
+
+// The refusal for passing a limit's end.
+pub fn over(inner: bool) -> u8
+    ensures { λ r. ⌜ r ≡ overOf inner ⌝ }
+{
+    if inner { 8 } else { 2 }
+}
+
+// The next field of w bits. Behind a refusal nothing is read.
+pub fn take(s: &[u8], l: Limit, c: Cur, w: u32) -> Cur
+    requires { ⌜ (1 ≤ w) × (w ≤ 24) ⌝ }
+    ensures { λ r. ⌜ Took (bits w) (2 ^ w) (bit (now (s .entry))) c l r ⌝ }
+{
+    let at = c.at;
+    if c.no != 0 {
+        return Cur {
+            missing: c.missing,
+            v: 0,
+            at,
+            no: c.no,
+        };
+    }
+    let p = at.raw();
+    let to = p as u64 + w as u64;
+    let end = l.end.raw() as u64;
+    if to <= end {
+        let x = word(s, (p / 8) as usize);
+        Cur {
+            missing: 0,
+            v: (x << (p % 8)) >> (32 - w),
+            at: BitPos::new(to as u32),
+            no: 0,
+        }
+    } else {
+        Cur {
+            missing: to - end,
+            v: 0,
+            at,
+            no: over(l.inner),
+        }
+    }
+}

@@ -1,0 +1,58 @@
+// Bit fields of a byte slice, read with a cursor that goes in and comes back by value and keeps the first refusal that it meets.
+use units::BitPos;
+
+mod leaf; // leaf.rt: a field of any width up to 24
+mod cursor; // cursor.rt: fields that may be absent, runs, refusals, declared ends
+mod groups; // groups.rt: an element's size
+mod numbers; // numbers.rt: the refusals' numbers
+
+pub use cursor::close;
+pub use cursor::inner_of;
+pub use cursor::open;
+pub use cursor::refuse_if;
+pub use cursor::skip_if;
+pub use cursor::take_if;
+pub use cursor::with_value;
+pub use groups::read_size;
+pub use leaf::take;
+
+// Where reading stands. While no is 0: the value of the last field, and the position after it. Else the first refusal: its number, its place, and
+// how many bits were missing.
+pub struct Cur {
+    pub missing: u64,
+    pub v: u32,
+    pub at: BitPos,
+    pub no: u8,
+}
+
+// How far may be read: up to the end of the payload, or, inside, up to the end that an element declares.
+pub struct Limit {
+    pub end: BitPos,
+    pub inner: bool,
+}
+
+// An element's size: its value, and the groups that it took.
+pub struct Size {
+    pub value: u32,
+    pub groups: u32,
+}
+
+pub struct SizeStep {
+    pub size: Size,
+    pub cur: Cur,
+}
+
+// What a call can refuse, in the order of document 01's table.
+pub enum Refusal {
+    TooLong,
+    EndsEarly,
+    Version,
+    Counts,
+    Reserved,
+    Second,
+    Early,
+    PastElement,
+    Room,
+    NotValid,
+    NoFit,
+}

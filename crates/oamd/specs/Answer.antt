@@ -1,0 +1,70 @@
+-- What a read answers, and what the lent buffer holds afterwards, for all bytes and all buffers.
+use mathlib.Core.Bool.{Bool, true, false}
+use mathlib.Core.List.{List, [], _∷_}
+use Prim.Native.Nat.{ℕ, _*_}
+use lib.Dec.{leb}
+use lib.ListN.{length, replicate}
+use Rattle.bits.specs.declared.Refusal.the-variants.{TooLong, Room}
+use Rattle.bits.specs.Refusals.{numberOf}
+use Rattle.bits.specs.Language.{Res, ok, no, pick, pastPayload, run, bit}
+use Rattle.oamd.specs.declared.Programme.{Programme}
+use Rattle.oamd.specs.declared.Timing.{Timing}
+use Rattle.oamd.specs.declared.ReadAnswer.{ReadAnswer}
+use Rattle.oamd.specs.Tables.{mostBytes, mostBeds, recordStride}
+use Rattle.oamd.specs.Programme.{noBed}
+use Rattle.oamd.specs.Record.{bytesOf, onto}
+use Rattle.oamd.specs.Payload.{Payload, object-audio-metadata-payload, Tables, noTiming, tables}
+
+-- the answer, and the lent buffer afterwards
+pub record Outcome : Type 0 where
+  pub answer : ReadAnswer
+  pub buffer : List ℕ
+
+abbrev pub noProgramme : Programme
+noProgramme = record {
+  objects = 0;
+  dynonly = 0;
+  lfe = 0;
+  content = 0;
+  distribute = 0;
+  multiple = 0;
+  instances = 0;
+  bedcount = 0;
+  isf = 0;
+  dynamics = 0;
+  beds = replicate mostBeds noBed;
+}
+
+-- a refusal, at its place: all else is 0
+abbrev pub refusedWith : ℕ → ℕ → ReadAnswer
+refusedWith number place = record { place = place; refusal = number; unknown = 0; programme = noProgramme; timing = noTiming }
+
+abbrev pub acceptedWith : Programme → Timing → ℕ → ReadAnswer
+acceptedWith programme timing unknown = record { place = 0; refusal = 0; unknown = unknown; programme = programme; timing = timing }
+
+-- refused, the buffer is as it came
+abbrev pub refused : List ℕ → ℕ → ℕ → Outcome
+refused buffer number place = record { answer = refusedWith number place; buffer = buffer }
+
+-- accepted, the records are the first bytes of the buffer, and the others stay
+abbrev pub accepted : List ℕ → Tables → ℕ → Outcome
+accepted buffer t unknown = record { answer = acceptedWith (t .programme) (t .timing) unknown; buffer = onto (bytesOf (t .records)) buffer }
+
+-- the bytes that the records take
+abbrev pub needed : Tables → ℕ
+needed t = recordStride * (t .programme .objects * t .timing .blocks)
+
+-- the room is looked at last of all
+unfoldable pub housed : List ℕ → Tables → ℕ → Outcome
+housed buffer t unknown = pick (leb (needed t) (length buffer)) (accepted buffer t unknown) (refused buffer (numberOf Room) (needed t))
+
+abbrev pub answered : List ℕ → Res Payload → Outcome
+answered buffer (ok q to) = housed buffer (tables (q .programme) (q .known)) (q .unknown)
+answered buffer (no number place missing) = refused buffer number place
+
+-- the length is looked at first of all
+unfoldable pub reading : List ℕ → List ℕ → Outcome
+reading s buffer =
+    pick (leb (length s) mostBytes)
+    (answered buffer (run object-audio-metadata-payload (bit s) 0 (8 * length s) pastPayload))
+    (refused buffer (numberOf TooLong) (length s))

@@ -1,0 +1,11 @@
+pub mod Tables
+pub mod Programme
+pub mod Timing
+pub mod Block
+pub mod ObjectElement
+pub mod Extended
+pub mod Meaning
+pub mod Record
+pub mod Element
+pub mod Payload
+pub mod Answer

@@ -1,0 +1,60 @@
+-- The tables and the limits, each in one place.
+use mathlib.Core.List.{List, [], _∷_}
+use Prim.Native.Nat.{ℕ, _*_}
+
+-- a payload's bytes, at the most (house rule)
+abbrev pub mostBytes : ℕ
+mostBytes = 4096
+
+-- the elements of a payload, at the most: 15 and 5 bits more
+abbrev pub mostElements : ℕ
+mostElements = 46
+
+-- the objects, at the most: 31, 7 bits more, and 1
+abbrev pub mostObjects : ℕ
+mostObjects = 159
+
+-- the update blocks, at the most: 3 bits and 1
+abbrev pub mostBlocks : ℕ
+mostBlocks = 8
+
+-- the bed instances, at the most: 3 bits and 2
+abbrev pub mostBeds : ℕ
+mostBeds = 9
+
+-- the bytes of a record that have a meaning
+abbrev pub recordBytes : ℕ
+recordBytes = 24
+
+-- from one record to the next
+abbrev pub recordStride : ℕ
+recordStride = 24
+
+-- room for the records of every payload, and to spare
+abbrev pub roomBytes : ℕ
+roomBytes = 30720
+
+-- Table 11b, number of objects by intermediate_spatial_format_idx; 6 and 7 are reserved
+abbrev pub isfObjects : List ℕ
+isfObjects = 4 ∷ 8 ∷ 10 ∷ 14 ∷ 15 ∷ 30 ∷ []
+
+-- Table 12, number of speaker labels by index of bed_channel_assignment[]:
+-- LFE2, LW/RW, TBL/TBR, TSL/TSR, TFL/TFR, LB/RB, LS/RS, LFE, C, L/R
+abbrev pub bedLabels : List ℕ
+bedLabels = 1 ∷ 2 ∷ 2 ∷ 2 ∷ 2 ∷ 2 ∷ 2 ∷ 1 ∷ 1 ∷ 2 ∷ []
+
+-- Table 13, one label for each index of nonstd_bed_channel_assignment[]
+abbrev pub nonstdLabels : List ℕ
+nonstdLabels = 1 ∷ 1 ∷ 1 ∷ 1 ∷ 1 ∷ 1 ∷ 1 ∷ 1 ∷ 1 ∷ 1 ∷ 1 ∷ 1 ∷ 1 ∷ 1 ∷ 1 ∷ 1 ∷ 1 ∷ []
+
+-- Table 23, sample offset by sample_offset_idx
+abbrev pub sampleOffsets : List ℕ
+sampleOffsets = 8 ∷ 16 ∷ 18 ∷ 24 ∷ []
+
+-- Table 24, ramp by ramp_duration_code, as far as a code gives it
+abbrev pub rampCodes : List ℕ
+rampCodes = 0 ∷ 512 ∷ 1536 ∷ []
+
+-- Table 25, ramp by ramp_duration_idx
+abbrev pub rampDurations : List ℕ
+rampDurations = 32 ∷ 64 ∷ 128 ∷ 256 ∷ 320 ∷ 480 ∷ 1000 ∷ 1001 ∷ 1024 ∷ 1600 ∷ 1601 ∷ 1602 ∷ 1920 ∷ 2000 ∷ 2002 ∷ 2048 ∷ []

@@ -1,0 +1,213 @@
+// The format: the types that definitions and code share. The definitions are in specs/, a file for each clause of the standard.
+use units::SampleCount;
+
+mod tables; // tables.rt: the standard's tables
+mod tests; // tests.rt: a flag of an array of flags, and an element's kind
+
+pub use tables::bed_labels;
+pub use tables::isf_objects;
+pub use tables::ramp_code;
+pub use tables::ramp_duration;
+pub use tables::sample_offset;
+pub use tests::both;
+pub use tests::flag;
+pub use tests::kind_of;
+
+// One bed of the program assignment, as carried (5.5.3).
+pub struct Bed {
+    pub assignment: u32,
+    pub lfeonly: u8,
+    pub standard: u8,
+}
+
+// The programme: the object count, and each field of the program assignment as carried; what is not carried is 0 (5.5.3).
+pub struct Programme {
+    pub objects: u8,
+    pub dynonly: u8,
+    pub lfe: u8,
+    pub content: u8,
+    pub distribute: u8,
+    pub multiple: u8,
+    pub instances: u8,
+    pub bedcount: u8,
+    pub isf: u8,
+    pub dynamics: u8,
+    pub beds: [Bed; 9],
+}
+
+// How many objects of each class a programme has.
+pub struct Shares {
+    pub bed: u32,
+    pub isf: u32,
+    pub dynamic: u32,
+}
+
+// When an update starts, and how long it takes to take hold.
+pub struct Update {
+    pub start: SampleCount,
+    pub ramp: SampleCount,
+}
+
+// The timing of each block; entries past the last block are 0.
+pub struct Timing {
+    pub blocks: u8,
+    pub updates: [Update; 8],
+}
+
+// A sample offset, as coded (5.5.6).
+pub struct Offset {
+    pub code: u8,
+    pub index: u8,
+    pub bits: u8,
+}
+
+// A block's timing, as coded (5.5.7).
+pub struct BlockUpdate {
+    pub bits: u16,
+    pub factor: u8,
+    pub code: u8,
+    pub indexed: u8,
+    pub index: u8,
+}
+
+// How the values of a group are found (Tables 28 and 29).
+pub enum Status {
+    Default,
+    Full,
+    Reuse,
+    Mixed,
+}
+
+// A gain, as coded (5.5.10).
+pub struct Gain {
+    pub index: u8,
+    pub bits: u8,
+}
+
+// A priority, as coded (5.5.10).
+pub struct Priority {
+    pub standard: u8,
+    pub bits: u8,
+}
+
+// object_basic_info, as coded (5.5.10).
+pub struct Basic {
+    pub status: Status,
+    pub parts: u8,
+    pub gain: Gain,
+    pub priority: Priority,
+}
+
+// A position, as coded: x, y, z's sign and z; or three differences (5.5.11).
+pub enum Position {
+    Absolute(u8, u8, u8, u8),
+    Moved(u8, u8, u8),
+}
+
+// A distance, as coded (5.5.11).
+pub struct Distance {
+    pub given: u8,
+    pub infinite: u8,
+    pub index: u8,
+}
+
+// Zone constraints, as coded and as meant (5.5.11).
+pub struct Zone {
+    pub index: u8,
+    pub elevation: u8,
+}
+
+// A size, as coded (5.5.11).
+pub struct Extent {
+    pub index: u8,
+    pub all: u8,
+    pub width: u8,
+    pub depth: u8,
+    pub height: u8,
+}
+
+// The screen reference, as coded and as meant (5.5.11).
+pub struct Screen {
+    pub used: u8,
+    pub factor: u8,
+    pub depth: u8,
+}
+
+// object_render_info, as coded (5.5.11).
+pub struct Render {
+    pub status: Status,
+    pub parts: u8,
+    pub position: Position,
+    pub distance: Distance,
+    pub zone: Zone,
+    pub extent: Extent,
+    pub screen: Screen,
+    pub snap: u8,
+}
+
+// object_info_block, as coded, of an object of a class: 0 bed, 1 ISF, 2 dynamic (5.5.9).
+pub struct Block {
+    pub class: u8,
+    pub active: u8,
+    pub basic: Basic,
+    pub render: Render,
+}
+
+// Where an object is: bytes 4 to 7 of a record.
+pub struct Place {
+    pub x: u8,
+    pub y: u8,
+    pub z: u8,
+    pub distance: u8,
+}
+
+// How large an object is: bytes 8 to 10 of a record.
+pub struct Volume {
+    pub width: u8,
+    pub depth: u8,
+    pub height: u8,
+}
+
+// Divergence, as carried: bytes 17 to 19 of a record (5.5.14).
+pub struct Divergence {
+    pub used: u8,
+    pub mode: u8,
+    pub value: u8,
+}
+
+// A precise position, as carried: bytes 20 to 23 of a record (5.5.15).
+pub struct Precise {
+    pub presence: u8,
+    pub x: u8,
+    pub y: u8,
+    pub z: u8,
+}
+
+// What an object is from a block on: a record but for its last seven bytes, which the extended element gives.
+pub struct Scene {
+    pub active: u8,
+    pub class: u8,
+    pub gain: u8,
+    pub priority: u8,
+    pub place: Place,
+    pub volume: Volume,
+    pub zone: Zone,
+    pub screen: Screen,
+    pub snap: u8,
+}
+
+// What an element is to this reader.
+pub enum Kind {
+    Unknown,
+    Object,
+    Extended,
+}
+
+// What a read answers, beside the records. On a refusal all but refusal and place is 0.
+pub struct ReadAnswer {
+    pub place: u64,
+    pub refusal: u8,
+    pub unknown: u8,
+    pub programme: Programme,
+    pub timing: Timing,
+}
