@@ -1,0 +1,20 @@
+-- Demand 3, appended bytes: more data behind an accepted payload never turns its tables into others.
+use mathlib.Core.Path.{_≡_, sym, _∙_}
+use mathlib.Core.List.{List, _++_}
+use Prim.Native.Nat.{ℕ, _≤_}
+use native.Mathlib.Omega.{arith}
+use lib.ListN.{length}
+use Rattle.oamd.specs.Tables.{mostBytes}
+use Rattle.oamd.specs.Answer.{reading}
+use Rattle.demands.specs.Lemmas.Reading.{read-of, reading-ok, parsed-append}
+
+-- With any bytes behind it, up to the length limit, an accepted payload has the same answer (the count of unknown elements too) and the same buffer.
+pub appended : (s t buffer : List ℕ) → reading s buffer .answer .refusal ≡ 0 → length (s ++ t) ≤ mostBytes → reading (s ++ t) buffer ≡ reading s buffer
+appended s t buffer accepted short =
+    let r = read-of s buffer accepted in
+    reading-ok (s ++ t) buffer (omega arith) (parsed-append s t (r .ran)) ∙ sym (reading-ok s buffer (r .short) (r .ran))
+
+-- So where both are accepted, the payload and the same with more data behind it, their tables are the same.
+pub never-others : (s t buffer : List ℕ) → reading s buffer .answer .refusal ≡ 0 → reading (s ++ t) buffer .answer .refusal ≡ 0
+    → reading (s ++ t) buffer ≡ reading s buffer
+never-others s t buffer accepted accepted' = appended s t buffer accepted (read-of (s ++ t) buffer accepted' .short)

@@ -1,0 +1,85 @@
+-- Demand 3, unknown elements added, taken away or changed in a payload that is put together of whole elements; and every accepted payload is.
+use mathlib.Core.Path.{_≡_, refl, sym, ap, _∙_}
+use mathlib.Core.List.{List, [], _∷_, _++_}
+use mathlib.Core.Option.{some}
+use Prim.Native.Nat.{ℕ, _≤_, _<_}
+use native.Mathlib.Omega.{arith}
+use lib.ListN.{length, getD}
+use Rattle.bits.specs.Language.{slice, run, number}
+use Rattle.bits.specs.Size.{sizeFrom}
+use Rattle.oamd.specs.declared.Kind.the-variants.{Unknown}
+use Rattle.oamd.specs.Tables.{mostBytes, mostElements}
+use Rattle.oamd.specs.Element.{kind, framed}
+use Rattle.oamd.specs.Answer.{reading}
+use Rattle.demands.specs.Skeleton.{Body, body, known, takenOut, skeleton, SameTables}
+use Rattle.demands.specs.Assembly.{Binary, Head, Element, allBodies, toBits, toBytes, payloadOf, PutTogether}
+use Rattle.demands.specs.Unknown.{unknown-elements}
+use Rattle.demands.specs.Lemmas.Reading.{read-of}
+use Rattle.demands.specs.Lemmas.Skeletons.{outlined, known-append, known-but}
+use Rattle.demands.specs.Lemmas.Packing.{binary-toBits, toBytes-bit}
+use Rattle.demands.specs.Lemmas.Assembled.{outline-is, together-of}
+
+-- Let a payload with the header h and the elements es be accepted. Then that with the elements es', up to 46 of them and up to 4,096 bytes, and with
+-- whatever padding, is accepted with the same tables and the same buffer.
+abbrev pub Keeps : (h : Head) (es es' : List (Element (h .is .alternate))) → Type 0
+Keeps h es es' =
+    (padding padding' buffer : List ℕ) → Binary padding → Binary padding' → length es ≤ mostElements → length es' ≤ mostElements
+    → length (payloadOf h es' padding') ≤ mostBytes → reading (payloadOf h es padding) buffer .answer .refusal ≡ 0
+    → SameTables (reading (payloadOf h es' padding') buffer) (reading (payloadOf h es padding) buffer)
+
+skeleton-is : (h : Head) (es : List (Element (h .is .alternate))) (padding : List ℕ) → length es ≤ mostElements → Binary padding
+    → skeleton (payloadOf h es padding) ≡ some (record { header = h .is; elements = known (allBodies es) })
+unfolding skeleton
+skeleton-is h es padding few bin = ap takenOut (outline-is h es padding few bin)
+
+-- It is so whenever the known ones of both are the same in the same order: any unknown elements may come, go, and have other bits and other sizes.
+pub edited : (h : Head) (es es' : List (Element (h .is .alternate))) → known (allBodies es') ≡ known (allBodies es) → Keeps h es es'
+edited h es es' same padding padding' buffer bin bin' few few' short accepted =
+    unknown-elements (payloadOf h es padding) (payloadOf h es' padding') buffer accepted
+    (skeleton-is h es' padding' (omega arith) bin' ∙ ap (λ (xs : List Body). some (record { header = h .is; elements = xs })) same
+    ∙ sym (skeleton-is h es padding few bin))
+    (omega arith)
+
+bodies-append : {alternate : ℕ} (xs ys : List (Element alternate)) → allBodies (xs ++ ys) ≡ allBodies xs ++ allBodies ys
+bodies-append [] ys = refl
+bodies-append (x ∷ xs) ys = ap (λ (l : List Body). x .is ∷ l) (bodies-append xs ys)
+
+without : {alternate : ℕ} (before behind : List (Element alternate)) (u : Element alternate) → u .is .kind ≡ Unknown
+    → known (allBodies (before ++ (u ∷ behind))) ≡ known (allBodies (before ++ behind))
+without before behind u unknown =
+    ap known (bodies-append before (u ∷ behind)) ∙ known-append (allBodies before) (u .is ∷ allBodies behind)
+    ∙ ap (λ (l : List Body). known (allBodies before) ++ l) (known-but (u .is) (allBodies behind) unknown)
+    ∙ sym (known-append (allBodies before) (allBodies behind)) ∙ ap known (sym (bodies-append before behind))
+
+-- An unknown element is added, anywhere.
+pub added : (h : Head) (before behind : List (Element (h .is .alternate))) (u : Element (h .is .alternate)) → u .is .kind ≡ Unknown
+    → Keeps h (before ++ behind) (before ++ (u ∷ behind))
+added h before behind u unknown = edited h (before ++ behind) (before ++ (u ∷ behind)) (without before behind u unknown)
+
+-- One is taken away.
+pub taken-away : (h : Head) (before behind : List (Element (h .is .alternate))) (u : Element (h .is .alternate)) → u .is .kind ≡ Unknown
+    → Keeps h (before ++ (u ∷ behind)) (before ++ behind)
+taken-away h before behind u unknown = edited h (before ++ (u ∷ behind)) (before ++ behind) (sym (without before behind u unknown))
+
+-- One is given other bits, of the same or another size.
+pub changed : (h : Head) (before behind : List (Element (h .is .alternate))) (u u' : Element (h .is .alternate)) → u .is .kind ≡ Unknown
+    → u' .is .kind ≡ Unknown → Keeps h (before ++ (u ∷ behind)) (before ++ (u' ∷ behind))
+changed h before behind u u' unknown unknown' =
+    edited h (before ++ (u ∷ behind)) (before ++ (u' ∷ behind)) (without before behind u' unknown' ∙ sym (without before behind u unknown))
+
+-- There are such elements: the shortest, with the id 0 and eight bits behind its size.
+pub shortest : (u : Element 0) × (u .is .kind ≡ Unknown)
+unfolding body framed kind sizeFrom run slice number toBits
+shortest = (
+  record { bits = toBits 17 0; binary = binary-toBits 17 0; is = record { kind = Unknown; bits = toBits 7 0 }; whole = refl },
+  refl,
+)
+
+-- Every accepted payload is put together so: the bits of its bytes are those of a header, the count, whole elements and padding.
+pub put-together : (s buffer : List ℕ) → reading s buffer .answer .refusal ≡ 0 → PutTogether s
+put-together s buffer accepted = together-of s (outlined s (read-of s buffer accepted .ran) .ran)
+
+-- So bytes, numbers below 256, that are put together are the payload of their parts.
+pub together-bytes : (s : List ℕ) → ((i : ℕ) → getD s i 0 < 256) → (x : PutTogether s) → payloadOf (x .head) (x .elements) (x .padding) ≡ s
+unfolding payloadOf
+together-bytes s bytes x = ap toBytes (sym (x .together)) ∙ toBytes-bit s bytes

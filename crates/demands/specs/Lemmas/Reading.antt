@@ -1,0 +1,134 @@
+-- What an answer of `reading` rests on, and what it is for each answer of the reader of payloads.
+use mathlib.Core.Path.{_≡_, refl, ap, _∙_}
+use mathlib.Core.Bool.{Bool, true, false}
+use mathlib.Core.List.{List, _++_}
+use Prim.Native.Nat.{ℕ, _*_, _/_, _≤_, _<_}
+use native.Mathlib.Omega.{arith}
+use lib.Dec.{leb}
+use lib.ListN.{length, take, length-append, length-take, List·getD-append}
+use lib.Seq.{getD-take}
+use borrow.Author.Tests.{leb-true, leb-false, le-leb, lt-leb}
+use Rattle.bits.specs.declared.Refusal.the-variants.{TooLong, Room}
+use Rattle.bits.specs.Refusals.{numberOf}
+use Rattle.bits.specs.Language.{Res, ok, no, bit, pastPayload}
+use Rattle.bits.specs.Laws.{Same, local, still, stays, numbered}
+use Rattle.oamd.specs.Tables.{mostBytes}
+use Rattle.oamd.specs.Payload.{Payload, object-audio-metadata-payload, Tables}
+use Rattle.oamd.specs.Answer.{Outcome, refused, accepted, needed, housed, answered, reading}
+use Rattle.demands.specs.Terms.{parsed, tablesOf}
+use Rattle.demands.specs.Lemmas.Numbers.{payload-says}
+
+-- ---- from the reader's answer
+
+pub reading-short : (s buffer : List ℕ) → length s ≤ mostBytes → reading s buffer ≡ answered buffer (parsed s)
+unfolding reading
+reading-short s buffer l = rw (le-leb (length s) mostBytes l)
+
+pub reading-long : (s buffer : List ℕ) → mostBytes < length s → reading s buffer ≡ refused buffer (numberOf TooLong) (length s)
+unfolding reading
+reading-long s buffer l = rw (lt-leb (length s) mostBytes l)
+
+pub reading-ok : (s buffer : List ℕ) {q : Payload} {to : ℕ} → length s ≤ mostBytes → parsed s ≡ ok q to
+    → reading s buffer ≡ housed buffer (tablesOf q) (q .unknown)
+reading-ok s buffer l h = reading-short s buffer l ∙ ap (answered buffer) h
+
+pub reading-no : (s buffer : List ℕ) {r pl m : ℕ} → length s ≤ mostBytes → parsed s ≡ no r pl m → reading s buffer ≡ refused buffer r pl
+reading-no s buffer l h = reading-short s buffer l ∙ ap (answered buffer) h
+
+pub housed-fits : (buffer : List ℕ) (t : Tables) (u : ℕ) → needed t ≤ length buffer → housed buffer t u ≡ accepted buffer t u
+unfolding housed
+housed-fits buffer t u l = rw (le-leb (needed t) (length buffer) l)
+
+pub housed-lacks : (buffer : List ℕ) (t : Tables) (u : ℕ) → length buffer < needed t → housed buffer t u ≡ refused buffer (numberOf Room) (needed t)
+unfolding housed
+housed-lacks buffer t u l = rw (lt-leb (needed t) (length buffer) l)
+
+-- ---- to the reader's answer: every reading is one of four
+
+pub data Case (s buffer : List ℕ) : Type 0 where
+  long : mostBytes < length s → reading s buffer ≡ refused buffer (numberOf TooLong) (length s) → Case s buffer
+  stopped : (r pl m : ℕ) → length s ≤ mostBytes → parsed s ≡ no r pl m → 2 ≤ r → r ≤ 8 → reading s buffer ≡ refused buffer r pl → Case s buffer
+  full : (q : Payload) (to : ℕ) → length s ≤ mostBytes → parsed s ≡ ok q to → length buffer < needed (tablesOf q)
+      → reading s buffer ≡ refused buffer (numberOf Room) (needed (tablesOf q)) → Case s buffer
+  read : (q : Payload) (to : ℕ) → length s ≤ mostBytes → parsed s ≡ ok q to → needed (tablesOf q) ≤ length buffer
+      → reading s buffer ≡ accepted buffer (tablesOf q) (q .unknown) → Case s buffer
+
+-- the reader of payloads refuses with 2 to 8
+pub two-to-eight : (s : List ℕ) {r pl m : ℕ} → parsed s ≡ no r pl m → (2 ≤ r) × (r ≤ 8)
+two-to-eight s h =
+    numbered object-audio-metadata-payload (λ r. (2 ≤ r) × (r ≤ 8)) (bit s) 0 (8 * length s) pastPayload
+    (payload-says (λ r. (2 ≤ r) × (r ≤ 8)) (omega arith) (omega arith) (omega arith) (omega arith) (omega arith)) (omega arith) (omega arith) h
+
+pub case : (s buffer : List ℕ) → Case s buffer
+case s buffer = by-length (leb (length s) mostBytes) refl
+  where
+    by-room : (q : Payload) (to : ℕ) → length s ≤ mostBytes → parsed s ≡ ok q to → (x : Bool) → leb (needed (tablesOf q)) (length buffer) ≡ x → Case s buffer
+    by-room q to l h true e =
+        let f = leb-true (needed (tablesOf q)) (length buffer) e in
+        read q to l h f (reading-ok s buffer l h ∙ housed-fits buffer (tablesOf q) (q .unknown) f)
+    by-room q to l h false e =
+        let f = leb-false (needed (tablesOf q)) (length buffer) e in
+        full q to l h f (reading-ok s buffer l h ∙ housed-lacks buffer (tablesOf q) (q .unknown) f)
+
+    by-run : length s ≤ mostBytes → (x : Res Payload) → parsed s ≡ x → Case s buffer
+    by-run l (ok q to) h = by-room q to l h (leb (needed (tablesOf q)) (length buffer)) refl
+    by-run l (no r pl m) h =
+        let n = two-to-eight s h in
+        stopped r pl m l h (n .0) (n .1) (reading-no s buffer l h)
+
+    by-length : (x : Bool) → leb (length s) mostBytes ≡ x → Case s buffer
+    by-length true e = by-run (leb-true (length s) mostBytes e) (parsed s) refl
+    by-length false e =
+        let f = leb-false (length s) mostBytes e in
+        long f (reading-long s buffer f)
+
+-- ---- the refusal tells which
+
+pub refusal-of : {o : Outcome} {buffer : List ℕ} {r pl : ℕ} → o ≡ refused buffer r pl → o .answer .refusal ≡ r
+refusal-of h = ap (λ (o : Outcome). o .answer .refusal) h
+
+-- what an accepted reading rests on
+pub record Read (s buffer : List ℕ) : Type 0 where
+  pub short : length s ≤ mostBytes
+  pub payload : Payload
+  pub to : ℕ
+  pub ran : parsed s ≡ ok payload to
+  pub fits : needed (tablesOf payload) ≤ length buffer
+  pub is : reading s buffer ≡ accepted buffer (tablesOf payload) (payload .unknown)
+
+pub read-of : (s buffer : List ℕ) → reading s buffer .answer .refusal ≡ 0 → Read s buffer
+read-of s buffer z = go (case s buffer)
+  where
+    go : Case s buffer → Read s buffer
+    go (long l h) = absurd (omega (arith, refusal-of h))
+    go (stopped r pl m l h low high e) = absurd (omega (arith, refusal-of e))
+    go (full q to l h f e) = absurd (omega (arith, refusal-of e))
+    go (read q to l h f e) = record { short = l; payload = q; to = to; ran = h; fits = f; is = e }
+
+-- ---- bits of longer and shorter bytes
+
+pub bit-append : (s t : List ℕ) → Same (bit s) (bit (s ++ t)) (8 * length s)
+unfolding bit
+bit-append s t i h = rw (List·getD-append s t 0 (i / 8) (omega arith))
+
+pub bit-take : (n : ℕ) (s : List ℕ) → Same (bit s) (bit (take n s)) (8 * length (take n s))
+unfolding bit
+bit-take n s i h =
+    let l = length-take n s in
+    rw (getD-take n s (i / 8) 0 (omega arith))
+
+-- what the reader of payloads accepted it accepts with more bytes behind it
+pub parsed-append : (s t : List ℕ) {q : Payload} {to : ℕ} → parsed s ≡ ok q to → parsed (s ++ t) ≡ ok q to
+parsed-append s t h =
+    let p = object-audio-metadata-payload in
+    let long = length-append s t in
+    let end : 0 ≤ 8 * length s = omega arith in
+    let in-s = local p (bit s) 0 (8 * length s) pastPayload h end .fits in
+    still p (bit s) 0 (8 * length s) pastPayload h end (bit (s ++ t)) (8 * length (s ++ t)) pastPayload (λ i below. bit-append s t i (omega arith)) (omega arith)
+
+-- and what it refused otherwise than for passing the end it refuses as before
+pub parsed-stays : (s t : List ℕ) {r pl m : ℕ} → parsed s ≡ no r pl m → (r ≡ pastPayload → ⊥) → parsed (s ++ t) ≡ no r pl m
+parsed-stays s t h other =
+    let long = length-append s t in
+    stays object-audio-metadata-payload (bit s) 0 (8 * length s) pastPayload h other (omega arith) (bit (s ++ t)) (8 * length (s ++ t)) pastPayload
+    (bit-append s t) (omega arith)

@@ -1,0 +1,12 @@
+pub mod Terms
+pub mod Conditions
+pub mod Skeleton
+pub mod Assembly
+pub mod Lemmas
+pub mod Appended
+pub mod Cut
+pub mod Unknown
+pub mod Edited
+pub mod Refusals
+pub mod Unique
+pub mod Answers

@@ -1,0 +1,24 @@
+-- Beyond the demand: more data behind a refused payload changes no refusal but that of ending early.
+use mathlib.Core.Path.{_≡_, sym, _∙_}
+use mathlib.Core.List.{List, _++_}
+use Prim.Native.Nat.{ℕ, _≤_}
+use native.Mathlib.Omega.{arith}
+use lib.ListN.{length}
+use Rattle.bits.specs.declared.Refusal.the-variants.{Version, Room}
+use Rattle.bits.specs.Refusals.{numberOf}
+use Rattle.oamd.specs.Tables.{mostBytes}
+use Rattle.oamd.specs.Answer.{reading}
+use Rattle.demands.specs.Lemmas.Reading.{Case, long, stopped, full, read, case, reading-ok, reading-no, parsed-append, parsed-stays, refusal-of}
+
+-- A refusal from 3 to 9 is the same, place and all, with any bytes behind the payload, up to the length limit.
+pub refused-still : (s t buffer : List ℕ) → numberOf Version ≤ reading s buffer .answer .refusal → reading s buffer .answer .refusal ≤ numberOf Room
+    → length (s ++ t) ≤ mostBytes → reading (s ++ t) buffer ≡ reading s buffer
+refused-still s t buffer low high short = go (case s buffer)
+  where
+    go : Case s buffer → reading (s ++ t) buffer ≡ reading s buffer
+    go (long l e) = absurd (omega (arith, refusal-of e))
+    go (stopped r pl m l h two eight e) =
+        let n = refusal-of e in
+        reading-no (s ++ t) buffer short (parsed-stays s t h (λ z. omega arith)) ∙ sym e
+    go (full q to l h f e) = reading-ok (s ++ t) buffer short (parsed-append s t h) ∙ sym (reading-ok s buffer l h)
+    go (read q to l h f e) = reading-ok (s ++ t) buffer short (parsed-append s t h) ∙ sym (reading-ok s buffer l h)

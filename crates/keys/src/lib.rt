@@ -1,0 +1,22 @@
+// The key names of the listing, each with its sign of equality.
+pub const REFUSAL: [u8; 8] = *b"refusal=";
+
+pub const PLACE: [u8; 6] = *b"place=";
+
+pub const OBJECTS: [u8; 8] = *b"objects=";
+
+pub const BED: [u8; 4] = *b"bed=";
+
+pub const ISF: [u8; 4] = *b"isf=";
+
+pub const DYNAMIC: [u8; 8] = *b"dynamic=";
+
+pub const BLOCKS: [u8; 7] = *b"blocks=";
+
+pub const UNKNOWN: [u8; 8] = *b"unknown=";
+
+pub const BLOCK: [u8; 6] = *b"block=";
+
+pub const RECORD: [u8; 7] = *b"record=";
+
+pub const VECTOR: [u8; 7] = *b"vector=";

@@ -1,0 +1,14 @@
+// What coded fields mean (5.6): every function here is total, and equals its definition in oamd.
+mod programme; // programme.rt: how many objects of each class
+mod timing; // timing.rt: starts and ramps
+mod values; // values.rt: a group's value, by its own fields
+mod scenes; // scenes.rt: a block, by the block before and the object before
+
+pub use programme::agrees;
+pub use programme::class_of;
+pub use programme::shares;
+pub use scenes::idle;
+pub use scenes::resolved;
+pub use timing::no_timing;
+pub use timing::offset_of;
+pub use timing::update_of;

@@ -1,0 +1,192 @@
+// What an object is from a block on: each group's value by its status (Tables 28 and 29).
+ghost use mathlib.Core.Path.{_≡_};
+ghost use Rattle.oamd.specs.Block.{hasGain, hasPriority, hasPosition, hasZone, hasSize, hasScreen};
+ghost use Rattle.oamd.specs.Meaning.{valueOf, gainOf, priorityOf, distanceOf, placeOf, volumeOf, defaultPlace, defaultVolume, defaultZone, defaultScreen, idle, resolve};
+use crate::values::distance_of;
+use crate::values::gain_of;
+use crate::values::place_of;
+use crate::values::priority_of;
+use crate::values::volume_of;
+use oamd::Basic;
+use oamd::Block;
+use oamd::Place;
+use oamd::Render;
+use oamd::Scene;
+use oamd::Screen;
+use oamd::Status;
+use oamd::Volume;
+use oamd::Zone;
+
+fn default_place() -> Place
+    ensures { λ r. ⌜ r ≡ defaultPlace ⌝ }
+{
+    Place {
+        x: 31,
+        y: 31,
+        z: 64,
+        distance: 0,
+    }
+}
+
+fn default_volume() -> Volume
+    ensures { λ r. ⌜ r ≡ defaultVolume ⌝ }
+{
+    Volume {
+        width: 0,
+        depth: 0,
+        height: 0,
+    }
+}
+
+fn default_zone() -> Zone
+    ensures { λ r. ⌜ r ≡ defaultZone ⌝ }
+{
+    Zone {
+        index: 0,
+        elevation: 1,
+    }
+}
+
+fn default_screen() -> Screen
+    ensures { λ r. ⌜ r ≡ defaultScreen ⌝ }
+{
+    Screen {
+        used: 0,
+        factor: 0,
+        depth: 0,
+    }
+}
+
+// What an inactive object of a class is.
+pub fn idle(class: u8) -> Scene
+    ensures { λ r. ⌜ r ≡ idle class ⌝ }
+{
+    let place = default_place();
+    let volume = default_volume();
+    let zone = default_zone();
+    let screen = default_screen();
+    Scene {
+        active: 0,
+        class,
+        gain: 0,
+        priority: 0,
+        place,
+        volume,
+        zone,
+        screen,
+        snap: 0,
+    }
+}
+
+// A number whose default is 0.
+fn number_by(status: Status, sent: bool, before: u8, value: u8) -> u8
+    ensures { λ r. ⌜ r ≡ valueOf status sent 0 before value ⌝ }
+{
+    match status {
+        Status::Default => 0,
+        Status::Full => value,
+        Status::Reuse => before,
+        Status::Mixed => { if sent { value } else { before } }
+    }
+}
+
+fn gain_after(before: u8, above: u8, b: Basic) -> u8
+    ensures { λ r. ⌜ r ≡ valueOf (b .status) (hasGain (b .parts)) 0 before (gainOf (b .gain) above) ⌝ }
+{
+    let status = b.status;
+    let coded = b.gain;
+    let value = gain_of(coded, above);
+    number_by(status, oamd::flag(2, 1, b.parts as u32), before, value)
+}
+
+fn priority_after(before: u8, b: Basic) -> u8
+    ensures { λ r. ⌜ r ≡ valueOf (b .status) (hasPriority (b .parts)) 0 before (priorityOf (b .priority)) ⌝ }
+{
+    let status = b.status;
+    let coded = b.priority;
+    let value = priority_of(coded);
+    number_by(status, oamd::flag(2, 0, b.parts as u32), before, value)
+}
+
+fn place_after(before: Place, n: Render) -> Place
+    ensures { λ r. ⌜ r ≡ valueOf (n .status) (hasPosition (n .parts)) defaultPlace before (placeOf (n .position) (distanceOf (n .distance)) before) ⌝ }
+{
+    let status = n.status;
+    let position = n.position;
+    let distance = n.distance;
+    let value = place_of(position, distance_of(distance), before);
+    let sent = oamd::flag(4, 3, n.parts as u32);
+    match status {
+        Status::Default => default_place(),
+        Status::Full => value,
+        Status::Reuse => before,
+        Status::Mixed => { if sent { value } else { before } }
+    }
+}
+
+fn volume_after(before: Volume, n: Render) -> Volume
+    ensures { λ r. ⌜ r ≡ valueOf (n .status) (hasSize (n .parts)) defaultVolume before (volumeOf (n .extent)) ⌝ }
+{
+    let status = n.status;
+    let extent = n.extent;
+    let value = volume_of(extent);
+    let sent = oamd::flag(4, 1, n.parts as u32);
+    match status {
+        Status::Default => default_volume(),
+        Status::Full => value,
+        Status::Reuse => before,
+        Status::Mixed => { if sent { value } else { before } }
+    }
+}
+
+fn zone_after(before: Zone, n: Render) -> Zone
+    ensures { λ r. ⌜ r ≡ valueOf (n .status) (hasZone (n .parts)) defaultZone before (n .zone) ⌝ }
+{
+    let status = n.status;
+    let value = n.zone;
+    let sent = oamd::flag(4, 2, n.parts as u32);
+    match status {
+        Status::Default => default_zone(),
+        Status::Full => value,
+        Status::Reuse => before,
+        Status::Mixed => { if sent { value } else { before } }
+    }
+}
+
+fn screen_after(before: Screen, n: Render) -> Screen
+    ensures { λ r. ⌜ r ≡ valueOf (n .status) (hasScreen (n .parts)) defaultScreen before (n .screen) ⌝ }
+{
+    let status = n.status;
+    let value = n.screen;
+    let sent = oamd::flag(4, 0, n.parts as u32);
+    match status {
+        Status::Default => default_screen(),
+        Status::Full => value,
+        Status::Reuse => before,
+        Status::Mixed => { if sent { value } else { before } }
+    }
+}
+
+// A block, by the scene of the block before and the gain of the object before in the same block.
+pub fn resolved(before: Scene, above: u8, b: Block) -> Scene
+    ensures { λ r. ⌜ r ≡ resolve before above b ⌝ }
+{
+    let basic = b.basic;
+    let render = b.render;
+    let status = render.status;
+    let place = before.place;
+    let volume = before.volume;
+    let zone = before.zone;
+    let screen = before.screen;
+    Scene {
+        active: b.active,
+        class: b.class,
+        gain: gain_after(before.gain, above, basic),
+        priority: priority_after(before.priority, basic),
+        place: place_after(place, render),
+        volume: volume_after(volume, render),
+        zone: zone_after(zone, render),
+        screen: screen_after(screen, render),
+        snap: number_by(status, true, before.snap, render.snap),
+    }
+}

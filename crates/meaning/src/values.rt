@@ -1,0 +1,142 @@
+// The value of each group of a block, by its own fields (5.6.1).
+ghost use mathlib.Core.Path.{_≡_};
+ghost use Prim.Native.Nat.{_-_};
+ghost use Rattle.oamd.specs.Meaning.{gainOf, priorityOf, clamp, movedBy, across, upright, heightOf, distanceOf, placeOf, volumeOf};
+use oamd::Distance;
+use oamd::Extent;
+use oamd::Gain;
+use oamd::Place;
+use oamd::Position;
+use oamd::Priority;
+use oamd::Volume;
+
+// 0 dB, as a record has it.
+const ZERO_DB: u8 = 50;
+
+// z = 0, as a record has it.
+const ZERO_Z: u32 = 64;
+
+fn less(a: u8, b: u8) -> u8
+    ensures { λ r. ⌜ r ≡ a - b ⌝ }
+{
+    if a < b { 0 } else { a - b }
+}
+
+// The gain in dB plus 50, or 0 for minus infinity. Index 3 takes the gain of the object before in the same block (Tables 18 and 19).
+pub fn gain_of(g: Gain, above: u8) -> u8
+    ensures { λ r. ⌜ r ≡ gainOf g above ⌝ }
+{
+    let index = g.index;
+    let bits = g.bits;
+    if index == 0 {
+        return ZERO_DB;
+    }
+    if index == 1 {
+        return 0;
+    }
+    if index == 2 {
+        if bits < 15 {
+            return less(ZERO_DB + 15, bits);
+        }
+        return less(ZERO_DB + 14, bits);
+    }
+    above
+}
+
+// The priority in 32nds.
+pub fn priority_of(p: Priority) -> u8
+    ensures { λ r. ⌜ r ≡ priorityOf p ⌝ }
+{
+    if p.standard == 1 { 32 } else { p.bits }
+}
+
+// A numerator of x or y, at most 62.
+fn across_of(v: u32) -> u8
+    ensures { λ r. ⌜ r ≡ across v ⌝ }
+{
+    if 62 < v { 62 } else { v as u8 }
+}
+
+// A numerator of z plus 64, between minus 15 and 15.
+fn upright_of(v: u32) -> u8
+    ensures { λ r. ⌜ r ≡ upright v ⌝ }
+{
+    if v < ZERO_Z - 15 {
+        return 49;
+    }
+    if ZERO_Z + 15 < v { 79 } else { v as u8 }
+}
+
+// A coordinate moved by a difference of 3 bits in two's complement; below 0 it is 0.
+fn moved_by(v: u8, d: u8) -> u32
+    ensures { λ r. ⌜ r ≡ movedBy v d ⌝ }
+{
+    let sum = v as u32 + d as u32;
+    if d < 4 {
+        return sum;
+    }
+    if sum < 8 { 0 } else { sum - 8 }
+}
+
+// z by its sign, where 0 is minus.
+fn height_of(sign: u8, z: u8) -> u32
+    ensures { λ r. ⌜ r ≡ heightOf sign z ⌝ }
+{
+    let n = z as u32;
+    if sign != 0 {
+        return ZERO_Z + n;
+    }
+    if ZERO_Z < n { 0 } else { ZERO_Z - n }
+}
+
+// 0 not given, 1 infinity, else 2 and the index of one of Table 15's sixteen entries.
+pub fn distance_of(d: Distance) -> u8
+    ensures { λ r. ⌜ r ≡ distanceOf d ⌝ }
+{
+    if d.given != 1 {
+        return 0;
+    }
+    if d.infinite == 1 {
+        return 1;
+    }
+    if d.index < 16 { 2 + d.index } else { 0 }
+}
+
+// Coordinates as they stand, or moved from those of the block before; each stays within its range.
+pub fn place_of(p: Position, distance: u8, before: Place) -> Place
+    ensures { λ r. ⌜ r ≡ placeOf p distance before ⌝ }
+{
+    match p {
+        Position::Absolute(x, y, sign, z) => Place {
+            x: across_of(x as u32),
+            y: across_of(y as u32),
+            z: upright_of(height_of(sign, z)),
+            distance,
+        },
+        Position::Moved(x, y, z) => Place {
+            x: across_of(moved_by(before.x, x)),
+            y: across_of(moved_by(before.y, y)),
+            z: upright_of(moved_by(before.z, z)),
+            distance,
+        },
+    }
+}
+
+// Table 17.
+pub fn volume_of(e: Extent) -> Volume
+    ensures { λ r. ⌜ r ≡ volumeOf e ⌝ }
+{
+    if e.index == 2 {
+        return Volume {
+            width: e.width,
+            depth: e.depth,
+            height: e.height,
+        };
+    }
+    let all = if e.index == 1 { e.all } else { 0 };
+    Volume {
+        width: all,
+        depth: all,
+        height: all,
+    }
+}

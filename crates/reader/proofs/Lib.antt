@@ -1,0 +1,10 @@
+pub mod Bytes
+pub mod Structure
+pub mod TimingLoop
+pub mod ObjectLoop
+pub mod Pass
+pub mod Accepted
+pub mod Extending
+pub mod Gates
+pub mod ElementLoop
+pub mod Whole

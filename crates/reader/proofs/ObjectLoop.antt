@@ -1,0 +1,207 @@
+-- The loops over the blocks of an object and over the objects: what stands in the bytes, and what is left to read. Assumes nothing.
+use mathlib.Core.Path.{_≡_, refl, sym, ap, _∙_}
+use mathlib.Core.List.{List, [], _∷_, _++_, append-assoc, append-nil}
+use Prim.Native.Nat.{ℕ, zero, suc, _+_, _-_, _*_, _≤_, _<_}
+use native.Mathlib.Omega.{arith}
+use native.Mathlib.Nat.{mul-le-mul-right, add-mul, one-mul, sub-zero}
+use lib.ListN.{length, getD, set, length-append, length-set}
+use lib.Dec.{leb}
+use Rattle.bits.specs.declared.Cur.{Cur}
+use Rattle.bits.specs.declared.Limit.{Limit}
+use Rattle.bits.specs.Language.{pick, Bits, Res, ok, no, P, give, _>>=_, andThen, run, bits, bitsIf, for}
+use Rattle.bits.specs.View.{Reads}
+use Rattle.bits.proofs.Sticky.{Alike, Left, start, done, turned, broken, turns, for-step, for-stop, bind, plain}
+use Rattle.oamd.specs.declared.Block.{Block}
+use Rattle.oamd.specs.declared.Scene.{Scene}
+use Rattle.oamd.specs.declared.Shares.{Shares}
+use Rattle.oamd.specs.Tables.{recordStride, roomBytes}
+use Rattle.oamd.specs.Programme.{clear?, classOf}
+use Rattle.oamd.specs.Block.{object-info-block}
+use Rattle.oamd.specs.ObjectElement.{object-data, object-element}
+use Rattle.oamd.specs.Meaning.{resolve, idle, zeroDb, allScenes}
+use Rattle.oamd.specs.Record.{recordOf, plainRecords, recordBytesOf, bytesOf, onto}
+use Rattle.oamd.specs.Extended.{noDivergence, noPrecise}
+use Rattle.reader.specs.Layout.{setFrom}
+use Rattle.reader.specs.Running.{gainAbove, withBlocks, withObjects}
+use Rattle.reader.specs.declared.TimingStep.{TimingStep}
+use Rattle.reader.specs.Steps.{TimingRead, Standing, ObjectRead, ObjectsRead, ElementRead}
+use Rattle.reader.proofs.Bytes.{stored, above-is, length-record}
+use Rattle.reader.proofs.Structure.{Each, same}
+
+-- a reader whose value is given on is that reader
+pub unit : {A : Type 0} (p : P A) → Alike (p >>= λ a. give a) p
+unfolding run
+unit {A} p b at e o = go (run p b at e o)
+  where
+    go : (r : Res A) → andThen r (λ a to. ok a to) ≡ r
+    go (ok a to) = refl
+    go (no r pl m) = refl
+
+-- a loop that gives its list begins
+pub begun : {A : Type 0} (n : ℕ) (f : ℕ → P A) {b : Bits} {c : Cur} {l : Limit} → Left (for n f) b c l (turns n f (λ vs. give vs) 0 []) c
+begun n f = rw (sub-zero n) (turned (unit (for n f)) start)
+
+pub length-setFrom : (at k : ℕ) (xs s : List ℕ) → length (setFrom at k xs s) ≡ length s
+length-setFrom at k [] s = refl
+length-setFrom at k (x ∷ xs) s = length-setFrom at (k + 1) xs (set s (at + k) x) ∙ length-set s (at + k) x
+
+length-withBlocks : (k : ℕ) (ss : List Scene) (before : Scene) (bs : List Block) → length (withBlocks k ss before bs) ≡ length ss + length bs
+unfolding withBlocks
+length-withBlocks k ss before [] = omega arith
+length-withBlocks k ss before (b ∷ bs) =
+    let s : Scene = resolve before (gainAbove k ss) b in
+    length-withBlocks k (ss ++ (s ∷ [])) s bs ∙ omega (arith, length-append ss (s ∷ []))
+
+-- where scenes stand behind some blocks, and what is still to come of the object
+pub record Stands (k : ℕ) (ss : List Scene) (t : List ℕ) (vs : List Block) (scene : Scene) (out : List ℕ) : Type 0 where
+  pub us : List Scene
+  pub stand : Standing us t out
+  pub more : length us ≡ length ss + length vs
+  pub rest : (bs : List Block) → withBlocks k ss (idle 0) (vs ++ bs) ≡ withBlocks k us scene bs
+
+module _ (class k at₀ : ℕ) (b : Bits) (l : Limit) (c : Cur) (out₀ : List ℕ) where
+  -- before block i of an object
+  pub record Inside (i at : ℕ) (scene : Scene) (cur : Cur) (out : List ℕ) : Type 0 where
+    pub vs : List Block
+    pub many : length vs ≡ i
+    pub size : length out ≡ roomBytes
+    pub left : Left (object-data k class) b c l (turns k (object-info-block class) (λ vs. give vs) i vs) cur
+    pub stands : (ss : List Scene) (t : List ℕ) → Standing ss t out₀ → at₀ ≡ recordStride * length ss → length t ≡ roomBytes → Stands k ss t vs scene out
+
+pub enter : (class k at₀ : ℕ) (b : Bits) (l : Limit) (c : Cur) (out₀ : List ℕ) → length out₀ ≡ roomBytes → Inside class k at₀ b l c out₀ 0 at₀ (idle 0) c out₀
+unfolding object-data
+enter class k at₀ b l c out₀ h = record {
+  vs = [];
+  many = refl;
+  size = h;
+  left = begun k (object-info-block class);
+  stands = λ ss t s e n. record { us = ss; stand = s; more = omega arith; rest = λ bs. refl };
+}
+
+module _ {class k at₀ : ℕ} {b : Bits} {l : Limit} {c : Cur} {out₀ : List ℕ} {i at : ℕ} {scene : Scene} {cur : Cur} {out : List ℕ} where
+  pub turn : {next : Scene} {v : Block} {cur' : Cur} (above : ℕ) → Inside class k at₀ b l c out₀ i at scene cur out → i < k → at ≡ at₀ + recordStride * i
+      → at + recordStride ≤ roomBytes → Reads (object-info-block class i) b cur l v cur'
+      → above ≡ pick (leb (recordStride * k) at) (getD out (at - recordStride * k + 2) 0) zeroDb → next ≡ resolve scene above v
+      → Inside class k at₀ b l c out₀ (i + 1) (at + recordStride) next cur' (setFrom at 0 (recordBytesOf (recordOf next noDivergence noPrecise)) out)
+  unfolding withBlocks
+  turn {next} {v} above x h place fits reads a q = record {
+    vs = x .vs ++ (v ∷ []);
+    many = length-append (x .vs) (v ∷ []) ∙ omega (arith, x .many);
+    size = length-setFrom at 0 (recordBytesOf (recordOf next noDivergence noPrecise)) out ∙ x .size;
+    left = for-step k (object-info-block class) (λ vs. give vs) i (x .vs) h (x .left) reads;
+    stands = λ ss t s e n.
+        let y = x .stands ss t s e n in
+        let m : at ≡ recordStride * length (y .us) = omega (arith, x .many, y .more) in
+        let g : above ≡ gainAbove k (y .us) =
+        a ∙ ap (λ (o : List ℕ). pick (leb (recordStride * k) at) (getD o (at - recordStride * k + 2) 0) zeroDb) (y .stand) ∙ above-is (y .us) t k at (omega arith) m in
+        let r : next ≡ resolve scene (gainAbove k (y .us)) v = q ∙ ap (λ (u : ℕ). resolve scene u v) g in
+        record {
+          us = y .us ++ (next ∷ []);
+          stand = ap (setFrom at 0 (recordBytesOf (recordOf next noDivergence noPrecise))) (y .stand) ∙ stored (y .us) next t at m (omega arith);
+          more = omega (arith, y .more, length-append (y .us) (next ∷ []), length-append (x .vs) (v ∷ []));
+          rest = λ bs. ap (withBlocks k ss (idle 0)) (append-assoc (x .vs) (v ∷ []) bs) ∙ y .rest (v ∷ bs)
+              ∙ ap (λ (u : Scene). withBlocks k (y .us ++ (u ∷ [])) u bs) (sym r);
+        };
+  }
+
+  pub leave : Inside class k at₀ b l c out₀ i at scene cur out → i ≡ k → ObjectRead class k at₀ b c l out₀ cur out
+  unfolding withBlocks
+  leave x h = record {
+    value = x .vs;
+    reads = done (for-stop k (object-info-block class) (λ vs. give vs) i (x .vs) (omega arith) (x .left));
+    long = x .many ∙ h;
+    size = x .size;
+    stand = λ ss t s e n.
+        let y = x .stands ss t s e n in
+        y .stand ∙ ap (λ (us : List Scene). onto (bytesOf (plainRecords us)) t) (sym (ap (withBlocks k ss (idle 0)) (sym (append-nil (x .vs))) ∙ y .rest []));
+  }
+
+-- ---- the objects
+
+each-snoc : (k : ℕ) (vs : List (List Block)) (o : List Block) → Each k vs → length o ≡ k → Each k (vs ++ (o ∷ []))
+each-snoc k [] o e h = (h, tt)
+each-snoc k (v ∷ vs) o e h = (e .0, each-snoc k vs o (e .1) h)
+
+module _ (n : ℕ) (s : Shares) (k : ℕ) (b : Bits) (l : Limit) (c : Cur) (out₀ : List ℕ) where
+  abbrev pub oneObject : ℕ → P (List Block)
+  oneObject j = object-data k (classOf s j)
+
+  -- before object j
+  pub record Among (j : ℕ) (cur : Cur) (out : List ℕ) : Type 0 where
+    pub vs : List (List Block)
+    pub whole : Each k vs
+    pub size : length out ≡ roomBytes
+    pub left : Left (for n oneObject) b c l (turns n oneObject (λ vs. give vs) j vs) cur
+    pub ss : List Scene
+    pub stand : Standing ss out₀ out
+    pub more : length ss ≡ j * k
+    pub rest : (os : List (List Block)) → withObjects k [] (vs ++ os) ≡ withObjects k ss os
+
+pub first : (n : ℕ) (s : Shares) (k : ℕ) (b : Bits) (l : Limit) (c : Cur) (out₀ : List ℕ) → length out₀ ≡ roomBytes → Among n s k b l c out₀ 0 c out₀
+unfolding bytesOf plainRecords onto
+first n s k b l c out₀ h = record {
+  vs = [];
+  whole = tt;
+  size = h;
+  left = begun n (λ j. object-data k (classOf s j));
+  ss = [];
+  stand = refl;
+  more = omega arith;
+  rest = λ os. refl;
+}
+
+module _ {n : ℕ} {s : Shares} {k : ℕ} {b : Bits} {l : Limit} {c : Cur} {out₀ : List ℕ} {j : ℕ} {cur : Cur} {out : List ℕ} where
+  pub further : {cur' : Cur} {out' : List ℕ} (class at : ℕ) → Among n s k b l c out₀ j cur out → j < n → length out₀ ≡ roomBytes → at ≡ recordStride * (j * k)
+      → class ≡ classOf s j → ObjectRead class k at b cur l out cur' out' → Among n s k b l c out₀ (j + 1) cur' out'
+  unfolding withObjects
+  further class at x h m place e o =
+      let f : ℕ → P (List Block) = λ j. object-data k (classOf s j) in
+      let r : Reads (f j) b cur l (o .value) _ = rw e at (o .reads) in
+      let w = length-withBlocks k (x .ss) (idle 0) (o .value) in
+      let d = add-mul j 1 k in
+      record {
+        vs = x .vs ++ (o .value ∷ []);
+        whole = each-snoc k (x .vs) (o .value) (x .whole) (o .long);
+        size = o .size;
+        left = for-step n f (λ vs. give vs) j (x .vs) h (x .left) r;
+        ss = withBlocks k (x .ss) (idle 0) (o .value);
+        stand = o .stand (x .ss) out₀ (x .stand) (omega (arith, x .more)) m;
+        more = omega (arith, w, x .more, o .long, d, one-mul k);
+        rest = λ os. ap (withObjects k []) (append-assoc (x .vs) (o .value ∷ []) os) ∙ x .rest (o .value ∷ os);
+      }
+
+  pub finish : Among n s k b l c out₀ j cur out → j ≡ n → ObjectsRead n s k b c l out₀ cur out
+  unfolding withObjects
+  finish x h = record {
+    value = x .vs;
+    reads = done (for-stop n (λ j. object-data k (classOf s j)) (λ vs. give vs) j (x .vs) (omega arith) (x .left));
+    size = x .size;
+    many = λ z. ap length (sym meant) ∙ x .more ∙ ap (λ (m : ℕ). m * k) h;
+    stand = λ z. x .stand ∙ ap (λ (us : List Scene). onto (bytesOf (plainRecords us)) out₀) meant;
+  }
+    where
+      meant : x .ss ≡ allScenes [] (x .vs)
+      meant = sym (x .rest []) ∙ ap (withObjects k []) (append-nil (x .vs)) ∙ same k (x .vs) (x .whole)
+
+  pub stop : Among n s k b l c out₀ j cur out → (cur .no ≡ 0 → ⊥) → ObjectsRead n s k b c l out₀ cur out
+  stop x h = record { value = x .vs; reads = broken (x .left) h; size = x .size; many = λ z. absurd (h z); stand = λ z. absurd (h z) }
+
+-- the records of object j fit
+pub room : (n k j : ℕ) → n ≤ 159 → k ≤ 8 → j < n → recordStride * (j * k) + recordStride * k ≤ roomBytes
+room n k j a d f = let h : j * k ≤ 158 * k = mul-le-mul-right k (let z : j ≤ 158 = omega arith in z) in omega arith
+
+-- ---- the element
+
+pub element-read : {n : ℕ} {s : Shares} {b : Bits} {c c₁ c₂ d : Cur} {l : Limit} {out out' : List ℕ} {t : TimingStep} {v w : ℕ} → TimingRead b c l t
+    → Reads (bits 1) b (t .cur) l v c₁ → Reads (bitsIf (clear? v) 5) b c₁ l w c₂ → ObjectsRead n s (t .timing .blocks) b c₂ l out d out'
+    → ElementRead n s b c l out (record { timing = t .timing; cur = d }) out'
+unfolding object-element
+element-read t r₁ r₂ o = record {
+  value = record { timing = t .value; objects = o .value };
+  reads = bind (t .reads) (bind r₁ (bind r₂ (bind (rw (← t .counts) (o .reads)) plain)));
+  holds = t .holds;
+  few = t .few;
+  size = o .size;
+  many = o .many;
+  stand = o .stand;
+}

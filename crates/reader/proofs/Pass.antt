@@ -1,0 +1,205 @@
+-- A pass over the records that stand already: each is given the value that is read for it. One law for both blocks of the extended element.
+-- Assumes nothing.
+use mathlib.Core.Path.{_≡_, refl, sym, ap, _∙_}
+use mathlib.Core.Bool.{Bool, true, false}
+use mathlib.Core.List.{List, [], _∷_, _++_, append-assoc, append-nil}
+use Prim.Native.Nat.{ℕ, zero, suc, _+_, _-_, _*_, _≤_, _<_}
+use native.Mathlib.Omega.{arith}
+use native.Mathlib.Nat.{suc-add, zero-add}
+use lib.ListN.{length, getD, set, drop, replicate, length-append}
+use lib.Seq.{getD-append-add, drop-cons}
+use lib.Dec.{eqb}
+use Rattle.bits.specs.declared.Cur.{Cur}
+use Rattle.bits.specs.declared.Limit.{Limit}
+use Rattle.bits.specs.Language.{both, Bits, P, give, _>>=_, when, each}
+use Rattle.bits.specs.View.{Reads}
+use Rattle.bits.proofs.Sticky.{Left, start, done, turned, broken, each-step, each-stop, plain}
+use Rattle.oamd.specs.Tables.{recordStride, roomBytes}
+use Rattle.oamd.specs.Record.{Record, carries, recordBytesOf, bytesOf, onto}
+use Rattle.reader.specs.Layout.{setFrom}
+use Rattle.reader.specs.Steps.{put, carriers, Went, Passed, PassedIf}
+use Rattle.reader.proofs.Bytes.{length-record, length-bytes, bytes-append, byte-front}
+use Rattle.reader.proofs.ObjectLoop.{unit, length-setFrom}
+
+set-behind : (front ys : List ℕ) (k x : ℕ) → set (front ++ ys) (length front + k) x ≡ front ++ set ys k x
+set-behind [] ys k x = ap (λ (n : ℕ). set ys n x) (zero-add k)
+set-behind (y ∷ front) ys k x =
+    ap (λ (n : ℕ). set (y ∷ (front ++ ys)) n x) (suc-add (length front) k) ∙ ap (λ (t : List ℕ). y ∷ t) (set-behind front ys k x)
+
+setFrom-behind : (xs front ys : List ℕ) (at k : ℕ) → at ≡ length front → setFrom at k xs (front ++ ys) ≡ front ++ setFrom 0 k xs ys
+setFrom-behind [] front ys at k e = refl
+setFrom-behind (x ∷ xs) front ys at k e =
+    ap (λ (n : ℕ). setFrom at (k + 1) xs (set (front ++ ys) (n + k) x)) e
+    ∙ ap (setFrom at (k + 1) xs) (set-behind front ys k x)
+    ∙ setFrom-behind xs front (set ys k x) at (k + 1) e
+    ∙ ap (λ (n : ℕ). front ++ setFrom 0 (k + 1) xs (set ys n x)) (sym (zero-add k))
+
+-- the bytes around one record
+around : (front rest : List Record) (r : Record) (t : List ℕ)
+    → onto (bytesOf (front ++ (r ∷ rest))) t ≡ bytesOf front ++ (recordBytesOf r ++ (bytesOf rest ++ drop (recordStride * (length front + suc (length rest))) t))
+unfolding onto bytesOf
+around front rest r t =
+    let n : length (bytesOf (front ++ (r ∷ rest))) ≡ recordStride * (length front + suc (length rest)) =
+    length-bytes (front ++ (r ∷ rest)) ∙ ap (λ (k : ℕ). recordStride * k) (length-append front (r ∷ rest)) in
+    ap (λ (k : ℕ). bytesOf (front ++ (r ∷ rest)) ++ drop k t) n
+    ∙ rw (bytes-append front (r ∷ rest), append-assoc (bytesOf front), append-assoc (recordBytesOf r))
+
+length-carriers : (rs : List Record) → length (carriers rs) ≡ length rs
+length-carriers [] = refl
+length-carriers (r ∷ rs) = ap suc (length-carriers rs)
+
+module _ {X : Type 0} (p : Bool → P X) (f : Record → X → Record) where
+  put-none : (rs : List Record) → put f rs [] ≡ rs
+  unfolding put
+  put-none [] = refl
+  put-none (r ∷ rs) = refl
+
+  -- the first record that has no value yet
+  record Next (rs : List Record) (vs : List X) : Type 0 where
+    front : List Record
+    one : Record
+    rest : List Record
+    stands : put f rs vs ≡ front ++ (one ∷ rest)
+    far : length front ≡ length vs
+    waits : drop (length vs) (carriers rs) ≡ carries (one .scene) ∷ drop (suc (length vs)) (carriers rs)
+    given : (x : X) → put f rs (vs ++ (x ∷ [])) ≡ front ++ (f one x ∷ rest)
+
+  next : (rs : List Record) (vs : List X) → length vs < length rs → Next rs vs
+  unfolding put
+  next [] vs h = absurd (omega arith)
+  next (r ∷ rs) [] h = record {
+    front = [];
+    one = r;
+    rest = rs;
+    stands = refl;
+    far = refl;
+    waits = refl;
+    given = λ x. ap (λ (t : List Record). f r x ∷ t) (put-none rs);
+  }
+  next (r ∷ rs) (v ∷ vs) h =
+      let y = next rs vs (omega arith) in
+      record {
+        front = f r v ∷ y .front;
+        one = y .one;
+        rest = y .rest;
+        stands = ap (λ (t : List Record). f r v ∷ t) (y .stands);
+        far = ap suc (y .far);
+        waits = y .waits;
+        given = λ x. ap (λ (t : List Record). f r v ∷ t) (y .given x);
+      }
+
+  module _ (rs : List Record) (b : Bits) (c : Cur) (l : Limit) (t : List ℕ) where
+    abbrev pub left-of : ℕ → List X → P (List X)
+    left-of i vs = each p (drop i (carriers rs)) >>= λ ws. give (vs ++ ws)
+
+    -- before record i
+    pub record Mid (i : ℕ) (cur : Cur) (out : List ℕ) : Type 0 where
+      pub vs : List X
+      pub many : length vs ≡ i
+      pub begun : cur .no ≡ 0 → c .no ≡ 0
+      pub stand : c .no ≡ 0 → out ≡ onto (bytesOf (put f rs vs)) t
+      pub left : Left (each p (carriers rs)) b c l (left-of i vs) cur
+
+    pub begin : {out : List ℕ} → (c .no ≡ 0 → out ≡ onto (bytesOf rs) t) → Mid 0 c out
+    begin e = record {
+      vs = [];
+      many = refl;
+      begun = λ z. z;
+      stand = λ z. e z ∙ ap (λ (q : List Record). onto (bytesOf q) t) (sym (put-none rs));
+      left = turned (unit (each p (carriers rs))) start;
+    }
+
+    module _ {i : ℕ} {cur : Cur} {out : List ℕ} where
+      -- where a record's bytes, with a value put in, are its bytes with some stored over
+      pub turn : {cur' : Cur} (at k : ℕ) (carry : Bool) (bytes : X → List ℕ) (v : X) → Mid i cur out → cur .no ≡ 0 → i < length rs → at ≡ recordStride * i
+          → ((r : Record) (x : X) (tail : List ℕ) → setFrom 0 k (bytes x) (recordBytesOf r ++ tail) ≡ recordBytesOf (f r x) ++ tail)
+          → carry ≡ both (eqb (getD out (at + 0) 0) 1) (eqb (getD out (at + 1) 0) 2)
+          → Reads (p carry) b cur l v cur' → Mid (i + 1) cur' (setFrom at k (bytes v) out)
+      unfolding recordBytesOf
+      turn at k carry bytes v x z h e lays q r =
+          let y = next rs (x .vs) (omega (arith, x .many)) in
+          let o : out ≡ onto (bytesOf (y .front ++ (y .one ∷ y .rest))) t = x .stand (x .begun z) ∙ ap (λ (z : List Record). onto (bytesOf z) t) (y .stands) in
+          let at-front : at ≡ length (bytesOf (y .front)) = omega (arith, length-bytes (y .front), y .far, x .many) in
+          let m : length (y .front) < length (y .front ++ (y .one ∷ y .rest)) = omega (arith, length-append (y .front) (y .one ∷ y .rest)) in
+          let mine : getD (y .front ++ (y .one ∷ y .rest)) (length (y .front)) (y .one) ≡ y .one =
+          ap (λ (n : ℕ). getD (y .front ++ (y .one ∷ y .rest)) n (y .one)) (omega arith) ∙ getD-append-add (y .front) (y .one ∷ y .rest) 0 (y .one) in
+          let byte : (j : ℕ) → j < recordStride → getD out (at + j) 0 ≡ getD (recordBytesOf (y .one)) j 0 =
+          λ j lt. ap (λ (z : List ℕ). getD z (at + j) 0) o
+          ∙ ap (λ (n : ℕ). getD (onto (bytesOf (y .front ++ (y .one ∷ y .rest))) t) (n + j) 0) (at-front ∙ length-bytes (y .front))
+          ∙ byte-front (y .front ++ (y .one ∷ y .rest)) t (length (y .front)) j (y .one) m lt ∙ ap (λ (z : Record). getD (recordBytesOf z) j 0) mine in
+          let is : carry ≡ carries (y .one .scene) = q ∙ rw (byte 0 (omega arith), byte 1 (omega arith)) in
+          let one-on : suc (length (x .vs)) ≡ i + 1 = omega (arith, x .many) in
+          let w : drop i (carriers rs) ≡ carries (y .one .scene) ∷ drop (i + 1) (carriers rs) =
+          ap (λ (n : ℕ). drop n (carriers rs)) (sym (x .many)) ∙ y .waits ∙ ap (λ (n : ℕ). carries (y .one .scene) ∷ drop n (carriers rs)) one-on in
+          let tail : List ℕ = bytesOf (y .rest) ++ drop (recordStride * (length (y .front) + suc (length (y .rest)))) t in
+          record {
+            vs = x .vs ++ (v ∷ []);
+            many = length-append (x .vs) (v ∷ []) ∙ omega (arith, x .many);
+            begun = λ n. x .begun z;
+            stand = λ n. ap (setFrom at k (bytes v)) (o ∙ around (y .front) (y .rest) (y .one) t)
+                ∙ setFrom-behind (bytes v) (bytesOf (y .front)) (recordBytesOf (y .one) ++ tail) at k at-front
+                ∙ ap (λ (z : List ℕ). bytesOf (y .front) ++ z) (lays (y .one) v tail)
+                ∙ sym (around (y .front) (y .rest) (f (y .one) v) t) ∙ ap (λ (z : List Record). onto (bytesOf z) t) (sym (y .given v));
+            left = simp append-assoc (each-step p (carries (y .one .scene)) (drop (i + 1) (carriers rs)) (λ ws. give (x .vs ++ ws)) (rw w at (x .left)) (rw is at r));
+          }
+
+      pub finish : Mid i cur out → i ≡ length rs → Went (each p (carriers rs)) f rs b c l t cur out
+      finish x h =
+          let e : drop i (carriers rs) ≡ [] = all-dropped i (carriers rs) (omega (arith, length-carriers rs)) in
+          record {
+            value = x .vs;
+            reads = done (rw (append-nil (x .vs)) at (each-stop p (λ ws. give (x .vs ++ ws)) (rw e at (x .left))));
+            stand = λ z. x .stand (x .begun z);
+          }
+        where
+          all-dropped : (n : ℕ) (bs : List Bool) → length bs ≤ n → drop n bs ≡ []
+          all-dropped zero [] q = refl
+          all-dropped (suc n) [] q = refl
+          all-dropped zero (y ∷ ys) q = absurd (omega arith)
+          all-dropped (suc n) (y ∷ ys) q = all-dropped n ys (omega arith)
+
+      pub stop : Mid i cur out → (cur .no ≡ 0 → ⊥) → Went (each p (carriers rs)) f rs b c l t cur out
+      stop x h = record { value = x .vs; reads = broken (x .left) h; stand = λ z. absurd (h z) }
+
+  -- where a flag says whether there is anything to read
+  pub taken : {on : Bool} {none : X} {n : ℕ} {b : Bits} {c d : Cur} {l : Limit} {out out' : List ℕ} → on ≡ true
+      → Passed p f n b c l out d out' → PassedIf on p f none n b c l out d out'
+  taken e x = rw e (record { size = x .size; went = λ rs t s m z. x .went rs t s m })
+
+  pub passed : {on : Bool} {none : X} {n : ℕ} {b : Bits} {c : Cur} {l : Limit} {out : List ℕ} → on ≡ false → length out ≡ roomBytes
+      → PassedIf on p f none n b c l out c out
+  passed {none = none} {n} e h =
+      rw e (record {
+        size = h;
+        went = λ rs t s m z. record { value = replicate n none; reads = plain; stand = λ q. s q ∙ ap (λ (y : List Record). onto (bytesOf y) t) (sym z) };
+      })
+
+-- ---- the loop of a pass over n records, whatever records they are
+
+module _ {X : Type 0} (p : Bool → P X) (f : Record → X → Record) (n : ℕ) (b : Bits) (c : Cur) (l : Limit) (out₀ : List ℕ) where
+  pub record Passing (i at : ℕ) (cur : Cur) (out : List ℕ) : Type 0 where
+    pub within : i ≤ n
+    pub place : at ≡ recordStride * i
+    pub size : length out ≡ roomBytes
+    pub mid : (rs : List Record) (t : List ℕ) → (c .no ≡ 0 → out₀ ≡ onto (bytesOf rs) t) → length rs ≡ n → Mid p f rs b c l t i cur out
+
+  pub set-out : length out₀ ≡ roomBytes → Passing 0 0 c out₀
+  set-out h = record { within = omega arith; place = refl; size = h; mid = λ rs t s m. begin p f rs b c l t s }
+
+  module _ {i at : ℕ} {cur : Cur} {out : List ℕ} (x : Passing i at cur out) where
+    pub go-on : {cur' : Cur} (k : ℕ) (carry : Bool) (bytes : X → List ℕ) (v : X) → cur .no ≡ 0 → i < n
+        → ((r : Record) (y : X) (tail : List ℕ) → setFrom 0 k (bytes y) (recordBytesOf r ++ tail) ≡ recordBytesOf (f r y) ++ tail)
+        → carry ≡ both (eqb (getD out (at + 0) 0) 1) (eqb (getD out (at + 1) 0) 2) → Reads (p carry) b cur l v cur'
+        → Passing (i + 1) (at + recordStride) cur' (setFrom at k (bytes v) out)
+    go-on k carry bytes v z h lays q r = record {
+      within = omega arith;
+      place = omega (arith, x .place);
+      size = length-setFrom at k (bytes v) out ∙ x .size;
+      mid = λ rs t s m. turn p f rs b c l t at k carry bytes v (x .mid rs t s m) z (omega arith) (x .place) lays q r;
+    }
+
+    pub give-up : (cur .no ≡ 0 → ⊥) → Passed p f n b c l out₀ cur out
+    give-up h = record { size = x .size; went = λ rs t s m. stop p f rs b c l t (x .mid rs t s m) h }
+
+    pub arrive : i ≡ n → Passed p f n b c l out₀ cur out
+    arrive h = record { size = x .size; went = λ rs t s m. finish p f rs b c l t (x .mid rs t s m) (omega arith) }

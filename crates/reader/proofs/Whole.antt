@@ -1,0 +1,103 @@
+-- The payload, and the four ways out of `read`. Assumes nothing.
+use mathlib.Core.Path.{_≡_, refl, sym, ap, _∙_, subst₂}
+use mathlib.Core.Bool.{not}
+use mathlib.Core.List.{List, _++_}
+use Prim.Native.Nat.{ℕ, _+_, _*_, _≤_, _<_}
+use native.Mathlib.Omega.{arith}
+use native.Mathlib.Nat.{mul-le-mul-right}
+use lib.ListN.{length, take, drop, length-append}
+use lib.Seq.{take-length, take-append-seam}
+use borrow.Author.Tests.{le-leb, lt-leb, ne-eqb}
+use Rattle.bits.specs.declared.Cur.{Cur}
+use Rattle.bits.specs.declared.Limit.{Limit}
+use Rattle.bits.specs.declared.Refusal.the-variants.{TooLong, Counts, Room}
+use Rattle.bits.specs.Language.{Bits, bits, bit, refuseIf, run}
+use Rattle.bits.specs.Refusals.{numberOf}
+use Rattle.bits.specs.View.{Reads}
+use Rattle.bits.proofs.Sticky.{bind, plain}
+use Rattle.oamd.specs.declared.Programme.{Programme}
+use Rattle.oamd.specs.declared.Shares.{Shares}
+use Rattle.oamd.specs.Tables.{mostBytes, mostObjects, recordStride, roomBytes}
+use Rattle.oamd.specs.Programme.{program-assignment, agrees, shares}
+use Rattle.oamd.specs.Record.{Record, bytesOf, onto}
+use Rattle.oamd.specs.Element.{scenes}
+use Rattle.oamd.specs.Payload.{oa-md-version, object-count, oa-element-count, header, object-audio-metadata-payload, timing, records, tables}
+use Rattle.oamd.specs.Answer.{refused, refusedWith, acceptedWith, housed, reading}
+use Rattle.reader.specs.declared.HeaderStep.{HeaderStep}
+use Rattle.reader.specs.declared.PayloadStep.{PayloadStep}
+use Rattle.reader.specs.declared.StateStep.{StateStep}
+use Rattle.reader.specs.Steps.{HeaderRead, ElementsRead, PayloadRead, Holding, wholeOf, startCur}
+use Rattle.reader.proofs.Bytes.{length-bytes}
+use Rattle.reader.proofs.Gates.{regiven}
+
+-- what stands before the element count
+pub header-read : {b : Bits} {c c₁ c₂ c₃ c₄ c₅ : Cur} {l : Limit} {v n x a : ℕ} {p : Programme} → Reads oa-md-version b c l v c₁ → Reads object-count b c₁ l n c₂
+    → Reads (program-assignment n) b c₂ l p c₃ → Reads (refuseIf (not (agrees p)) (numberOf Counts) 0 x) b c₃ l x c₄ → Reads (bits 1) b c₄ l a c₅
+    → p .objects ≤ mostObjects → a < 2 → HeaderRead b c l (record { programme = p; alternate = a; cur = c₅ })
+unfolding header
+header-read {p = p} r₁ r₂ r₃ r₄ r₅ few small =
+    record { reads = bind r₁ (bind r₂ (bind r₃ (bind (regiven (not (agrees p)) (numberOf Counts) 0 r₄) (bind r₅ plain)))); few = few; bit = small }
+
+-- the whole payload
+pub payload-read : {s out out' : List ℕ} {h : HeaderStep} {c₀ c : Cur} {l : Limit} {sh : Shares} {n : ℕ} {r : StateStep} → l ≡ wholeOf s → c₀ ≡ startCur → sh ≡ shares (h .programme)
+    → HeaderRead (bit s) c₀ l h → Reads oa-element-count (bit s) (h .cur) l n c
+    → ElementsRead n (record { objects = h .programme .objects; shares = sh; alternate = h .alternate }) (bit s) c l out r out'
+    → length out ≡ roomBytes → PayloadRead s out (record { programme = h .programme; state = r .state; cur = r .cur }) out'
+unfolding object-audio-metadata-payload
+payload-read {s} {h = h} {c₀} {l = l} {r = r} el ec es x q e m =
+    let u = e .went (h .programme) (refl, sym es) m in
+    let reads = bind (x .reads) (bind q (bind (u .reads) plain)) in
+    record {
+      known = u .known;
+      reads = subst₂ (λ (k : Limit) (d : Cur). Reads object-audio-metadata-payload (bit s) d k (record { programme = h .programme; known = u .known; unknown = r .state .unknown }) (r .cur)) el ec reads;
+      holding = u .holding;
+      size = e .size;
+      few = x .few;
+      little = e .few;
+    }
+
+-- the bytes that are needed are few
+pub small : (a b : ℕ) → a ≤ 159 → b ≤ 8 → a * b ≤ 1272
+small a b h k = let m : a * b ≤ 159 * b = mul-le-mul-right b h in omega arith
+
+module _ (s buffer : List ℕ) where
+  pub too-long : mostBytes < length s → refused buffer (numberOf TooLong) (length s) ≡ reading s buffer
+  unfolding reading
+  too-long h = simp (lt-leb _ _ h)
+
+  module _ {out out' : List ℕ} {r : PayloadStep} (h : length s ≤ mostBytes) (x : PayloadRead s out r out') where
+    pub stopped : (r .cur .no ≡ 0 → ⊥) → refused buffer (r .cur .no) (r .cur .at .0) ≡ reading s buffer
+    unfolding reading
+    stopped z = rw (le-leb (length s) mostBytes h, ← x .reads .same, ne-eqb (r .cur .no) 0 z)
+
+    module _ (z : r .cur .no ≡ 0) where
+      abbrev pub need : ℕ
+      need = recordStride * (r .programme .objects * r .state .timing .blocks)
+
+      abbrev rs : List Record
+      rs = records (scenes (x .known .object)) (x .known .extended)
+
+      all-bytes : length (bytesOf rs) ≡ need
+      all-bytes = length-bytes (records (scenes (x .known .object)) (x .known .extended)) ∙ omega (arith, x .holding z .full, x .holding z .many)
+
+      -- the records stand in the room
+      pub fits : recordStride * (r .programme .objects * r .state .timing .blocks) ≤ length out'
+      unfolding onto
+      fits = omega (arith, all-bytes, ap length (x .holding z .stand) ∙ length-append (bytesOf rs) _)
+
+      -- the bytes that are copied
+      front : take need out' ≡ bytesOf rs
+      unfolding onto
+      front = rw (← all-bytes, x .holding z .stand) (take-append-seam (bytesOf rs) _)
+
+      pub no-room : length buffer < recordStride * (r .programme .objects * r .state .timing .blocks)
+          → refused buffer (numberOf Room) (recordStride * (r .programme .objects * r .state .timing .blocks)) ≡ reading s buffer
+      unfolding reading housed tables
+      no-room f = rw (le-leb (length s) mostBytes h, ← x .reads .same, z, ← x .holding z .timed, lt-leb _ _ f)
+
+      pub stored : {last : List ℕ} → recordStride * (r .programme .objects * r .state .timing .blocks) ≤ length buffer
+          → last ≡ take (length (take need out')) (take need out') ++ drop (length (take need out')) buffer
+          → record { answer = acceptedWith (r .programme) (r .state .timing) (r .state .unknown); buffer = last } ≡ reading s buffer
+      unfolding reading housed tables onto
+      stored f e =
+          rw (le-leb (length s) mostBytes h, ← x .reads .same, z, ← x .holding z .timed, le-leb _ _ f, e, front, take-length (bytesOf rs))

@@ -1,0 +1,44 @@
+-- `read_divergences` meets its contract (`Pass.antt`). Assumes nothing.
+use mathlib.Core.Path.{refl}
+use Prim.Native.Nat.{_-_}
+use native.Mathlib.Omega.{arith}
+use Rattle.bits.specs.Language.{bit}
+use Rattle.oamd.specs.Extended.{obj-div-block}
+use Rattle.oamd.specs.Record.{recordBytesOf, divergenceBytes}
+use Rattle.reader.specs.Steps.{withDivergence}
+use Rattle.reader.proofs.Pass.{Passing, set-out, go-on, give-up, arrive}
+use borrow.Author.Needs.{needs}
+use Rattle.reader.proofs.extended.read_divergences.Statement.{statement}
+use Rattle.reader.proofs.extended.read_divergences.Tie as tie
+
+abbrev Inv-loop : tie.InvT-loop
+Inv-loop s l n out₀ cur₀ at₀ i₀ out cur at i = Passing obj-div-block withDivergence n (bit s) cur₀ l out₀ i at cur out
+
+abbrev μ-loop : tie.MeasureT-loop
+μ-loop s l n out₀ cur₀ at₀ i₀ out cur at i = n - i
+
+loop-again : tie.Need-loop-again Inv-loop μ-loop
+unfolding recordBytesOf
+loop-again c =
+    let r = c .before .before .before .before in
+    let q = r .before in
+    let w = q .before .before .before .before .before .loop in
+    rw (c .before .store-divergence .ensures)
+    (go-on _ _ _ _ _ _ _ (w .inv) 17 _ divergenceBytes _ (q .before .before .if1 .left) (omega arith) (λ r y tail. refl) (q .carries-at .ensures) (r .read-divergence .ensures))
+
+pub read-divergences-spec : {M : Type 1} → statement M
+read-divergences-spec =
+    tie.close
+    (tie.spec
+    Inv-loop
+    μ-loop
+    (λ c. set-out _ _ _ _ _ _ _ (c .before .pre .1))
+    (λ c. give-up _ _ _ _ _ _ _ (c .before .before .before .loop .inv) (c .if1 .taken))
+    (λ c κs. search needs)
+    (λ c κs. search needs)
+    (λ c κs. search needs)
+    (λ c. search needs)
+    (λ c. search needs)
+    (λ c. search needs)
+    loop-again
+    (λ c. arrive _ _ _ _ _ _ _ (c .before .loop .inv) (omega arith)))

@@ -1,0 +1,9 @@
+use Rattle.reader.proofs.Pass.{taken, passed}
+use borrow.Author.Needs.{needs}
+use Rattle.reader.proofs.extended.read_divergences_if.Statement.{statement}
+use Rattle.reader.proofs.extended.read_divergences_if.Tie as tie
+
+pub read-divergences-if-spec : {M : Type 1} → statement M
+read-divergences-if-spec =
+    tie.close
+    (tie.spec (λ c κs. search needs) (λ c. taken _ _ (c .before .before .if1 .taken) (c .read-divergences .ensures)) (λ c. passed _ _ (c .if1 .left) (c .before .before .pre .1)))

@@ -1,0 +1,14 @@
+use Rattle.reader.proofs.Extending.{extending}
+use borrow.Author.Needs.{needs}
+use Rattle.reader.proofs.extended.read_extended.Statement.{statement}
+use Rattle.reader.proofs.extended.read_extended.Tie as tie
+
+returns : tie.Need-returns
+returns c =
+    let r = c .before .before .before in
+    let d = r .before in
+    extending (d .before .before .before .take .ensures .reads) (d .read-divergences-if .ensures) (r .take2 .ensures .reads) (c .read-precises-if .ensures)
+
+pub read-extended-spec : {M : Type 1} → statement M
+read-extended-spec =
+    tie.close (tie.spec (λ c κs. search needs) (λ c κs. search needs) (λ c κs. search needs) (λ c κs. search needs) returns)

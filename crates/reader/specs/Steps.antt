@@ -1,0 +1,190 @@
+-- What each private function of the reader promises.
+use mathlib.Core.Path.{_≡_}
+use mathlib.Core.Bool.{Bool, true, false}
+use mathlib.Core.List.{List, [], _∷_}
+use mathlib.Core.Option.{Option, none, some}
+use Prim.Native.Nat.{ℕ, _+_, _*_, _≤_, _<_}
+use lib.ListN.{length, replicate}
+use Rattle.units.specs.declared.BitPos.{BitPos}
+use Rattle.bits.specs.declared.Cur.{Cur}
+use Rattle.bits.specs.declared.Limit.{Limit}
+use Rattle.bits.specs.Language.{P, Bits, when, each, for, bit}
+use Rattle.bits.specs.View.{Reads}
+use Rattle.oamd.specs.declared.Block.{Block}
+use Rattle.oamd.specs.declared.Divergence.{Divergence}
+use Rattle.oamd.specs.declared.Kind.{Kind}
+use Rattle.oamd.specs.declared.Precise.{Precise}
+use Rattle.oamd.specs.declared.Programme.{Programme}
+use Rattle.oamd.specs.declared.Scene.{Scene}
+use Rattle.oamd.specs.declared.Shares.{Shares}
+use Rattle.oamd.specs.Tables.{recordStride, roomBytes, mostBlocks, mostElements, mostObjects}
+use Rattle.oamd.specs.Programme.{shares, classOf}
+use Rattle.oamd.specs.Timing.{MdUpdateInfo, md-update-info, timingOf}
+use Rattle.oamd.specs.ObjectElement.{ObjectElement, object-data, object-element}
+use Rattle.oamd.specs.Extended.{Extension, extended-object-element, noDivergence, noPrecise}
+use Rattle.oamd.specs.Meaning.{allScenes, idle}
+use Rattle.oamd.specs.Record.{Record, recordOf, carries, allCarry, plainRecords, extendedRecords, bytesOf, onto}
+use Rattle.oamd.specs.Element.{Known, nothing, there, scenes, oa-element, oa-element-md, elements}
+use Rattle.oamd.specs.Payload.{Header, header, Payload, object-audio-metadata-payload, timing, records}
+use Rattle.reader.specs.declared.TimingStep.{TimingStep}
+use Rattle.reader.specs.declared.Scope.{Scope}
+use Rattle.reader.specs.declared.State.{State}
+use Rattle.reader.specs.declared.StateStep.{StateStep}
+use Rattle.reader.specs.declared.HeaderStep.{HeaderStep}
+use Rattle.reader.specs.declared.PayloadStep.{PayloadStep}
+use Rattle.reader.specs.Running.{withBlocks}
+
+-- ---- the object element
+
+pub record TimingRead (b : Bits) (c : Cur) (l : Limit) (r : TimingStep) : Type 0 where
+  pub value : MdUpdateInfo
+  pub reads : Reads md-update-info b c l value (r .cur)
+  pub holds : r .timing ≡ timingOf value
+  pub counts : r .timing .blocks ≡ length (value .blocks)
+  pub some : 1 ≤ r .timing .blocks
+  pub few : r .timing .blocks ≤ mostBlocks
+
+-- the records of scenes stand at the front of the bytes t
+abbrev pub Standing : List Scene → List ℕ → List ℕ → Type 0
+Standing ss t out = out ≡ onto (bytesOf (plainRecords ss)) t
+
+-- whatever scenes stand before it, those of the object's blocks stand behind them
+pub record ObjectRead (class blocks at : ℕ) (b : Bits) (c : Cur) (l : Limit) (out : List ℕ) (d : Cur) (out' : List ℕ) : Type 0 where
+  pub value : List Block
+  pub reads : Reads (object-data blocks class) b c l value d
+  pub long : length value ≡ blocks
+  pub size : length out' ≡ roomBytes
+  pub stand : (ss : List Scene) (t : List ℕ) → Standing ss t out → at ≡ recordStride * length ss → length t ≡ roomBytes
+      → Standing (withBlocks blocks ss (idle 0) value) t out'
+
+pub record ObjectsRead (n : ℕ) (s : Shares) (blocks : ℕ) (b : Bits) (c : Cur) (l : Limit) (out : List ℕ) (d : Cur) (out' : List ℕ) : Type 0 where
+  pub value : List (List Block)
+  pub reads : Reads (for n (λ j. object-data blocks (classOf s j))) b c l value d
+  pub size : length out' ≡ roomBytes
+  pub many : d .no ≡ 0 → length (allScenes [] value) ≡ n * blocks
+  pub stand : d .no ≡ 0 → Standing (allScenes [] value) out out'
+
+pub record ElementRead (n : ℕ) (s : Shares) (b : Bits) (c : Cur) (l : Limit) (out : List ℕ) (r : TimingStep) (out' : List ℕ) : Type 0 where
+  pub value : ObjectElement
+  pub reads : Reads (object-element n s) b c l value (r .cur)
+  pub holds : r .timing ≡ timingOf (value .timing)
+  pub few : r .timing .blocks ≤ mostBlocks
+  pub size : length out' ≡ roomBytes
+  pub many : r .cur .no ≡ 0 → length (allScenes [] (value .objects)) ≡ n * r .timing .blocks
+  pub stand : r .cur .no ≡ 0 → Standing (allScenes [] (value .objects)) out out'
+
+-- ---- the extended element
+
+-- a value of the extended element, put into a record
+abbrev pub withDivergence : Record → Divergence → Record
+withDivergence r d = recordOf (r .scene) d (r .precise)
+
+abbrev pub withPrecise : Record → Precise → Record
+withPrecise r p = recordOf (r .scene) (r .divergence) p
+
+-- each record with the value that was read for it
+unfoldable pub put : {X : Type 0} → (Record → X → Record) → List Record → List X → List Record
+put f [] xs = []
+put f (r ∷ rs) [] = r ∷ rs
+put f (r ∷ rs) (x ∷ xs) = f r x ∷ put f rs xs
+
+-- which records can carry a value
+abbrev pub carriers : List Record → List Bool
+carriers [] = []
+carriers (r ∷ rs) = carries (r .scene) ∷ carriers rs
+
+-- what a pass over records gives
+pub record Went {X : Type 0} (p : P (List X)) (f : Record → X → Record) (rs : List Record) (b : Bits) (c : Cur) (l : Limit) (t : List ℕ) (d : Cur) (out' : List ℕ) : Type 0 where
+  pub value : List X
+  pub reads : Reads p b c l value d
+  pub stand : d .no ≡ 0 → out' ≡ onto (bytesOf (put f rs value)) t
+
+pub record Passed {X : Type 0} (p : Bool → P X) (f : Record → X → Record) (n : ℕ) (b : Bits) (c : Cur) (l : Limit) (out : List ℕ) (d : Cur) (out' : List ℕ) : Type 0 where
+  pub size : length out' ≡ roomBytes
+  pub went : (rs : List Record) (t : List ℕ) → (c .no ≡ 0 → out ≡ onto (bytesOf rs) t) → length rs ≡ n
+      → Went (each p (carriers rs)) f rs b c l t d out'
+
+-- what a function promises that passes over n records, whatever records they are
+-- the same where a flag says that there is anything to read; else each value is none
+pub record PassedIf {X : Type 0} (on : Bool) (p : Bool → P X) (f : Record → X → Record) (none : X) (n : ℕ) (b : Bits) (c : Cur) (l : Limit) (out : List ℕ) (d : Cur) (out' : List ℕ) : Type 0 where
+  pub size : length out' ≡ roomBytes
+  pub went : (rs : List Record) (t : List ℕ) → (c .no ≡ 0 → out ≡ onto (bytesOf rs) t) → length rs ≡ n → put f rs (replicate n none) ≡ rs
+      → Went (when on (each p (carriers rs)) (replicate n none)) f rs b c l t d out'
+
+-- what the extended element gives, whatever scenes stand
+pub record Extending (ss : List Scene) (b : Bits) (c : Cur) (l : Limit) (t : List ℕ) (d : Cur) (out' : List ℕ) : Type 0 where
+  pub value : Extension
+  pub reads : Reads (extended-object-element (allCarry ss)) b c l value d
+  pub full : d .no ≡ 0 → length (extendedRecords ss (value .divergence) (value .precise)) ≡ length ss
+  pub stand : d .no ≡ 0 → out' ≡ onto (bytesOf (extendedRecords ss (value .divergence) (value .precise))) t
+
+pub record ExtendedRead (n : ℕ) (b : Bits) (c : Cur) (l : Limit) (out : List ℕ) (d : Cur) (out' : List ℕ) : Type 0 where
+  pub size : length out' ≡ roomBytes
+  pub went : (ss : List Scene) (t : List ℕ) → Standing ss t out → length ss ≡ n → Extending ss b c l t d out'
+
+-- ---- the elements
+
+-- what the state and the bytes hold of the known elements that have been read
+pub record Holding (objects : ℕ) (known : Known) (t : List ℕ) (st : State) (out : List ℕ) : Type 0 where
+  pub object : st .object ≡ there (known .object)
+  pub extended : st .extended ≡ there (known .extended)
+  pub ordered : known .object ≡ none → known .extended ≡ none
+  pub timed : st .timing ≡ timing (known .object)
+  pub many : length (scenes (known .object)) ≡ objects * st .timing .blocks
+  pub full : length (records (scenes (known .object)) (known .extended)) ≡ length (scenes (known .object))
+  pub stand : out ≡ onto (bytesOf (records (scenes (known .object)) (known .extended))) t
+
+-- a state of the definition: the known elements, and the count that the code's state holds
+abbrev pub stateOf : Known → ℕ → Rattle.oamd.specs.Element.State
+stateOf known unknown = record { known = known; unknown = unknown }
+
+-- what reading p from a state gives
+pub record Went-on (w : Scope) (p : P Rattle.oamd.specs.Element.State) (b : Bits) (c : Cur) (l : Limit) (t : List ℕ) (r : StateStep) (out' : List ℕ) : Type 0 where
+  pub known : Known
+  pub reads : Reads p b c l (stateOf known (r .state .unknown)) (r .cur)
+  pub holding : r .cur .no ≡ 0 → Holding (w .objects) known t (r .state) out'
+
+-- the programme by which the elements are read
+abbrev pub Scoped : Programme → Scope → Type 0
+Scoped p w = (p .objects ≡ w .objects) × (shares p ≡ w .shares)
+
+-- what a function promises that reads p from a state, whatever has been read so far
+pub record Goes-on (w : Scope) (st : State) (p : Programme → Rattle.oamd.specs.Element.State → P Rattle.oamd.specs.Element.State) (b : Bits) (c : Cur) (l : Limit) (out : List ℕ) (r : StateStep) (out' : List ℕ) : Type 0 where
+  pub size : length out' ≡ roomBytes
+  pub few : r .state .timing .blocks ≤ mostBlocks
+  pub next : r .state .unknown ≤ st .unknown + 1
+  pub went : (q : Programme) (known : Known) (t : List ℕ) → Scoped q w → length t ≡ roomBytes → (c .no ≡ 0 → Holding (w .objects) known t st out)
+      → Went-on w (p q (stateOf known (st .unknown))) b c l t r out'
+
+abbrev pub BodyRead : Kind → ℕ → Scope → State → Bits → Cur → Limit → List ℕ → StateStep → List ℕ → Type 0
+BodyRead k back w st b c l out r out' = Goes-on w st (λ q s. oa-element q back s k) b c l out r out'
+
+abbrev pub OneRead : Scope → State → Bits → Cur → Limit → List ℕ → StateStep → List ℕ → Type 0
+OneRead w st b c l out r out' = Goes-on w st (λ q s. oa-element-md q (w .alternate) s) b c l out r out'
+
+pub record ElementsRead (n : ℕ) (w : Scope) (b : Bits) (c : Cur) (l : Limit) (out : List ℕ) (r : StateStep) (out' : List ℕ) : Type 0 where
+  pub size : length out' ≡ roomBytes
+  pub few : r .state .timing .blocks ≤ mostBlocks
+  pub went : (q : Programme) → Scoped q w → length out ≡ roomBytes → Went-on w (elements q (w .alternate) n (stateOf nothing 0)) b c l out r out'
+
+-- ---- the payload
+
+abbrev pub wholeOf : List ℕ → Limit
+wholeOf s = record { end = record { 0 = 8 * length s }; inner = false }
+
+abbrev pub startCur : Cur
+startCur = record { missing = 0; v = 0; at = record { 0 = 0 }; no = 0 }
+
+pub record HeaderRead (b : Bits) (c : Cur) (l : Limit) (r : HeaderStep) : Type 0 where
+  pub reads : Reads header b c l (record { programme = r .programme; alternate = r .alternate }) (r .cur)
+  pub few : r .programme .objects ≤ mostObjects
+  pub bit : r .alternate < 2
+
+pub record PayloadRead (s out : List ℕ) (r : PayloadStep) (out' : List ℕ) : Type 0 where
+  pub known : Known
+  pub reads : Reads object-audio-metadata-payload (bit s) startCur (wholeOf s)
+      (record { programme = r .programme; known = known; unknown = r .state .unknown }) (r .cur)
+  pub holding : r .cur .no ≡ 0 → Holding (r .programme .objects) known out (r .state) out'
+  pub size : length out' ≡ roomBytes
+  pub few : r .programme .objects ≤ mostObjects
+  pub little : r .state .timing .blocks ≤ mostBlocks

@@ -1,0 +1,84 @@
+// `read`: a payload's bytes, and a lent buffer, to an answer and records.
+ghost use mathlib.Core.Path.{_≡_};
+ghost use Rattle.oamd.specs.Answer.{reading};
+use bits::Cur;
+use oamd::Programme;
+use oamd::ReadAnswer;
+use oamd::Shares;
+use oamd::Timing;
+
+mod timing; // timing.rt: starts and ramps of all blocks
+mod layout; // layout.rt: a record's bytes among the records
+mod objects; // objects.rt: the object element
+mod extended; // extended.rt: the extended object element
+mod elements; // elements.rt: one element after the other
+mod payload; // payload.rt: the whole payload
+mod answers; // answers.rt: what is answered
+
+// Room for the records of every payload.
+const ROOM: usize = 30720;
+
+// From one record to the next.
+const STRIDE: usize = 24;
+
+pub struct TimingStep {
+    pub timing: Timing,
+    pub cur: Cur,
+}
+
+// What the elements are read by: the object count, the objects of each class, and whether alternate ids are sent.
+pub struct Scope {
+    pub objects: usize,
+    pub shares: Shares,
+    pub alternate: u32,
+}
+
+// What has been read of the elements, beside the records.
+pub struct State {
+    pub timing: Timing,
+    pub object: bool,
+    pub extended: bool,
+    pub unknown: u8,
+}
+
+pub struct StateStep {
+    pub state: State,
+    pub cur: Cur,
+}
+
+pub struct HeaderStep {
+    pub programme: Programme,
+    pub alternate: u32,
+    pub cur: Cur,
+}
+
+pub struct PayloadStep {
+    pub programme: Programme,
+    pub state: State,
+    pub cur: Cur,
+}
+
+// Reads a payload. Accepted: the records are the first bytes of the lent buffer, and no other byte of it changes. Refused: none changes.
+pub fn read(payload: &[u8], records: &mut [u8]) -> ReadAnswer
+    ensures { λ r. ⌜ (record { answer = r; buffer = now (records .exit) }) ≡ reading (now (payload .entry)) (now (records .entry)) ⌝ }
+{
+    let len = payload.len();
+    if 4096 < len {
+        return answers::refused(1, len as u64);
+    }
+    let mut scratch = layout::no_records();
+    let step = payload::read_payload(payload, &mut scratch);
+    let cur = step.cur;
+    if cur.no != 0 {
+        return answers::refused(cur.no, cur.at.raw() as u64);
+    }
+    let programme = step.programme;
+    let state = step.state;
+    let timing = state.timing;
+    let need = STRIDE * (programme.objects as usize * timing.blocks as usize);
+    if records.len() < need {
+        return answers::refused(9, need as u64);
+    }
+    bytes::copy(&scratch[..need], records);
+    answers::accepted(programme, timing, state.unknown)
+}

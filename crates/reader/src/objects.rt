@@ -1,0 +1,82 @@
+// The object element (5.5.5, 5.5.8), laid out as records while it is read.
+ghost use mathlib.Core.Path.{_≡_};
+ghost use Prim.Native.Nat.{_+_, _*_, _≤_, _<_};
+ghost use lib.ListN.{length};
+ghost use Rattle.bits.specs.Language.{bit};
+ghost use Rattle.oamd.specs.Tables.{mostObjects, mostBlocks, recordStride, roomBytes};
+ghost use Rattle.reader.specs.Steps.{ObjectRead, ObjectsRead, ElementRead};
+use crate::ROOM;
+use crate::STRIDE;
+use crate::Scope;
+use crate::TimingStep;
+use crate::layout::gain_above;
+use crate::layout::store_scene;
+use crate::timing::read_timing;
+use bits::Cur;
+use bits::Limit;
+
+// The blocks of one object, whose records begin at a place. The records of the object before it, if there is one, end there.
+fn read_object(
+    s: &[u8],
+    l: Limit,
+    c: Cur,
+    class: u8,
+    blocks: usize,
+    from: usize,
+    out: &mut [u8; ROOM],
+) -> Cur
+    requires { ⌜ (1 ≤ blocks) × (blocks ≤ mostBlocks) × (from + recordStride * blocks ≤ roomBytes) × (length (now out) ≡ roomBytes) ⌝ }
+    ensures { λ r. ⌜ ObjectRead class blocks from (bit (now (s .entry))) c l (now (out .entry)) r (now (out .exit)) ⌝ }
+{
+    let back = STRIDE * blocks;
+    let mut scene = meaning::idle(0);
+    let mut cur = c;
+    let mut at = from;
+    let mut i: usize = 0;
+    while i < blocks {
+        let step = syntax::read_block(s, l, cur, class, i as u32);
+        let block = step.block;
+        let above = gain_above(out, at, back);
+        scene = meaning::resolved(scene, above, block);
+        store_scene(out, at, scene);
+        cur = step.cur;
+        at = at + STRIDE;
+        i = i + 1;
+    }
+    cur
+}
+
+// All objects, up to the first refusal.
+fn read_objects(s: &[u8], l: Limit, c: Cur, w: Scope, blocks: usize, out: &mut [u8; ROOM]) -> Cur
+    requires { ⌜ (w .objects ≤ mostObjects) × (1 ≤ blocks) × (blocks ≤ mostBlocks) × (length (now out) ≡ roomBytes) ⌝ }
+    ensures { λ r. ⌜ ObjectsRead (w .objects) (w .shares) blocks (bit (now (s .entry))) c l (now (out .entry)) r (now (out .exit)) ⌝ }
+{
+    let shares = w.shares;
+    let n = w.objects;
+    let mut cur = c;
+    let mut at: usize = 0;
+    let mut j: usize = 0;
+    while j < n {
+        if cur.no != 0 {
+            return cur;
+        }
+        let class = meaning::class_of(shares, j as u32);
+        cur = read_object(s, l, cur, class, blocks, at, out);
+        at = at + STRIDE * blocks;
+        j = j + 1;
+    }
+    cur
+}
+
+// The object element: the records stand at the front of out, unless it is refused.
+pub fn read_object_element(s: &[u8], l: Limit, c: Cur, w: Scope, out: &mut [u8; ROOM]) -> TimingStep
+    requires { ⌜ (w .objects ≤ mostObjects) × (length (now out) ≡ roomBytes) ⌝ }
+    ensures { λ r. ⌜ ElementRead (w .objects) (w .shares) (bit (now (s .entry))) c l (now (out .entry)) r (now (out .exit)) ⌝ }
+{
+    let step = read_timing(s, l, c);
+    let timing = step.timing;
+    let absent = bits::take(s, l, step.cur, 1);
+    let reserved = bits::take_if(absent.v == 0, s, l, absent, 5);
+    let cur = read_objects(s, l, reserved, w, timing.blocks as usize, out);
+    TimingStep { timing, cur }
+}

@@ -1,0 +1,18 @@
+-- What is passed over has the value 0.
+use borrow.Author.Needs.{needs}
+use Rattle.oamd.specs.Programme.{reserved-data}
+use Rattle.syntax.proofs.Lines.{_▸_, worth}
+use Rattle.syntax.proofs.programme.pass_reserved.Statement.{statement}
+use Rattle.syntax.proofs.programme.pass_reserved.Tie as tie
+
+returns : tie.Need-returns
+unfolding reserved-data
+returns c =
+    let h0 = c .before .before in
+    let f = h0 .before .flag .ensures in
+    (rw f at (h0 .take-if .ensures .reads)) ▸ worth (c .skip-if .ensures .0) (rw f at (c .skip-if .ensures .1))
+
+pub pass-reserved-spec : {M : Type 1} → statement M
+pass-reserved-spec =
+    tie.close
+    (tie.spec (λ c κs. search needs) (λ c κs. search needs) (λ c. search needs) (λ c. search needs) (λ c κs. search needs) returns)

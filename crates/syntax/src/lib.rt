@@ -1,0 +1,121 @@
+// From bits to coded fields (5.5): each function reads exactly what its definition in oamd says, from a cursor, within a limit. Behind a refusal
+// nothing is read, and the cursor keeps that refusal.
+use bits::Cur;
+use oamd::Basic;
+use oamd::Bed;
+use oamd::Block;
+use oamd::BlockUpdate;
+use oamd::Distance;
+use oamd::Divergence;
+use oamd::Extent;
+use oamd::Offset;
+use oamd::Position;
+use oamd::Precise;
+use oamd::Programme;
+use oamd::Render;
+use oamd::Screen;
+use oamd::Status;
+use oamd::Zone;
+
+mod header; // header.rt: what stands before the elements
+mod programme; // programme.rt: the program assignment
+mod timing; // timing.rt: sample offset and block updates
+mod levels; // levels.rt: statuses and basic info
+mod render; // render.rt: render info
+mod block; // block.rt: a block of an object
+mod extended; // extended.rt: divergence and precise positions
+
+pub use block::read_block;
+pub use extended::read_divergence;
+pub use extended::read_precise;
+pub use header::read_element_count;
+pub use header::read_object_count;
+pub use header::read_version;
+pub use programme::read_assignment;
+pub use timing::read_offset;
+pub use timing::read_update;
+
+// Each step: what was read, and where reading stands behind it.
+pub struct BedStep {
+    pub bed: Bed,
+    pub cur: Cur,
+}
+
+pub struct BedsStep {
+    pub distribute: u8,
+    pub multiple: u8,
+    pub instances: u8,
+    pub count: u8,
+    pub beds: [Bed; 9],
+    pub cur: Cur,
+}
+
+pub struct ProgrammeStep {
+    pub programme: Programme,
+    pub cur: Cur,
+}
+
+pub struct OffsetStep {
+    pub offset: Offset,
+    pub cur: Cur,
+}
+
+pub struct UpdateStep {
+    pub update: BlockUpdate,
+    pub cur: Cur,
+}
+
+pub struct StatusStep {
+    pub status: Status,
+    pub cur: Cur,
+}
+
+pub struct BasicStep {
+    pub basic: Basic,
+    pub cur: Cur,
+}
+
+pub struct PositionStep {
+    pub position: Position,
+    pub cur: Cur,
+}
+
+pub struct DistanceStep {
+    pub distance: Distance,
+    pub cur: Cur,
+}
+
+pub struct ZoneStep {
+    pub zone: Zone,
+    pub cur: Cur,
+}
+
+pub struct ExtentStep {
+    pub extent: Extent,
+    pub cur: Cur,
+}
+
+pub struct ScreenStep {
+    pub screen: Screen,
+    pub cur: Cur,
+}
+
+pub struct RenderStep {
+    pub render: Render,
+    pub cur: Cur,
+}
+
+pub struct BlockStep {
+    pub block: Block,
+    pub cur: Cur,
+}
+
+pub struct DivergenceStep {
+    pub divergence: Divergence,
+    pub cur: Cur,
+}
+
+pub struct PreciseStep {
+    pub precise: Precise,
+    pub cur: Cur,
+}

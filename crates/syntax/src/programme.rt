@@ -1,0 +1,136 @@
+// The program assignment (5.5.3).
+ghost use mathlib.Core.Path.{_≡_};
+ghost use Prim.Native.Nat.{_≤_, _<_};
+ghost use Rattle.bits.specs.Language.{bit};
+ghost use Rattle.bits.specs.View.{Reads, Took};
+ghost use Rattle.oamd.specs.Programme.{bedInstances, bed-assignment, intermediate-spatial-format, num-dynamic-objects, reserved-data, program-assignment};
+ghost use Rattle.syntax.specs.Beds.{BedsRead};
+use crate::BedStep;
+use crate::BedsStep;
+use crate::ProgrammeStep;
+use bits::Cur;
+use bits::Limit;
+use bits::Refusal;
+use oamd::Bed;
+use oamd::Programme;
+
+fn read_bed(s: &[u8], l: Limit, c: Cur) -> BedStep
+    ensures { λ r. ⌜ Reads bed-assignment (bit (now (s .entry))) c l (r .bed) (r .cur) ⌝ }
+{
+    let lfe = bits::take(s, l, c, 1);
+    let standard = bits::take_if(lfe.v == 0, s, l, lfe, 1);
+    let usual = bits::take_if(standard.v == 1, s, l, standard, 10);
+    let other = bits::take_if(oamd::both(lfe.v == 0, standard.v == 0), s, l, usual, 17);
+    BedStep {
+        bed: Bed {
+            assignment: usual.v + other.v,
+            lfeonly: lfe.v as u8,
+            standard: standard.v as u8,
+        },
+        cur: other,
+    }
+}
+
+// How many beds there are: 0 to 9.
+fn instances_of(content: u32, multiple: u32, instances: u32) -> u8
+    requires { ⌜ instances < 8 ⌝ }
+    ensures { λ r. ⌜ (r ≡ bedInstances content multiple instances) × (r ≤ 9) ⌝ }
+{
+    if oamd::flag(4, 3, content) {
+        if multiple == 1 {
+            instances as u8 + 2
+        } else {
+            1
+        }
+    } else {
+        0
+    }
+}
+
+fn read_beds(s: &[u8], l: Limit, c: Cur, content: u32) -> BedsStep
+    ensures { λ r. ⌜ BedsRead content (bit (now (s .entry))) c l r ⌝ }
+{
+    let has = oamd::flag(4, 3, content);
+    let distribute = bits::take_if(has, s, l, c, 1);
+    let multiple = bits::take_if(has, s, l, distribute, 1);
+    let instances = bits::take_if(multiple.v == 1, s, l, multiple, 3);
+    let count = instances_of(content, multiple.v, instances.v);
+    let none = Bed {
+        assignment: 0,
+        lfeonly: 0,
+        standard: 0,
+    };
+    let mut beds = [none; 9];
+    let mut cur = instances;
+    let mut i: usize = 0;
+    let n = count as usize;
+    while i < n {
+        let step = read_bed(s, l, cur);
+        let bed = step.bed;
+        beds[i] = bed;
+        cur = step.cur;
+        i = i + 1;
+    }
+    BedsStep {
+        distribute: distribute.v as u8,
+        multiple: multiple.v as u8,
+        instances: instances.v as u8,
+        count,
+        beds,
+        cur,
+    }
+}
+
+fn read_isf(s: &[u8], l: Limit, c: Cur, content: u32) -> Cur
+    ensures { λ r. ⌜ Took (intermediate-spatial-format content) 8 (bit (now (s .entry))) c l r ⌝ }
+{
+    let index = bits::take_if(oamd::flag(4, 2, content), s, l, c, 3);
+    bits::refuse_if(6 <= index.v, s, l, index, Refusal::Reserved, 3)
+}
+
+fn read_dynamics(s: &[u8], l: Limit, c: Cur, content: u32) -> Cur
+    ensures { λ r. ⌜ Took (num-dynamic-objects content) 159 (bit (now (s .entry))) c l r ⌝ }
+{
+    let count = bits::take_if(oamd::flag(4, 1, content), s, l, c, 5);
+    let more = bits::take_if(count.v == 31, s, l, count, 7);
+    bits::with_value(more, count.v + more.v)
+}
+
+// Reserved data is passed over.
+fn pass_reserved(s: &[u8], l: Limit, c: Cur, content: u32) -> Cur
+    ensures { λ r. ⌜ Reads (reserved-data content) (bit (now (s .entry))) c l (r .v) r ⌝ }
+{
+    let has = oamd::flag(4, 0, content);
+    let size = bits::take_if(has, s, l, c, 4);
+    bits::skip_if(has, s, l, size, 8 * (size.v + 1))
+}
+
+pub fn read_assignment(s: &[u8], l: Limit, c: Cur, objects: u8) -> ProgrammeStep
+    ensures { λ r. ⌜ (r .programme .objects ≡ objects) × Reads (program-assignment objects) (bit (now (s .entry))) c l (r .programme) (r .cur) ⌝ }
+{
+    let dynonly = bits::take(s, l, c, 1);
+    let lfe = bits::take_if(dynonly.v == 1, s, l, dynonly, 1);
+    let content = bits::take_if(dynonly.v == 0, s, l, lfe, 4);
+    let b = read_beds(s, l, content, content.v);
+    let behind = b.cur;
+    let beds = b.beds;
+    let isf = read_isf(s, l, behind, content.v);
+    let dynamics = read_dynamics(s, l, isf, content.v);
+    let cur = pass_reserved(s, l, dynamics, content.v);
+    ProgrammeStep {
+        programme: Programme {
+            objects,
+            dynonly: dynonly.v as u8,
+            lfe: lfe.v as u8,
+            content: content.v as u8,
+            distribute: b.distribute,
+            multiple: b.multiple,
+            instances: b.instances,
+            bedcount: b.count,
+            isf: isf.v as u8,
+            dynamics: dynamics.v as u8,
+            beds,
+        },
+        cur,
+    }
+}
