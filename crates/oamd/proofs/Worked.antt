@@ -3,19 +3,16 @@ use mathlib.Core.Path.{_≡_, refl}
 use mathlib.Core.List.{List, [], _∷_, _++_}
 use Prim.Native.Nat.{ℕ, _+_, _*_}
 use lib.ListN.{length, getD}
-use Rattle.bits.specs.Language.{Res, ok, no, slice, number, run, bit, each, from, pastPayload}
+use Rattle.bits.specs.Language.{ok, slice, number, run, bit, each, from, pastPayload}
 use Rattle.bits.specs.Size.{sizeFrom, sizeOf, variable-bits-max}
-use Rattle.oamd.specs.declared.Gain.{Gain}
 use Rattle.oamd.specs.declared.ReadAnswer.{ReadAnswer}
-use Rattle.oamd.specs.declared.Programme.{Programme}
-use Rattle.oamd.specs.declared.Shares.{Shares}
 use Rattle.oamd.specs.Programme.{bed-assignment, bed-instances, intermediate-spatial-format, num-dynamic-objects, reserved-data, program-assignment, labels, bedObjects, allBeds, named, agrees, shares, classOf}
 use Rattle.oamd.specs.Timing.{startOf}
 use Rattle.oamd.specs.Meaning.{gainOf}
 use Rattle.oamd.specs.Record.{plainRecords, bytesOf, onto}
 use Rattle.oamd.specs.Element.{kind, framed, scenes, fields, passOver, readKnown, oa-element, oa-element-md, elements}
 use Rattle.oamd.specs.Payload.{oa-md-version, object-count, oa-element-count, header, object-audio-metadata-payload, timing, records, tables}
-use Rattle.oamd.specs.Answer.{Outcome, housed, reading}
+use Rattle.oamd.specs.Answer.{housed, reading}
 
 -- a size by its groups, each a hex digit and a flag; a gain by its bits, in dB plus 50; a start by sample offset and factor; a payload by its bytes,
 -- with the numbers that its listing prints

@@ -1,6 +1,5 @@
 -- What a read answers, and what the lent buffer holds afterwards, for all bytes and all buffers.
-use mathlib.Core.Bool.{Bool, true, false}
-use mathlib.Core.List.{List, [], _∷_}
+use mathlib.Core.List.{List}
 use Prim.Native.Nat.{ℕ, _*_}
 use lib.Dec.{leb}
 use lib.ListN.{length, replicate}

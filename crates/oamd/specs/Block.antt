@@ -1,7 +1,6 @@
 -- 5.5.9 object_info_block, 5.5.10 object_basic_info, 5.5.11 object_render_info: from bits to a coded block.
 use mathlib.Core.Bool.{Bool, true, false, not}
-use mathlib.Core.List.{List, [], _∷_}
-use Prim.Native.Nat.{ℕ, suc, _+_, _-_, _*_}
+use Prim.Native.Nat.{ℕ, _+_, _-_, _*_}
 use lib.Dec.{leb, eqb}
 use Rattle.bits.specs.declared.Refusal.the-variants.{Reserved}
 use Rattle.bits.specs.Refusals.{numberOf}
@@ -10,8 +9,6 @@ use Rattle.oamd.specs.declared.Status.{Status}
 use Rattle.oamd.specs.declared.Status.the-variants.{Default, Full, Reuse, Mixed}
 use Rattle.oamd.specs.declared.Position.{Position}
 use Rattle.oamd.specs.declared.Position.the-variants.{Absolute, Moved}
-use Rattle.oamd.specs.declared.Gain.{Gain}
-use Rattle.oamd.specs.declared.Priority.{Priority}
 use Rattle.oamd.specs.declared.Basic.{Basic}
 use Rattle.oamd.specs.declared.Distance.{Distance}
 use Rattle.oamd.specs.declared.Zone.{Zone}

@@ -1,12 +1,12 @@
 -- 5.5.13 extended_object_element, 5.5.14 obj_div_block, 5.5.15 ext_prec_pos_block.
-use mathlib.Core.Bool.{Bool, true, false}
-use mathlib.Core.List.{List, [], _∷_}
+use mathlib.Core.Bool.{Bool}
+use mathlib.Core.List.{List}
 use Prim.Native.Nat.{ℕ, _+_}
-use lib.Dec.{leb, eqb}
+use lib.Dec.{eqb}
 use lib.ListN.{length, replicate}
 use Rattle.bits.specs.declared.Refusal.the-variants.{Reserved}
 use Rattle.bits.specs.Refusals.{numberOf}
-use Rattle.bits.specs.Language.{pick, both, P, give, _>>=_, bits, when, bitsIf, refuseIf, each, flag}
+use Rattle.bits.specs.Language.{both, P, give, _>>=_, bits, when, bitsIf, refuseIf, each, flag}
 use Rattle.oamd.specs.declared.Divergence.{Divergence}
 use Rattle.oamd.specs.declared.Precise.{Precise}
 use Rattle.oamd.specs.Programme.{set?}

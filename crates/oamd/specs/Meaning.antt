@@ -1,8 +1,8 @@
 -- 5.6.1 and 5.6.4: from coded blocks to scenes, block by block and object by object.
-use mathlib.Core.Bool.{Bool, true, false}
-use mathlib.Core.List.{List, [], _∷_, _++_, map}
-use Prim.Native.Nat.{ℕ, zero, suc, _+_, _-_, _*_}
-use lib.Dec.{leb, ltb, eqb}
+use mathlib.Core.Bool.{Bool, true}
+use mathlib.Core.List.{List, [], _∷_, _++_}
+use Prim.Native.Nat.{ℕ, _+_, _-_}
+use lib.Dec.{ltb, eqb}
 use Rattle.bits.specs.Language.{pick}
 use Rattle.oamd.specs.declared.Status.{Status}
 use Rattle.oamd.specs.declared.Status.the-variants.{Default, Full, Reuse, Mixed}
@@ -19,7 +19,7 @@ use Rattle.oamd.specs.declared.Place.{Place}
 use Rattle.oamd.specs.declared.Volume.{Volume}
 use Rattle.oamd.specs.declared.Scene.{Scene}
 use Rattle.oamd.specs.Programme.{set?}
-use Rattle.oamd.specs.Block.{hasGain, hasPriority, hasPosition, hasZone, hasSize, hasScreen, sends}
+use Rattle.oamd.specs.Block.{hasGain, hasPriority, hasPosition, hasZone, hasSize, hasScreen}
 
 -- a value by its status: the default; as sent; that of the block before; as sent or else that of the block before (Tables 28 and 29)
 abbrev pub valueOf : {A : Type 0} → Status → Bool → A → A → A → A

@@ -1,5 +1,5 @@
 -- 5.5.5 object_element and 5.5.8 object_data.
-use mathlib.Core.List.{List, [], _∷_}
+use mathlib.Core.List.{List}
 use Prim.Native.Nat.{ℕ}
 use lib.ListN.{length}
 use Rattle.bits.specs.Language.{P, give, _>>=_, bits, bitsIf, for}

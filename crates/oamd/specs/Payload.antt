@@ -1,6 +1,6 @@
 -- 5.5.2 object_audio_metadata_payload, and the tables of what it carries.
-use mathlib.Core.Bool.{Bool, true, false, not}
-use mathlib.Core.List.{List, [], _∷_}
+use mathlib.Core.Bool.{not}
+use mathlib.Core.List.{List}
 use mathlib.Core.Option.{Option, none, some}
 use Prim.Native.Nat.{ℕ, _+_}
 use lib.Dec.{eqb}
@@ -17,7 +17,7 @@ use Rattle.oamd.specs.Timing.{timingOf, noUpdate}
 use Rattle.oamd.specs.ObjectElement.{ObjectElement}
 use Rattle.oamd.specs.Extended.{Extension}
 use Rattle.oamd.specs.Record.{Record, plainRecords, extendedRecords}
-use Rattle.oamd.specs.Element.{Known, nothing, scenes, State, elements}
+use Rattle.oamd.specs.Element.{Known, nothing, scenes, elements}
 
 -- the version, its extension added, must be 0 (house rule)
 unfoldable pub oa-md-version : P ℕ

@@ -1,7 +1,7 @@
 -- 5.5.3 program_assignment, and which object is of which class (5.6.0, 5.6.1.1, 5.6.4.8).
-use mathlib.Core.Bool.{Bool, true, false}
+use mathlib.Core.Bool.{Bool}
 use mathlib.Core.List.{List, [], _∷_, _++_}
-use Prim.Native.Nat.{ℕ, zero, suc, _+_, _-_, _*_}
+use Prim.Native.Nat.{ℕ, suc, _+_, _-_, _*_}
 use lib.Dec.{leb, ltb, eqb}
 use lib.ListN.{length, getD, replicate}
 use Rattle.bits.specs.declared.Refusal.the-variants.{Reserved}

@@ -1,5 +1,5 @@
 -- A record, and its bytes.
-use mathlib.Core.Bool.{Bool, true, false}
+use mathlib.Core.Bool.{Bool}
 use mathlib.Core.List.{List, [], _∷_, _++_}
 use Prim.Native.Nat.{ℕ, _-_}
 use lib.ListN.{length, replicate, drop}
@@ -10,7 +10,7 @@ use Rattle.oamd.specs.declared.Divergence.{Divergence}
 use Rattle.oamd.specs.declared.Precise.{Precise}
 use Rattle.oamd.specs.Programme.{set?, dynamicClass}
 use Rattle.oamd.specs.Tables.{recordBytes, recordStride}
-use Rattle.oamd.specs.Extended.{Extension, noDivergence, noPrecise}
+use Rattle.oamd.specs.Extended.{noDivergence, noPrecise}
 
 pub record Record : Type 0 where
   pub scene : Scene

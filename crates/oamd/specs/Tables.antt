@@ -1,6 +1,6 @@
 -- The tables and the limits, each in one place.
 use mathlib.Core.List.{List, [], _∷_}
-use Prim.Native.Nat.{ℕ, _*_}
+use Prim.Native.Nat.{ℕ}
 
 -- a payload's bytes, at the most (house rule)
 abbrev pub mostBytes : ℕ

@@ -1,8 +1,7 @@
 -- 5.5.6 md_update_info and 5.5.7 block_update_info, and what they mean (5.6.2).
-use mathlib.Core.Bool.{Bool, true, false}
-use mathlib.Core.List.{List, [], _∷_, map}
-use Prim.Native.Nat.{ℕ, suc, _+_, _*_}
-use lib.Dec.{leb, eqb}
+use mathlib.Core.List.{List, map}
+use Prim.Native.Nat.{ℕ, _+_, _*_}
+use lib.Dec.{eqb}
 use lib.ListN.{length, getD}
 use Rattle.units.specs.declared.SampleCount.{SampleCount}
 use Rattle.bits.specs.declared.Refusal.the-variants.{Reserved}

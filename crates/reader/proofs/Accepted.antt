@@ -1,12 +1,11 @@
 -- What a cursor without a refusal tells of the reading that led to it. Assumes nothing.
-use mathlib.Core.Path.{_≡_, refl, sym, ap, _∙_}
+use mathlib.Core.Path.{_≡_, refl, sym}
 use mathlib.Core.Bool.{Bool, true, false}
-use Prim.Native.Nat.{ℕ}
 use lib.Dec.{eqb}
 use borrow.Author.Tests.{eqb-true}
 use Rattle.bits.specs.declared.Cur.{Cur}
 use Rattle.bits.specs.declared.Limit.{Limit}
-use Rattle.bits.specs.Language.{pick, Bits, Res, ok, no, P, run}
+use Rattle.bits.specs.Language.{pick, Bits, ok, no, P, run}
 use Rattle.bits.specs.Steps.{no-ok}
 use Rattle.bits.specs.View.{overOf, goOn, Reads}
 

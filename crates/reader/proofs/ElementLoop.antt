@@ -1,20 +1,19 @@
 -- The ways through an element, the frame around it, and the loop over the elements. Assumes nothing.
 use mathlib.Core.Path.{_≡_, refl, sym, ap, _∙_}
 use mathlib.Core.Bool.{Bool, true, false, not}
-use mathlib.Core.List.{List, []}
+use mathlib.Core.List.{List}
 use mathlib.Core.Option.{Option, none, some}
-use Prim.Native.Nat.{ℕ, zero, suc, _+_, _-_, _*_, _≤_, _<_}
+use Prim.Native.Nat.{ℕ, suc, _+_, _-_, _*_, _≤_, _<_}
 use native.Mathlib.Omega.{arith}
 use native.Mathlib.Numerals.{add-one}
 use native.Mathlib.Nat.{sub-zero}
 use lib.ListN.{length}
-use lib.Dec.{eqb}
-use borrow.Author.Tests.{eqb-true, ne-eqb}
+use borrow.Author.Tests.{ne-eqb}
 use Rattle.bits.specs.declared.Cur.{Cur}
 use Rattle.bits.specs.declared.Limit.{Limit}
 use Rattle.bits.specs.declared.Refusal.the-variants.{Second, Early}
 use Rattle.bits.specs.declared.Size.{Size}
-use Rattle.bits.specs.Language.{Bits, P, bits, bitsIf, refuseIf}
+use Rattle.bits.specs.Language.{Bits, bits, bitsIf, refuseIf}
 use Rattle.bits.specs.Refusals.{numberOf}
 use Rattle.bits.specs.Size.{variable-bits-max}
 use Rattle.bits.specs.View.{Reads, openAt, innerOf, closeAt}
@@ -32,7 +31,7 @@ use Rattle.reader.specs.declared.Scope.{Scope}
 use Rattle.reader.specs.declared.State.{State}
 use Rattle.reader.specs.declared.StateStep.{StateStep}
 use Rattle.reader.specs.declared.TimingStep.{TimingStep}
-use Rattle.reader.specs.Steps.{ElementRead, ExtendedRead, Holding, stateOf, Went-on, Goes-on, Scoped, BodyRead, OneRead, ElementsRead}
+use Rattle.reader.specs.Steps.{ElementRead, ExtendedRead, Holding, stateOf, Went-on, Scoped, BodyRead, OneRead}
 use Rattle.reader.proofs.Accepted.{begun}
 use Rattle.reader.proofs.Bytes.{length-plain}
 use Rattle.reader.proofs.Gates.{stuck, carried, regiven, opened, by-zero}

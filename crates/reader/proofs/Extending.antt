@@ -2,12 +2,12 @@
 use mathlib.Core.Path.{_≡_, refl, sym, ap, _∙_}
 use mathlib.Core.Bool.{Bool, true, false}
 use mathlib.Core.List.{List, [], _∷_}
-use Prim.Native.Nat.{ℕ, suc, _+_}
+use Prim.Native.Nat.{ℕ, suc}
 use native.Mathlib.Omega.{arith}
 use lib.ListN.{length, replicate, length-replicate}
 use Rattle.bits.specs.declared.Cur.{Cur}
 use Rattle.bits.specs.declared.Limit.{Limit}
-use Rattle.bits.specs.Language.{pick, Bits, P, give, _>>=_, bits, when, each, run, ok}
+use Rattle.bits.specs.Language.{Bits, P, _>>=_, bits, when, each, run, ok}
 use Rattle.bits.specs.Steps.{give-ok}
 use Rattle.bits.specs.Laws.{each-long}
 use Rattle.bits.specs.View.{Reads}
@@ -18,7 +18,7 @@ use Rattle.oamd.specs.declared.Scene.{Scene}
 use Rattle.oamd.specs.Programme.{set?}
 use Rattle.oamd.specs.Extended.{obj-div-block, ext-prec-pos-block, noDivergence, noPrecise, extended-object-element}
 use Rattle.oamd.specs.Record.{Record, recordOf, carries, allCarry, plainRecords, extendedRecords, bytesOf, onto}
-use Rattle.reader.specs.Steps.{Standing, withDivergence, withPrecise, put, carriers, Went, PassedIf, Extending, ExtendedRead}
+use Rattle.reader.specs.Steps.{Standing, withDivergence, withPrecise, put, carriers, PassedIf, Extending, ExtendedRead}
 use Rattle.reader.proofs.Accepted.{begun, ran}
 use Rattle.reader.proofs.Bytes.{length-plain}
 

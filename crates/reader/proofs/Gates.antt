@@ -1,14 +1,14 @@
 -- A refusal that depends on a test, and a refusal that is carried on. Assumes nothing.
-use mathlib.Core.Path.{_≡_, refl, sym, ap, _∙_}
+use mathlib.Core.Path.{_≡_, refl, sym}
 use mathlib.Core.Bool.{Bool, true, false}
 use Prim.Native.Nat.{ℕ, _-_}
 use lib.Dec.{eqb}
 use borrow.Author.Tests.{eqb-true, eqb-false, ne-eqb}
 use Rattle.bits.specs.declared.Cur.{Cur}
 use Rattle.bits.specs.declared.Limit.{Limit}
-use Rattle.bits.specs.Language.{pick, Bits, Res, ok, no, P, give, refuse, refuseIf, run}
+use Rattle.bits.specs.Language.{pick, Bits, ok, no, P, refuseIf, run}
 use Rattle.bits.specs.Steps.{no-ok}
-use Rattle.bits.specs.View.{overOf, goOn, Reads}
+use Rattle.bits.specs.View.{Reads}
 use Rattle.reader.proofs.Accepted.{ran}
 
 -- behind a refusal every reader stays where it is

@@ -1,7 +1,7 @@
 -- The loops over the blocks of an object and over the objects: what stands in the bytes, and what is left to read. Assumes nothing.
 use mathlib.Core.Path.{_≡_, refl, sym, ap, _∙_}
 use mathlib.Core.List.{List, [], _∷_, _++_, append-assoc, append-nil}
-use Prim.Native.Nat.{ℕ, zero, suc, _+_, _-_, _*_, _≤_, _<_}
+use Prim.Native.Nat.{ℕ, _+_, _-_, _*_, _≤_, _<_}
 use native.Mathlib.Omega.{arith}
 use native.Mathlib.Nat.{mul-le-mul-right, add-mul, one-mul, sub-zero}
 use lib.ListN.{length, getD, set, length-append, length-set}
@@ -25,7 +25,7 @@ use Rattle.reader.specs.Layout.{setFrom}
 use Rattle.reader.specs.Running.{gainAbove, withBlocks, withObjects}
 use Rattle.reader.specs.declared.TimingStep.{TimingStep}
 use Rattle.reader.specs.Steps.{TimingRead, Standing, ObjectRead, ObjectsRead, ElementRead}
-use Rattle.reader.proofs.Bytes.{stored, above-is, length-record}
+use Rattle.reader.proofs.Bytes.{stored, above-is}
 use Rattle.reader.proofs.Structure.{Each, same}
 
 -- a reader whose value is given on is that reader

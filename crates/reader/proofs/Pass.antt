@@ -7,18 +7,18 @@ use Prim.Native.Nat.{ℕ, zero, suc, _+_, _-_, _*_, _≤_, _<_}
 use native.Mathlib.Omega.{arith}
 use native.Mathlib.Nat.{suc-add, zero-add}
 use lib.ListN.{length, getD, set, drop, replicate, length-append}
-use lib.Seq.{getD-append-add, drop-cons}
+use lib.Seq.{getD-append-add}
 use lib.Dec.{eqb}
 use Rattle.bits.specs.declared.Cur.{Cur}
 use Rattle.bits.specs.declared.Limit.{Limit}
-use Rattle.bits.specs.Language.{both, Bits, P, give, _>>=_, when, each}
+use Rattle.bits.specs.Language.{both, Bits, P, give, _>>=_, each}
 use Rattle.bits.specs.View.{Reads}
 use Rattle.bits.proofs.Sticky.{Left, start, done, turned, broken, each-step, each-stop, plain}
 use Rattle.oamd.specs.Tables.{recordStride, roomBytes}
 use Rattle.oamd.specs.Record.{Record, carries, recordBytesOf, bytesOf, onto}
 use Rattle.reader.specs.Layout.{setFrom}
 use Rattle.reader.specs.Steps.{put, carriers, Went, Passed, PassedIf}
-use Rattle.reader.proofs.Bytes.{length-record, length-bytes, bytes-append, byte-front}
+use Rattle.reader.proofs.Bytes.{length-bytes, bytes-append, byte-front}
 use Rattle.reader.proofs.ObjectLoop.{unit, length-setFrom}
 
 set-behind : (front ys : List ℕ) (k x : ℕ) → set (front ++ ys) (length front + k) x ≡ front ++ set ys k x

@@ -1,15 +1,14 @@
 -- The loop over the blocks' timing: the array holds what was read so far, filled up. Assumes nothing.
-use mathlib.Core.Path.{_≡_, sym, ap, _∙_}
+use mathlib.Core.Path.{_≡_}
 use mathlib.Core.List.{List}
-use Prim.Native.Nat.{ℕ, _+_, _≤_, _<_}
+use Prim.Native.Nat.{ℕ, _+_, _<_}
 use native.Mathlib.Omega.{arith}
 use lib.ListN.{length}
 use Rattle.bits.specs.declared.Cur.{Cur}
 use Rattle.bits.specs.declared.Limit.{Limit}
-use Rattle.bits.specs.Language.{Bits, P, give, bits}
+use Rattle.bits.specs.Language.{Bits, give, bits}
 use Rattle.bits.specs.View.{Reads}
 use Rattle.bits.proofs.Sticky.{bind, done}
-use Rattle.oamd.specs.declared.BlockUpdate.{BlockUpdate}
 use Rattle.oamd.specs.declared.Offset.{Offset}
 use Rattle.oamd.specs.declared.Update.{Update}
 use Rattle.oamd.specs.Tables.{mostBlocks}

@@ -11,7 +11,7 @@ use borrow.Author.Tests.{le-leb, lt-leb, ne-eqb}
 use Rattle.bits.specs.declared.Cur.{Cur}
 use Rattle.bits.specs.declared.Limit.{Limit}
 use Rattle.bits.specs.declared.Refusal.the-variants.{TooLong, Counts, Room}
-use Rattle.bits.specs.Language.{Bits, bits, bit, refuseIf, run}
+use Rattle.bits.specs.Language.{Bits, bits, bit, refuseIf}
 use Rattle.bits.specs.Refusals.{numberOf}
 use Rattle.bits.specs.View.{Reads}
 use Rattle.bits.proofs.Sticky.{bind, plain}
@@ -22,11 +22,11 @@ use Rattle.oamd.specs.Programme.{program-assignment, agrees, shares}
 use Rattle.oamd.specs.Record.{Record, bytesOf, onto}
 use Rattle.oamd.specs.Element.{scenes}
 use Rattle.oamd.specs.Payload.{oa-md-version, object-count, oa-element-count, header, object-audio-metadata-payload, timing, records, tables}
-use Rattle.oamd.specs.Answer.{refused, refusedWith, acceptedWith, housed, reading}
+use Rattle.oamd.specs.Answer.{refused, acceptedWith, housed, reading}
 use Rattle.reader.specs.declared.HeaderStep.{HeaderStep}
 use Rattle.reader.specs.declared.PayloadStep.{PayloadStep}
 use Rattle.reader.specs.declared.StateStep.{StateStep}
-use Rattle.reader.specs.Steps.{HeaderRead, ElementsRead, PayloadRead, Holding, wholeOf, startCur}
+use Rattle.reader.specs.Steps.{HeaderRead, ElementsRead, PayloadRead, wholeOf, startCur}
 use Rattle.reader.proofs.Bytes.{length-bytes}
 use Rattle.reader.proofs.Gates.{regiven}
 

@@ -1,11 +1,10 @@
 -- What each private function of the reader promises.
 use mathlib.Core.Path.{_≡_}
-use mathlib.Core.Bool.{Bool, true, false}
+use mathlib.Core.Bool.{Bool, false}
 use mathlib.Core.List.{List, [], _∷_}
-use mathlib.Core.Option.{Option, none, some}
+use mathlib.Core.Option.{none, some}
 use Prim.Native.Nat.{ℕ, _+_, _*_, _≤_, _<_}
 use lib.ListN.{length, replicate}
-use Rattle.units.specs.declared.BitPos.{BitPos}
 use Rattle.bits.specs.declared.Cur.{Cur}
 use Rattle.bits.specs.declared.Limit.{Limit}
 use Rattle.bits.specs.Language.{P, Bits, when, each, for, bit}
@@ -17,15 +16,15 @@ use Rattle.oamd.specs.declared.Precise.{Precise}
 use Rattle.oamd.specs.declared.Programme.{Programme}
 use Rattle.oamd.specs.declared.Scene.{Scene}
 use Rattle.oamd.specs.declared.Shares.{Shares}
-use Rattle.oamd.specs.Tables.{recordStride, roomBytes, mostBlocks, mostElements, mostObjects}
+use Rattle.oamd.specs.Tables.{recordStride, roomBytes, mostBlocks, mostObjects}
 use Rattle.oamd.specs.Programme.{shares, classOf}
 use Rattle.oamd.specs.Timing.{MdUpdateInfo, md-update-info, timingOf}
 use Rattle.oamd.specs.ObjectElement.{ObjectElement, object-data, object-element}
-use Rattle.oamd.specs.Extended.{Extension, extended-object-element, noDivergence, noPrecise}
+use Rattle.oamd.specs.Extended.{Extension, extended-object-element}
 use Rattle.oamd.specs.Meaning.{allScenes, idle}
 use Rattle.oamd.specs.Record.{Record, recordOf, carries, allCarry, plainRecords, extendedRecords, bytesOf, onto}
 use Rattle.oamd.specs.Element.{Known, nothing, there, scenes, oa-element, oa-element-md, elements}
-use Rattle.oamd.specs.Payload.{Header, header, Payload, object-audio-metadata-payload, timing, records}
+use Rattle.oamd.specs.Payload.{header, object-audio-metadata-payload, timing, records}
 use Rattle.reader.specs.declared.TimingStep.{TimingStep}
 use Rattle.reader.specs.declared.Scope.{Scope}
 use Rattle.reader.specs.declared.State.{State}

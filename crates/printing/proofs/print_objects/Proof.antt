@@ -1,5 +1,4 @@
-use Prim.Native.Nat.{_+_, _-_, _*_, _≤_}
-use mathlib.Core.Path.{_≡_}
+use Prim.Native.Nat.{_-_, _*_, _≤_}
 use borrow.Author.Needs.{needs}
 use Rattle.printing.proofs.print_objects.Statement.{statement}
 use Rattle.printing.proofs.print_objects.Tie as tie

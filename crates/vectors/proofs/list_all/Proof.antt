@@ -1,6 +1,5 @@
 use lib.ListN.{length}
-use Prim.Native.Nat.{_+_, _-_, _*_, _≤_}
-use mathlib.Core.Path.{_≡_}
+use Prim.Native.Nat.{_-_, _≤_}
 use borrow.Author.Needs.{needs}
 use Rattle.vectors.proofs.list_all.Statement.{statement}
 use Rattle.vectors.proofs.list_all.Tie as tie

@@ -3,15 +3,12 @@ use Prim.Native.Nat.{_+_, _-_, _*_, _≤_}
 use native.Mathlib.Omega.{arith}
 use mathlib.Core.Path.{_≡_}
 use Rattle.bits.specs.Language.{bit}
-use Rattle.bits.specs.declared.Cur.{Cur}
 use Rattle.oamd.specs.Tables.{recordStride}
 use Rattle.oamd.specs.Meaning.{idle}
 use Rattle.reader.proofs.ObjectLoop.{Inside, enter, turn, leave}
 use borrow.Author.Needs.{needs}
 use Rattle.reader.proofs.objects.read_object.Statement.{statement}
 use Rattle.reader.proofs.objects.read_object.Tie as tie
-use Rattle.reader.proofs.objects.read_object.Reads as reads
-use Rattle.reader.proofs.objects.read_object.Lts as lts
 
 abbrev Inv-loop : tie.InvT-loop
 Inv-loop s l class blocks from out₀ back scene₀ cur₀ at₀ i₀ out scene cur at i =

@@ -7,8 +7,6 @@ use Rattle.reader.proofs.Whole.{header-read}
 use borrow.Author.Needs.{needs}
 use Rattle.reader.proofs.payload.read_header.Statement.{statement}
 use Rattle.reader.proofs.payload.read_header.Tie as tie
-use Rattle.reader.proofs.payload.read_header.Reads as reads
-use Rattle.reader.proofs.payload.read_header.Lts as lts
 
 returns : tie.Need-returns
 returns c =
