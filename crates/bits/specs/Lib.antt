@@ -4,3 +4,8 @@ pub mod Steps
 pub mod Laws
 pub mod Refusals
 pub mod Size
+pub mod Writes
+pub mod Bytes
+pub mod Ensures
+pub mod Spells
+pub mod First

@@ -1,6 +1,6 @@
 // What a cursor does besides reading a field.
 ghost use mathlib.Core.Path.{_≡_};
-ghost use Prim.Native.Nat.{_-_, _^_, _≤_, _<_};
+ghost use Prim.Native.Nat.{_-_, _*_, _^_, _≤_, _<_};
 ghost use Rattle.bits.specs.Language.{bit, bitsIf, skip, when, refuseIf};
 ghost use Rattle.bits.specs.Refusals.{numberOf};
 ghost use Rattle.bits.specs.View.{Reads, Took, valued, openAt, innerOf, closeAt};
@@ -11,6 +11,7 @@ use crate::leaf::over;
 use crate::leaf::take;
 use crate::numbers::number;
 use units::BitPos;
+use units::ByteCount;
 
 // The cursor with another value.
 pub fn with_value(c: Cur, v: u32) -> Cur
@@ -67,14 +68,14 @@ pub fn refuse_if(on: bool, s: &[u8], l: Limit, c: Cur, r: Refusal, back: u32) ->
     c
 }
 
-// Passes over n bits, where a flag says that they are there, without a look at them.
-pub fn skip_if(on: bool, s: &[u8], l: Limit, c: Cur, n: u32) -> Cur
-    ensures { λ r. ⌜ (r .v ≡ 0) × Reads (when on (skip n) 0) (bit (now (s .entry))) c l 0 r ⌝ }
+// Passes over n bytes, which begin at any bit, where a flag says that they are there, without a look at them.
+pub fn skip_if(on: bool, s: &[u8], l: Limit, c: Cur, n: ByteCount) -> Cur
+    ensures { λ r. ⌜ (r .v ≡ 0) × Reads (when on (skip (8 * (n .0))) 0) (bit (now (s .entry))) c l 0 r ⌝ }
 {
     let at = c.at;
     if on {
         if c.no == 0 {
-            let to = at.raw() as u64 + n as u64;
+            let to = at.raw() as u64 + n.bits();
             let end = l.end.raw() as u64;
             if end < to {
                 return Cur {
@@ -95,13 +96,13 @@ pub fn skip_if(on: bool, s: &[u8], l: Limit, c: Cur, n: u32) -> Cur
     with_value(c, 0)
 }
 
-// An element of n bits must fit: the cursor, or a refusal back bits before it.
-pub fn open(l: Limit, c: Cur, n: u32, back: u32) -> Cur
-    ensures { λ r. ⌜ r ≡ openAt l c n back ⌝ }
+// An element of n bytes, which begin at any bit, must fit: the cursor, or a refusal back bits before it.
+pub fn open(l: Limit, c: Cur, n: ByteCount, back: u32) -> Cur
+    ensures { λ r. ⌜ r ≡ openAt l c (8 * (n .0)) back ⌝ }
 {
     if c.no == 0 {
         let at = c.at;
-        let to = at.raw() as u64 + n as u64;
+        let to = at.raw() as u64 + n.bits();
         let end = l.end.raw() as u64;
         if end < to {
             return Cur {
@@ -115,12 +116,12 @@ pub fn open(l: Limit, c: Cur, n: u32, back: u32) -> Cur
     c
 }
 
-// The limit of an element of n bits that begins at the cursor.
-pub fn inner_of(l: Limit, c: Cur, n: u32) -> Limit
-    ensures { λ r. ⌜ r ≡ innerOf l c n ⌝ }
+// The limit of an element of n bytes that begins at the cursor.
+pub fn inner_of(l: Limit, c: Cur, n: ByteCount) -> Limit
+    ensures { λ r. ⌜ r ≡ innerOf l c (8 * (n .0)) ⌝ }
 {
     let end = l.end;
-    let to = c.at.raw() as u64 + n as u64;
+    let to = c.at.raw() as u64 + n.bits();
     if to <= end.raw() as u64 {
         Limit {
             end: BitPos::new(to as u32),

@@ -16,6 +16,7 @@ use bits::Cur;
 use bits::Limit;
 use bits::Refusal;
 use oamd::Kind;
+use units::ByteCount;
 
 // An object element behind its discard flag, back bits behind the first of its id.
 fn read_first_object(
@@ -131,7 +132,7 @@ fn read_element(s: &[u8], l: Limit, c: Cur, w: Scope, st: State, out: &mut [u8; 
     let step = bits::read_size(s, l, id);
     let size = step.size;
     let sized = step.cur;
-    let length = 8 * (size.value + 1);
+    let length = ByteCount::new(size.value + 1);
     let counted = 5 * size.groups;
     let begun = bits::open(l, sized, length, counted);
     let held = bits::inner_of(l, sized, length);

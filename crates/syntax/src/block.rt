@@ -9,6 +9,7 @@ use crate::render::read_render;
 use bits::Cur;
 use bits::Limit;
 use oamd::Block;
+use units::ByteCount;
 
 // Additional table data is passed over.
 fn pass_additional(s: &[u8], l: Limit, c: Cur) -> Cur
@@ -16,7 +17,7 @@ fn pass_additional(s: &[u8], l: Limit, c: Cur) -> Cur
 {
     let exists = bits::take(s, l, c, 1);
     let size = bits::take_if(exists.v == 1, s, l, exists, 4);
-    bits::skip_if(exists.v == 1, s, l, size, 8 * (size.v + 1))
+    bits::skip_if(exists.v == 1, s, l, size, ByteCount::new(size.v + 1))
 }
 
 // Block blk of an object of a class.

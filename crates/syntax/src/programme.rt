@@ -13,6 +13,7 @@ use bits::Limit;
 use bits::Refusal;
 use oamd::Bed;
 use oamd::Programme;
+use units::ByteCount;
 
 fn read_bed(s: &[u8], l: Limit, c: Cur) -> BedStep
     ensures { λ r. ⌜ Reads bed-assignment (bit (now (s .entry))) c l (r .bed) (r .cur) ⌝ }
@@ -102,7 +103,7 @@ fn pass_reserved(s: &[u8], l: Limit, c: Cur, content: u32) -> Cur
 {
     let has = oamd::flag(4, 0, content);
     let size = bits::take_if(has, s, l, c, 4);
-    bits::skip_if(has, s, l, size, 8 * (size.v + 1))
+    bits::skip_if(has, s, l, size, ByteCount::new(size.v + 1))
 }
 
 pub fn read_assignment(s: &[u8], l: Limit, c: Cur, objects: u8) -> ProgrammeStep

@@ -2,7 +2,7 @@
 use borrow.Author.Needs.{needs}
 use borrow.Author.Tests.{eq-eqb, ne-eqb, le-leb, lt-leb}
 use mathlib.Core.Path.{_≡_, ap}
-use Prim.Native.Nat.{ℕ, _+_, _-_, _≤_, _<_}
+use Prim.Native.Nat.{ℕ, _+_, _-_, _*_, _≤_, _<_}
 use native.Mathlib.Omega.{arith}
 use Rattle.units.specs.declared.BitPos.{BitPos}
 use Rattle.bits.specs.View.{openAt}
@@ -15,19 +15,19 @@ position x = record { 0 = x }
 returns : tie.Need-returns
 unfolding openAt
 returns c =
-    let i = c .before .before .before .before .before .before in
+    let i = c .before .before .before .before .before .before .before in
     let a = i .before .before .args in
-    let f : a .l .end .0 < a .c .at .0 + a .n = omega arith in
-    let m : c .before .before .before .before .raw .result + a .n - c .before .before .before .raw2 .result ≡ a .c .at .0 + a .n - a .l .end .0 = omega arith in
+    let f : a .l .end .0 < a .c .at .0 + 8 * a .n .0 = omega arith in
+    let m : c .before .before .before .before .before .raw .result + c .before .before .before .before .bits .result - c .before .before .before .raw2 .result ≡ a .c .at .0 + 8 * a .n .0 - a .l .end .0 = omega arith in
     let p : c .before .place-before .result ≡ position (a .c .at .0 - a .back) = ap position (c .before .place-before .ensures) in
     rw (eq-eqb _ _ (i .if1 .taken), lt-leb _ _ f, m, p, c .over .ensures)
 
 returns-2 : tie.Need-returns-2
 unfolding openAt
 returns-2 c =
-    let i = c .before .before .before .before in
+    let i = c .before .before .before .before .before in
     let a = i .before .before .args in
-    let f : a .c .at .0 + a .n ≤ a .l .end .0 = omega arith in
+    let f : a .c .at .0 + 8 * a .n .0 ≤ a .l .end .0 = omega arith in
     rw (eq-eqb _ _ (i .if1 .taken), le-leb _ _ f)
 
 returns-3 : tie.Need-returns-3
@@ -40,6 +40,7 @@ open-spec =
     (tie.spec
     (λ c κs. search needs)
     (λ c. search needs)
+    (λ c κs. search needs)
     (λ c. search needs)
     (λ c κs. search needs)
     (λ c. search needs)

@@ -9,11 +9,11 @@ use Rattle.bits.proofs.cursor.skip_if.Tie as tie
 
 returns : tie.Need-returns
 returns c =
-    (refl, rw (c .before .before .before .before .before .before .if1 .taken) (short (search needs) (omega arith) (omega arith) (search needs)))
+    (refl, rw (c .before .before .before .before .before .before .before .if1 .taken) (short (search needs) (omega arith) (omega arith) (search needs)))
 
 returns-2 : tie.Need-returns-2
 returns-2 c =
-    (refl, rw (c .before .before .before .before .before .before .if1 .taken) (whole (search needs) (omega arith) (omega arith) refl))
+    (refl, rw (c .before .before .before .before .before .before .before .if1 .taken) (whole (search needs) (omega arith) (omega arith) refl))
 
 returns-3 : tie.Need-returns-3
 returns-3 c = (
@@ -27,6 +27,7 @@ skip-if-spec =
     (tie.spec
     (λ c κs. search needs)
     (λ c. search needs)
+    (λ c κs. search needs)
     (λ c. search needs)
     (λ c κs. search needs)
     (λ c. search needs)

@@ -8,11 +8,11 @@ use Rattle.syntax.proofs.block.pass_additional.Tie as tie
 returns : tie.Need-returns
 unfolding additional-table-data
 returns c =
-    let h1 = c .before .before .before in
+    let h1 = c .before .before .before .before in
     let h0 = h1 .before .before in
-    h0 .take .ensures .reads ▸ h1 .take-if .ensures .reads ▸ worth (c .skip-if .ensures .0) (c .skip-if .ensures .1)
+    h0 .take .ensures .reads ▸ h1 .take-if .ensures .reads ▸ worth (c .skip-if .ensures .0) (rw (c .before .new .ensures) at (c .skip-if .ensures .1))
 
 pub pass-additional-spec : {M : Type 1} → statement M
 pass-additional-spec =
     tie.close
-    (tie.spec (λ c κs. search needs) (λ c κs. search needs) (λ c. search needs) (λ c. search needs) (λ c κs. search needs) returns)
+    (tie.spec (λ c κs. search needs) (λ c κs. search needs) (λ c. search needs) (λ c κs. search needs) (λ c κs. search needs) returns)

@@ -1,0 +1,78 @@
+-- Which of two lists of bits is to be written: the one with fewer bits, and of equal length the smaller number.
+use mathlib.Core.Path.{_≡_, refl, sym, ap, _∙_}
+use mathlib.Core.Bool.{Bool, true, false}
+use mathlib.Core.List.{List, [], _∷_, _++_}
+use Prim.Native.Nat.{ℕ, _+_, _*_, _^_, _≤_}
+use native.Mathlib.Omega.{arith}
+use native.Mathlib.Nat.{add-mul, mul-assoc, mul-le-mul-right}
+use lib.ListN.{length, length-append}
+use lib.Pow.{pow-add}
+use lib.Dec.{leb, ltb, eqb}
+use borrow.Author.Tests.{leb-true, ltb-true, eqb-true, eqb-false}
+use Rattle.bits.specs.Language.{pick, number}
+
+-- l comes before m, or is as good
+pub record First (l m : List ℕ) : Type 0 where
+  pub fewer : length l ≤ length m
+  pub smaller : length l ≡ length m → number l ≤ number m
+
+-- as a test
+abbrev pub first? : List ℕ → List ℕ → Bool
+first? l m = pick (eqb (length l) (length m)) (leb (number l) (number m)) (ltb (length l) (length m))
+
+pub first-of : (l m : List ℕ) → first? l m ≡ true → First l m
+first-of l m h = go (eqb (length l) (length m)) refl h
+  where
+    go : (t : Bool) → eqb (length l) (length m) ≡ t → pick t (leb (number l) (number m)) (ltb (length l) (length m)) ≡ true → First l m
+    go true q h = record { fewer = (let e = eqb-true (length l) (length m) q in omega arith); smaller = λ e. leb-true _ _ h }
+    go false q h = let x = ltb-true (length l) (length m) h in record { fewer = omega arith; smaller = λ e. absurd (eqb-false _ _ q e) }
+
+pub first-same : (l : List ℕ) → First l l
+first-same l = record { fewer = omega arith; smaller = λ e. omega arith }
+
+-- no bits come first
+pub first-none : (l : List ℕ) → First [] l
+unfolding number
+first-none l = record { fewer = omega arith; smaller = λ e. omega arith }
+
+number-append : (l m : List ℕ) → number (l ++ m) ≡ number l * 2 ^ length m + number m
+unfolding number
+number-append [] m = omega arith
+number-append (x ∷ xs) m =
+    let a : 2 ^ length (xs ++ m) ≡ 2 ^ length xs * 2 ^ length m = ap (λ (n : ℕ). 2 ^ n) (length-append xs m) ∙ pow-add 2 (length xs) (length m) in
+    let b = number-append xs m in
+    let c = add-mul (x * 2 ^ length xs) (number xs) (2 ^ length m) in
+    let d = mul-assoc x (2 ^ length xs) (2 ^ length m) in
+    rw a (omega arith)
+
+-- what comes first in each part comes first in the whole
+pub first-append : {a b c d : List ℕ} → First a b → First c d → First (a ++ c) (b ++ d)
+first-append {a} {b} {c} {d} f g =
+    let x = f .fewer in
+    let y = g .fewer in
+    let m = length-append a c in
+    let n = length-append b d in
+    record {
+      fewer = omega arith;
+      smaller = λ e.
+          let p : length a ≡ length b = omega arith in
+          let q : length c ≡ length d = omega arith in
+          let u = mul-le-mul-right (2 ^ length c) (f .smaller p) in
+          let v = g .smaller q in
+          rw (number-append a c, number-append b d, ← q) (omega arith);
+    }
+
+-- a common beginning does not matter
+pub first-cancel : (a l m : List ℕ) → First (a ++ l) (a ++ m) → First l m
+first-cancel a l m f =
+    let x = f .fewer in
+    let i = length-append a l in
+    let j = length-append a m in
+    record {
+      fewer = omega arith;
+      smaller = λ e.
+          let y : number (a ++ l) ≤ number (a ++ m) = f .smaller (omega arith) in
+          let p = number-append a l in
+          let q : number (a ++ m) ≡ number a * 2 ^ length l + number m = number-append a m ∙ ap (λ (n : ℕ). number a * 2 ^ n + number m) (sym e) in
+          omega arith;
+    }

@@ -1,0 +1,166 @@
+-- Valid tables (document 01, "The written form"): programme and timing such as some accepted payload gives, the reserved content flag clear; and
+-- each record, by its own bytes and its class, such as some payload gives it. What is not carried, and an entry that is not used, is 0.
+use mathlib.Core.Path.{_≡_}
+use mathlib.Core.Bool.{Bool, true, not}
+use mathlib.Core.List.{List, [], _∷_}
+use Prim.Native.Nat.{ℕ, suc, _+_, _-_, _*_, _/_, _%_}
+use lib.Dec.{leb, eqb}
+use lib.ListN.{length, getD}
+use Rattle.bits.specs.Language.{pick, both}
+use Rattle.oamd.specs.declared.Bed.{Bed}
+use Rattle.oamd.specs.declared.Programme.{Programme}
+use Rattle.oamd.specs.declared.Shares.{Shares}
+use Rattle.oamd.specs.declared.Update.{Update}
+use Rattle.oamd.specs.declared.Timing.{Timing}
+use Rattle.oamd.specs.declared.Place.{Place}
+use Rattle.oamd.specs.declared.Volume.{Volume}
+use Rattle.oamd.specs.declared.Zone.{Zone}
+use Rattle.oamd.specs.declared.Screen.{Screen}
+use Rattle.oamd.specs.declared.Scene.{Scene}
+use Rattle.oamd.specs.declared.Divergence.{Divergence}
+use Rattle.oamd.specs.declared.Precise.{Precise}
+use Rattle.oamd.specs.Tables.{mostObjects, mostBlocks, mostBeds}
+use Rattle.oamd.specs.Programme.{set?, clear?, hasBeds, hasIsf, hasDynamic, hasReserved, bedInstances, agrees, shares, classOf}
+use Rattle.oamd.specs.Meaning.{zeroDb, zeroZ}
+use Rattle.oamd.specs.Extended.{hasX, hasY, hasZ}
+use Rattle.oamd.specs.Record.{Record, carries}
+use Rattle.oamd.specs.Payload.{Tables}
+
+-- both tests hold
+infixr 30 _and_
+abbrev pub _and_ : Bool → Bool → Bool
+s and t = both s t
+
+-- a value from low to high where it is carried; elsewhere the default
+unfoldable pub ranged : Bool → ℕ → ℕ → ℕ → ℕ → Bool
+ranged carried low high default v = pick carried (leb low v and leb v high) (eqb v default)
+
+-- entries of an array, each by whether it is used: the first n are
+unfoldable pub entriesValid : {A : Type 0} → (Bool → A → Bool) → ℕ → List A → Bool
+entriesValid valid n [] = true
+entriesValid valid n (a ∷ rest) = valid (leb 1 n) a and entriesValid valid (n - 1) rest
+
+-- ---- the programme (5.5.3)
+
+-- an entry of the beds
+unfoldable pub bedValid : Bool → Bed → Bool
+bedValid used b =
+    ranged used 0 1 0 (b .lfeonly)
+    and ranged (used and clear? (b .lfeonly)) 0 1 0 (b .standard)
+    and ranged (used and clear? (b .lfeonly)) 0 (pick (set? (b .standard)) 1023 131071) 0 (b .assignment)
+
+unfoldable pub programmeValid : Programme → Bool
+programmeValid p =
+    ranged true 1 mostObjects 0 (p .objects)
+    and ranged true 0 1 0 (p .dynonly)
+    and ranged (set? (p .dynonly)) 0 1 0 (p .lfe)
+    and ranged (clear? (p .dynonly)) 0 15 0 (p .content)
+    and not (hasReserved (p .content))
+    and ranged (hasBeds (p .content)) 0 1 0 (p .distribute)
+    and ranged (hasBeds (p .content)) 0 1 0 (p .multiple)
+    and ranged (set? (p .multiple)) 0 7 0 (p .instances)
+    and eqb (p .bedcount) (bedInstances (p .content) (p .multiple) (p .instances))
+    and eqb (length (p .beds)) mostBeds
+    and entriesValid bedValid (p .bedcount) (p .beds)
+    and ranged (hasIsf (p .content)) 0 5 0 (p .isf)
+    and ranged (hasDynamic (p .content)) 0 158 0 (p .dynamics)
+    and agrees p
+
+-- ---- the timing (5.5.6, 5.5.7)
+
+-- one sample offset serves all blocks: what the first start leaves by 32
+abbrev pub firstStart : List Update → ℕ
+firstStart [] = 0
+firstStart (u ∷ us) = u .start .0
+
+unfoldable pub sampleOffset : Timing → ℕ
+sampleOffset t = firstStart (t .updates) % 32
+
+-- an entry of the updates, beside that offset
+unfoldable pub updateValid : ℕ → Bool → Update → Bool
+updateValid offset used u =
+    ranged used 0 2047 0 (u .start .0) and eqb (u .start .0 % 32) (pick used offset 0) and ranged used 0 2048 0 (u .ramp .0)
+
+unfoldable pub timingValid : Timing → Bool
+timingValid t =
+    ranged true 0 mostBlocks 0 (t .blocks)
+    and eqb (length (t .updates)) mostBlocks
+    and entriesValid (updateValid (sampleOffset t)) (t .blocks) (t .updates)
+
+-- ---- a record
+
+-- bytes 4 to 7
+unfoldable pub placeValid : Bool → Place → Bool
+placeValid sent p =
+    ranged sent 0 62 31 (p .x)
+    and ranged sent 0 62 31 (p .y)
+    and ranged sent (zeroZ - 15) (zeroZ + 15) zeroZ (p .z)
+    and ranged sent 0 17 0 (p .distance)
+
+-- bytes 8 to 10
+unfoldable pub volumeValid : Bool → Volume → Bool
+volumeValid sent v = ranged sent 0 31 0 (v .width) and ranged sent 0 31 0 (v .depth) and ranged sent 0 31 0 (v .height)
+
+-- bytes 11 and 12
+unfoldable pub zoneValid : Bool → Zone → Bool
+zoneValid sent z = ranged sent 0 5 0 (z .index) and ranged sent 0 1 1 (z .elevation)
+
+-- bytes 13 to 15
+unfoldable pub screenValid : Bool → Screen → Bool
+screenValid sent s = ranged sent 0 1 0 (s .used) and ranged (set? (s .used)) 0 7 0 (s .factor) and ranged (set? (s .used)) 0 3 0 (s .depth)
+
+-- bytes 0 to 16, of an object of a class: an inactive record, and what is sent of dynamic objects only, has the defaults (Tables 28 and 29)
+unfoldable pub sceneValid : ℕ → Scene → Bool
+sceneValid class s =
+    ranged true 0 1 0 (s .active)
+    and eqb (s .class) class
+    and ranged (set? (s .active)) 0 (zeroDb + 15) 0 (s .gain)
+    and ranged (set? (s .active)) 0 32 0 (s .priority)
+    and placeValid (carries s) (s .place)
+    and volumeValid (carries s) (s .volume)
+    and zoneValid (carries s) (s .zone)
+    and screenValid (carries s) (s .screen)
+    and ranged (carries s) 0 1 0 (s .snap)
+
+-- by object_div_mode: an index of 2 bits; nothing; a code of 6 bits, 0 reserved (5.5.14)
+abbrev pub leastDivergence : ℕ → ℕ
+leastDivergence mode = getD (0 ∷ 0 ∷ 1 ∷ []) mode 0
+
+abbrev pub mostDivergence : ℕ → ℕ
+mostDivergence mode = getD (3 ∷ 0 ∷ 63 ∷ []) mode 0
+
+-- bytes 17 to 19
+unfoldable pub divergenceValid : Bool → Divergence → Bool
+divergenceValid sent d =
+    ranged sent 0 1 0 (d .used)
+    and ranged (set? (d .used)) 0 2 0 (d .mode)
+    and ranged (set? (d .used)) (leastDivergence (d .mode)) (mostDivergence (d .mode)) 0 (d .value)
+
+-- bytes 20 to 23
+unfoldable pub preciseValid : Bool → Precise → Bool
+preciseValid sent p =
+    ranged sent 0 7 0 (p .presence)
+    and ranged (hasX (p .presence)) 0 3 0 (p .x)
+    and ranged (hasY (p .presence)) 0 3 0 (p .y)
+    and ranged (hasZ (p .presence)) 0 3 0 (p .z)
+
+unfoldable pub recordValid : ℕ → Record → Bool
+recordValid class r =
+    sceneValid class (r .scene) and divergenceValid (carries (r .scene)) (r .divergence) and preciseValid (carries (r .scene)) (r .precise)
+
+-- the index of the first bad record, where the indices count from i; behind the last where there is none
+unfoldable pub firstBad : Shares → ℕ → ℕ → List Record → ℕ
+firstBad s blocks i [] = i
+firstBad s blocks i (r ∷ rs) = pick (recordValid (classOf s (i / blocks)) r) (firstBad s blocks (suc i) rs) i
+
+-- ---- the tables
+
+-- the records that a programme and a timing ask for
+abbrev pub recordCount : Programme → Timing → ℕ
+recordCount p t = p .objects * t .blocks
+
+pub record Valid (t : Tables) : Type 0 where
+  pub programme : programmeValid (t .programme) ≡ true
+  pub timing : timingValid (t .timing) ≡ true
+  pub count : length (t .records) ≡ recordCount (t .programme) (t .timing)
+  pub records : firstBad (shares (t .programme)) (t .timing .blocks) 0 (t .records) ≡ recordCount (t .programme) (t .timing)
