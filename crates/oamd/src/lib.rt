@@ -2,16 +2,16 @@
 use units::SampleCount;
 
 mod tables; // tables.rt: the standard's tables
-mod tests; // tests.rt: a flag of an array of flags, and an element's kind
+mod choices; // choices.rt: a flag of an array of flags, and an element's kind
 
+pub use choices::both;
+pub use choices::flag;
+pub use choices::kind_of;
 pub use tables::bed_labels;
 pub use tables::isf_objects;
 pub use tables::ramp_code;
 pub use tables::ramp_duration;
 pub use tables::sample_offset;
-pub use tests::both;
-pub use tests::flag;
-pub use tests::kind_of;
 
 // One bed of the program assignment, as carried (5.5.3).
 pub struct Bed {

@@ -6,8 +6,8 @@ use native.Mathlib.Nat.{div-eq-of-lt}
 use native.Mathlib.Omega.{arith}
 use lib.Pow.{pow-mono}
 use borrow.Author.Needs.{needs}
-use Rattle.oamd.proofs.tests.flag.Statement.{statement}
-use Rattle.oamd.proofs.tests.flag.Tie as tie
+use Rattle.oamd.proofs.choices.flag.Statement.{statement}
+use Rattle.oamd.proofs.choices.flag.Tie as tie
 
 beyond : (v k : ℕ) → v < 4294967296 → 32 ≤ k → v / 2 ^ k ≡ 0
 beyond v k h l = let m : 2 ^ 32 ≤ 2 ^ k = pow-mono l in div-eq-of-lt (omega arith)

@@ -1,7 +1,7 @@
 use borrow.Author.Tests.{eq-eqb, ne-eqb}
 use Rattle.oamd.specs.Element.{kind}
-use Rattle.oamd.proofs.tests.kind_of.Statement.{statement}
-use Rattle.oamd.proofs.tests.kind_of.Tie as tie
+use Rattle.oamd.proofs.choices.kind_of.Statement.{statement}
+use Rattle.oamd.proofs.choices.kind_of.Tie as tie
 
 returns : tie.Need-returns
 unfolding kind
