@@ -9,3 +9,5 @@
 pub mod check;
 pub mod gen;
 pub mod plain;
+#[cfg(feature = "proved")]
+pub mod proved;
