@@ -32,10 +32,15 @@ impl Store {
     }
 }
 
-/// Nanoseconds of one pass.
-fn pass(store: &Store, buffer: &mut [u8], mut read: impl FnMut(&[u8], &mut [u8])) -> f64 {
+/// Nanoseconds of one pass over some of the payloads.
+fn pass(
+    store: &Store,
+    spans: &[(usize, usize)],
+    buffer: &mut [u8],
+    read: impl Fn(&[u8], &mut [u8]),
+) -> f64 {
     let start = Instant::now();
-    for (from, to) in &store.spans {
+    for (from, to) in spans {
         read(black_box(&store.bytes[*from..*to]), buffer);
     }
     start.elapsed().as_nanos() as f64
@@ -49,51 +54,53 @@ fn by_plain(payload: &[u8], buffer: &mut [u8]) {
     black_box(plain::read(payload, buffer));
 }
 
-/// The times of all rounds, in order of size.
+/// Best and median times of both, each the sum over the parts of the file.
+#[derive(Default)]
 struct Times {
-    proved: Vec<f64>,
-    plain: Vec<f64>,
+    best: (f64, f64),
+    median: (f64, f64),
 }
 
+/// Payloads in one part of the file: a part takes less time than a slice of the scheduler, so that a part's best time was not interrupted.
+const PART: usize = 50;
+
 impl Times {
-    /// Rounds of one pass each by turns; every second round begins with the other.
+    /// Each part is read by turns, one pass each; every second round begins with the other reader.
     fn new(store: &Store, rounds: usize) -> Self {
         let mut buffer = vec![0; MAX_RECORD_BYTES];
-        let mut times = Self {
-            proved: vec![],
-            plain: vec![],
-        };
+        let parts: Vec<_> = store.spans.chunks(PART).collect();
+        let mut times = vec![(vec![], vec![]); parts.len()];
         for round in 0..rounds {
-            if round % 2 == 0 {
-                times.proved.push(pass(store, &mut buffer, by_proved));
-            }
-            times.plain.push(pass(store, &mut buffer, by_plain));
-            if round % 2 != 0 {
-                times.proved.push(pass(store, &mut buffer, by_proved));
+            for (part, (proved, plain)) in parts.iter().zip(&mut times) {
+                if round % 2 == 0 {
+                    proved.push(pass(store, part, &mut buffer, by_proved));
+                }
+                plain.push(pass(store, part, &mut buffer, by_plain));
+                if round % 2 != 0 {
+                    proved.push(pass(store, part, &mut buffer, by_proved));
+                }
             }
         }
-        times.proved.sort_by(f64::total_cmp);
-        times.plain.sort_by(f64::total_cmp);
-        times
-    }
-
-    fn best(&self) -> (f64, f64) {
-        (self.proved[0], self.plain[0])
-    }
-
-    fn median(&self) -> (f64, f64) {
-        let middle = self.proved.len() / 2;
-        (self.proved[middle], self.plain[middle])
+        let mut sum = Self::default();
+        for (proved, plain) in &mut times {
+            proved.sort_by(f64::total_cmp);
+            plain.sort_by(f64::total_cmp);
+            sum.best.0 += proved[0];
+            sum.best.1 += plain[0];
+            sum.median.0 += proved[rounds / 2];
+            sum.median.1 += plain[rounds / 2];
+        }
+        sum
     }
 }
 
 /// One line of a scaling table.
 fn line(name: &str, payloads: &[Vec<u8>], unit: f64, unit_name: &str, rounds: usize) {
     let store = Store::new(payloads);
-    let repeated = (2000 / payloads.len()).max(1);
+    let repeated = (500 / payloads.len()).max(1);
     let spans = store.spans.repeat(repeated);
     let store = Store { spans, ..store };
-    let (proved, plain) = Times::new(&store, rounds).best();
+    let (proved, plain) = Times::new(&store, rounds).best;
     let count = store.spans.len() as f64;
     let bytes = store.bytes.len() / payloads.len();
     println!(
@@ -211,10 +218,10 @@ fn main() {
         store.bytes.len(),
         accepted.len()
     );
-    println!("both at opt-level 3 for x86-64; {rounds} rounds each, by turns; buffers are not cleared between calls");
+    println!("both at opt-level 3 for x86-64; {rounds} rounds each, by turns in parts of {PART} payloads; best and median are sums over the parts; buffers are not cleared between calls");
     let times = Times::new(&store, rounds);
     let megabytes = store.bytes.len() as f64 / 1e6;
-    for (name, (proved, plain)) in [("best", times.best()), ("median", times.median())] {
+    for (name, (proved, plain)) in [("best", times.best), ("median", times.median)] {
         for (who, ns) in [("proved", proved), ("plain", plain)] {
             println!(
                 "{name:>6} {who:>6}: {:8.1} ns a payload, {:10.0} payloads/s, {:7.1} MB/s",
@@ -227,6 +234,6 @@ fn main() {
     }
     by_length(&accepted, rounds / 2);
     by_objects(rounds / 2);
-    let (proved, plain) = times.best();
+    let (proved, plain) = times.best;
     println!("\nread ratio {:.2}, write ratio none", proved / plain);
 }
