@@ -14,6 +14,7 @@ pub use tables::ramp_duration;
 pub use tables::sample_offset;
 
 // One bed of the program assignment, as carried (5.5.3).
+#[repr(C)]
 pub struct Bed {
     pub assignment: u32,
     pub lfeonly: u8,
@@ -21,6 +22,7 @@ pub struct Bed {
 }
 
 // The programme: the object count, and each field of the program assignment as carried; what is not carried is 0 (5.5.3).
+#[repr(C)]
 pub struct Programme {
     pub objects: u8,
     pub dynonly: u8,
@@ -43,12 +45,14 @@ pub struct Shares {
 }
 
 // When an update starts, and how long it takes to take hold.
+#[repr(C)]
 pub struct Update {
     pub start: SampleCount,
     pub ramp: SampleCount,
 }
 
 // The timing of each block; entries past the last block are 0.
+#[repr(C)]
 pub struct Timing {
     pub blocks: u8,
     pub updates: [Update; 8],
@@ -204,6 +208,7 @@ pub enum Kind {
 }
 
 // What a read answers, beside the records. On a refusal all but refusal and place is 0.
+#[repr(C)]
 pub struct ReadAnswer {
     pub place: u64,
     pub refusal: u8,

@@ -10,6 +10,7 @@ pub struct BitPos(u32);
 pub struct ByteCount(u32);
 
 // A number of audio samples.
+#[repr(C)]
 pub struct SampleCount(u16);
 
 impl BitPos {

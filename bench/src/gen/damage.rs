@@ -1,0 +1,254 @@
+//! Cases: payloads as composed, with one fault, or damaged afterwards.
+
+use super::draft::Draft;
+use super::marks::{Group, Marks};
+use super::payload::Whole;
+use super::{Case, Fault, Gen, Tables};
+
+const FAULTS: [Fault; 13] = [
+    Fault::Version,
+    Fault::Counts,
+    Fault::Isf,
+    Fault::OffsetCode,
+    Fault::Zone,
+    Fault::SizeIndex,
+    Fault::DivergenceMode,
+    Fault::DivergenceCode,
+    Fault::TwiceObject,
+    Fault::TwiceExtended,
+    Fault::Early,
+    Fault::ShortElement,
+    Fault::LongSize,
+];
+
+/// What is said of a payload without faults that ends with `bytes`.
+fn cut(draft: &Draft, bytes: &[u8]) -> (u32, usize) {
+    match draft.first_past(8 * bytes.len()) {
+        Some(place) => (2, place),
+        None => (0, 0),
+    }
+}
+
+impl Gen {
+    /// The next payload.
+    pub fn case(&mut self) -> Case {
+        self.marks = Marks::default();
+        self.fault = None;
+        match self.rng.below(100) {
+            0..=39 => self.valid(),
+            40..=62 => self.faulty(),
+            63..=72 => self.truncated(),
+            73..=80 => self.flipped(),
+            81..=84 => self.appended(),
+            85..=91 => self.noisy(),
+            92..=95 => self.random(),
+            96..=97 => self.about_the_limit(),
+            _ => self.spoilt(),
+        }
+    }
+
+    fn valid(&mut self) -> Case {
+        let whole = self.whole();
+        let bytes = self.bytes(&whole.draft);
+        self.marks.set(Group::Trailing, 0);
+        self.finish("valid", bytes, (0, 0), whole.tables)
+    }
+
+    fn faulty(&mut self) -> Case {
+        let fault = self.rng.pick(&FAULTS);
+        let whole = self.faulty_whole(fault);
+        let mut bytes = self.bytes(&whole.draft);
+        let mut expect = whole.draft.fault.unwrap_or((0, 0));
+        if fault == Fault::LongSize && self.rng.chance(50) {
+            // Cut about the size, whose groups and flags are fields as well.
+            bytes.truncate(bytes.len().saturating_sub(self.rng.below(14)));
+            expect = cut(&whole.draft, &bytes);
+        }
+        let kind = match fault {
+            Fault::Version => "version",
+            Fault::Counts => "counts",
+            Fault::Isf => "reserved ISF",
+            Fault::OffsetCode => "reserved offset",
+            Fault::Zone => "reserved zone",
+            Fault::SizeIndex => "reserved size",
+            Fault::DivergenceMode => "reserved mode",
+            Fault::DivergenceCode => "reserved code",
+            Fault::TwiceObject | Fault::TwiceExtended => "twice",
+            Fault::Early => "early extended",
+            Fault::ShortElement => "short element",
+            Fault::LongSize => "long size",
+        };
+        self.finish(kind, bytes, expect, whole.tables)
+    }
+
+    fn faulty_whole(&mut self, fault: Fault) -> Whole {
+        self.fault = Some(fault);
+        let whole = self.whole();
+        self.fault = None;
+        whole
+    }
+
+    /// Cut after any byte: the first field that no longer fits is refused.
+    fn truncated(&mut self) -> Case {
+        let whole = self.whole();
+        let mut bytes = self.bytes(&whole.draft);
+        let most = if self.rng.chance(30) { 8 } else { bytes.len() };
+        bytes.truncate(self.rng.below(most.min(bytes.len()) + 1));
+        let expect = cut(&whole.draft, &bytes);
+        self.finish("truncated", bytes, expect, whole.tables)
+    }
+
+    fn flipped(&mut self) -> Case {
+        let whole = self.whole();
+        let mut bytes = self.bytes(&whole.draft);
+        self.flip(&mut bytes);
+        self.finish_open("flipped", bytes, whole.tables.records.len())
+    }
+
+    /// Flips a few bits, half of them near the start.
+    fn flip(&mut self, bytes: &mut [u8]) {
+        for _ in 0..self.rng.within(1, 4) {
+            let limit = if self.rng.chance(50) { 16 } else { bytes.len() };
+            let at = self.rng.below(limit.min(bytes.len()));
+            bytes[at] ^= 1 << self.rng.below(8);
+        }
+    }
+
+    fn appended(&mut self) -> Case {
+        let whole = self.whole();
+        let mut bytes = self.bytes(&whole.draft);
+        for _ in 0..self.rng.within(1, 40) {
+            bytes.push(self.rng.byte());
+        }
+        self.marks.set(Group::Trailing, 1);
+        self.finish("appended", bytes, (0, 0), whole.tables)
+    }
+
+    /// A good header, then elements of arbitrary content.
+    fn noisy(&mut self) -> Case {
+        let programme = self.programme(true);
+        let mut draft = Draft::default();
+        self.header(&mut draft, &programme);
+        let alternate = self.rng.chance(20);
+        draft.flag(alternate);
+        let count = self.rng.within(1, 4);
+        draft.field(4, count);
+        for index in 0..count {
+            let ids = [[1, 1, 1, 5], [5, 5, 1, 2]][index.min(1)];
+            draft.field(4, self.rng.pick(&ids));
+            let most = 4 + 12 * usize::from(programme.objects);
+            let bytes = self.rng.within(1, most);
+            draft.size(bytes);
+            let mut width = 8 * bytes;
+            if alternate {
+                draft.number(4, usize::from(self.rng.chance(10)));
+                width -= 4;
+            }
+            for _ in 0..width {
+                draft.number(1, self.rng.below(2));
+            }
+        }
+        let bytes = self.bytes(&draft);
+        let needed = 24 * usize::from(programme.objects) * self.rng.within(1, 8);
+        self.finish_open("noisy", bytes, needed)
+    }
+
+    fn random(&mut self) -> Case {
+        let most = self.rng.pick(&[4, 20, 200, 4200]);
+        let length = self.rng.below(most);
+        let mut bytes: Vec<u8> = (0..length).map(|_| self.rng.byte()).collect();
+        if let Some(first) = bytes.first_mut() {
+            *first &= self.rng.pick(&[0xFF, 0x3F, 0x3F, 0x07]);
+        }
+        let needed = self.rng.below(30_720);
+        self.finish_open("random", bytes, needed)
+    }
+
+    /// A good payload of 4,090 to 4,100 bytes, filled up by an unknown element,
+    /// by bytes after the last element, or by both.
+    fn about_the_limit(&mut self) -> Case {
+        let length = self.rng.within(4090, 4100);
+        self.fill = self.rng.chance(60).then_some(length);
+        let whole = self.whole();
+        self.fill = None;
+        let mut bytes = self.bytes(&whole.draft);
+        let trailing = bytes.len() < length;
+        self.marks.set(Group::Trailing, usize::from(trailing));
+        while bytes.len() < length {
+            bytes.push(self.rng.byte());
+        }
+        if self.rng.chance(10) {
+            bytes.truncate(bytes.len() - 1);
+            return self.finish_open("about 4,096", bytes, whole.tables.records.len());
+        }
+        self.finish("about 4,096", bytes, (0, 0), whole.tables)
+    }
+
+    /// A fault, then a flip, a cut, or both.
+    fn spoilt(&mut self) -> Case {
+        let fault = self.rng.pick(&FAULTS);
+        let whole = self.faulty_whole(fault);
+        let mut bytes = self.bytes(&whole.draft);
+        if self.rng.chance(60) {
+            self.flip(&mut bytes);
+        }
+        if self.rng.chance(60) {
+            bytes.truncate(self.rng.below(bytes.len()));
+        }
+        self.finish_open("spoilt", bytes, whole.tables.records.len())
+    }
+
+    /// The bits as bytes, the last one filled with zeros or ones.
+    fn bytes(&mut self, draft: &Draft) -> Vec<u8> {
+        draft.bytes(self.rng.chance(50))
+    }
+
+    /// A case whose answer is not known.
+    fn finish_open(&mut self, kind: &'static str, payload: Vec<u8>, needed: usize) -> Case {
+        let length = payload.len();
+        Case {
+            kind,
+            payload,
+            room: self.room(needed),
+            expect: (length > 4096).then_some((1, length as u64)),
+            tables: None,
+            marks: Marks::default(),
+        }
+    }
+
+    /// A case whose answer is known but for the length and the room.
+    fn finish(
+        &mut self,
+        kind: &'static str,
+        payload: Vec<u8>,
+        expect: (u32, usize),
+        tables: Tables,
+    ) -> Case {
+        let needed = tables.records.len();
+        let room = self.room(needed);
+        let expect = match expect {
+            _ if payload.len() > 4096 => (1, payload.len()),
+            (0, _) if room < needed => (9, needed),
+            other => other,
+        };
+        Case {
+            kind,
+            payload,
+            room,
+            expect: Some((expect.0, expect.1 as u64)),
+            tables: Some(tables),
+            marks: self.marks,
+        }
+    }
+
+    /// Exact, ample, longer, one short, or none.
+    fn room(&mut self, needed: usize) -> usize {
+        match self.rng.below(20) {
+            0..=6 => needed,
+            7..=12 => 30_720,
+            13..=16 => needed + self.rng.within(1, 100),
+            17..=18 => needed.saturating_sub(1),
+            _ => 0,
+        }
+    }
+}

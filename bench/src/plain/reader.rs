@@ -1,0 +1,134 @@
+//! The payload and its elements (5.5.1, 5.5.2, 5.5.4).
+
+use super::assignment::program_assignment;
+use super::bits::{Bits, Refusal};
+use super::extended::extended_object_element;
+use super::object::object_element;
+use super::record::Record;
+use super::{needed, refusal, Programme, Timing, MAX_PAYLOAD};
+
+/// What has been read so far, the records left out.
+pub struct Tables {
+    pub programme: Programme,
+    pub timing: Timing,
+    pub unknown: u32,
+}
+
+/// Reads a payload into `records`, which has room for those of every payload;
+/// `room` is that of the lent buffer.
+pub fn payload(bytes: &[u8], room: usize, records: &mut [Record]) -> Result<Tables, Refusal> {
+    if bytes.len() > MAX_PAYLOAD {
+        return Err(Refusal::new(refusal::TOO_LONG, bytes.len()));
+    }
+    let mut bits = Bits::new(bytes);
+    if bits.grown(2, 3)? != 0 {
+        return Err(Refusal::new(refusal::VERSION, 0));
+    }
+    let objects = bits.grown(5, 7)? + 1;
+    let programme = program_assignment(&mut bits, objects)?;
+    let tables = elements(&mut bits, programme, records)?;
+    let needed = needed(&tables.programme, &tables.timing);
+    if room < needed {
+        return Err(Refusal::new(refusal::ROOM, needed));
+    }
+    Ok(tables)
+}
+
+fn elements(
+    bits: &mut Bits,
+    programme: Programme,
+    records: &mut [Record],
+) -> Result<Tables, Refusal> {
+    let mut tables = Tables {
+        programme,
+        timing: Timing::default(),
+        unknown: 0,
+    };
+    let mut extended = false;
+    let alternate = bits.flag()?;
+    for _ in 0..bits.grown(4, 5)? {
+        let place = bits.place();
+        let (kind, mut body) = element(bits, alternate)?;
+        let blocks = usize::from(tables.timing.blocks);
+        match kind {
+            Kind::Object if blocks != 0 => return Err(Refusal::new(refusal::TWICE, place)),
+            Kind::Extended if extended => return Err(Refusal::new(refusal::TWICE, place)),
+            Kind::Extended if blocks == 0 => return Err(Refusal::new(refusal::ORDER, place)),
+            Kind::Object => tables.timing = object_element(&mut body, &programme, records)?,
+            Kind::Extended => {
+                extended = true;
+                let count = usize::from(programme.objects) * blocks;
+                extended_object_element(&mut body, &mut records[..count])?;
+            }
+            Kind::Unknown => tables.unknown += 1,
+        }
+    }
+    Ok(tables)
+}
+
+/// The kind of an element (point 16).
+enum Kind {
+    Object,
+    Extended,
+    Unknown,
+}
+
+/// oa_element_md up to its fields: the kind, and the body after the discard
+/// flag. `bits` stands after the element afterwards.
+fn element<'a>(bits: &mut Bits<'a>, alternate: bool) -> Result<(Kind, Bits<'a>), Refusal> {
+    let id = bits.take(4)?;
+    let size_place = bits.place();
+    let size = element_size(bits)?;
+    let Some(mut body) = bits.part(size) else {
+        return Err(Refusal::new(refusal::PAST_PAYLOAD, size_place));
+    };
+    // The size counts from here (5.6.4.3): one byte holds both fields.
+    let alternate_id = if alternate { body.take(4)? } else { 0 };
+    body.flag()?;
+    let kind = match (id, alternate_id) {
+        (1, 0) => Kind::Object,
+        (5, 0) => Kind::Extended,
+        _ => Kind::Unknown,
+    };
+    Ok((kind, body))
+}
+
+/// oa_element_size in bytes. variable_bits_max(4, 4) as printed reads up to five
+/// groups; the flag after a fifth is read and ignored.
+pub fn element_size(bits: &mut Bits) -> Result<usize, Refusal> {
+    let mut value = bits.take(4)? as usize;
+    let mut more = bits.flag()?;
+    for _ in 0..4 {
+        if !more {
+            break;
+        }
+        value = value * 16 + 16 + bits.take(4)? as usize;
+        more = bits.flag()?;
+    }
+    Ok(value + 1)
+}
+
+#[cfg(test)]
+mod tests {
+    use super::*;
+
+    /// "Worked by hand": size groups as pairs of digit and flag.
+    #[test]
+    fn size_groups() {
+        let cases: [(&[(u32, u32)], usize); 6] = [
+            (&[(0, 0)], 0),
+            (&[(15, 0)], 15),
+            (&[(0, 1), (0, 0)], 16),
+            (&[(15, 1), (15, 0)], 271),
+            (&[(0, 1), (0, 1), (0, 0)], 272),
+            (&[(0, 1), (0, 1), (0, 1), (0, 1), (0, 1)], 69_904),
+        ];
+        for (groups, value) in cases {
+            let number = groups.iter().fold(0, |n, (g, f)| n << 5 | g << 1 | f);
+            let bytes = (number << (32 - 5 * groups.len())).to_be_bytes();
+            let mut bits = Bits::new(&bytes);
+            assert_eq!(element_size(&mut bits), Ok(value + 1));
+            assert_eq!(bits.place(), 5 * groups.len());
+        }
+    }
+}

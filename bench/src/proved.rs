@@ -1,0 +1,146 @@
+//! The proved library through its C interface (include/skriemelt.h). The structs mirror the header's; host/test_layout.c holds the header to the
+//! numbers that are asserted here.
+
+use crate::plain;
+
+/// skriemelt_bed.
+#[repr(C)]
+#[derive(Clone, Copy, Debug)]
+pub struct Bed {
+    pub assignment: u32,
+    pub lfeonly: u8,
+    pub standard: u8,
+}
+
+/// skriemelt_programme.
+#[repr(C)]
+#[derive(Clone, Copy, Debug)]
+pub struct Programme {
+    pub objects: u8,
+    pub dynonly: u8,
+    pub lfe: u8,
+    pub content: u8,
+    pub distribute: u8,
+    pub multiple: u8,
+    pub instances: u8,
+    pub bedcount: u8,
+    pub isf: u8,
+    pub dynamics: u8,
+    pub beds: [Bed; 9],
+}
+
+/// skriemelt_update.
+#[repr(C)]
+#[derive(Clone, Copy, Debug)]
+pub struct Update {
+    pub start: u16,
+    pub ramp: u16,
+}
+
+/// skriemelt_timing.
+#[repr(C)]
+#[derive(Clone, Copy, Debug)]
+pub struct Timing {
+    pub blocks: u8,
+    pub updates: [Update; 8],
+}
+
+/// skriemelt_read_answer.
+#[repr(C)]
+#[derive(Clone, Copy, Debug)]
+pub struct ReadAnswer {
+    pub place: u64,
+    pub refusal: u8,
+    pub unknown: u8,
+    pub programme: Programme,
+    pub timing: Timing,
+}
+
+const _: () = {
+    use core::mem::{align_of, offset_of, size_of};
+    assert!(size_of::<Bed>() == 8 && align_of::<Bed>() == 4);
+    assert!(offset_of!(Bed, assignment) == 0 && offset_of!(Bed, lfeonly) == 4);
+    assert!(offset_of!(Bed, standard) == 5);
+    assert!(size_of::<Programme>() == 84 && align_of::<Programme>() == 4);
+    assert!(offset_of!(Programme, objects) == 0 && offset_of!(Programme, dynonly) == 1);
+    assert!(offset_of!(Programme, lfe) == 2 && offset_of!(Programme, content) == 3);
+    assert!(offset_of!(Programme, distribute) == 4 && offset_of!(Programme, multiple) == 5);
+    assert!(offset_of!(Programme, instances) == 6 && offset_of!(Programme, bedcount) == 7);
+    assert!(offset_of!(Programme, isf) == 8 && offset_of!(Programme, dynamics) == 9);
+    assert!(offset_of!(Programme, beds) == 12);
+    assert!(size_of::<Update>() == 4 && align_of::<Update>() == 2);
+    assert!(offset_of!(Update, start) == 0 && offset_of!(Update, ramp) == 2);
+    assert!(size_of::<Timing>() == 34 && align_of::<Timing>() == 2);
+    assert!(offset_of!(Timing, blocks) == 0 && offset_of!(Timing, updates) == 2);
+    assert!(size_of::<ReadAnswer>() == 136 && align_of::<ReadAnswer>() == 8);
+    assert!(offset_of!(ReadAnswer, place) == 0 && offset_of!(ReadAnswer, refusal) == 8);
+    assert!(offset_of!(ReadAnswer, unknown) == 9 && offset_of!(ReadAnswer, programme) == 12);
+    assert!(offset_of!(ReadAnswer, timing) == 96);
+};
+
+#[link(name = "host", kind = "static")]
+extern "C" {
+    fn skriemelt_version() -> u32;
+    fn skriemelt_read(
+        payload: *const u8,
+        payload_bytes: usize,
+        records: *mut u8,
+        records_bytes: usize,
+    ) -> ReadAnswer;
+}
+
+/// The version of the library.
+pub fn version() -> u32 {
+    // SAFETY: it takes nothing and returns a number.
+    unsafe { skriemelt_version() }
+}
+
+/// Reads one payload with the proved library.
+#[inline]
+pub fn read(payload: &[u8], records: &mut [u8]) -> ReadAnswer {
+    // SAFETY: both slices are valid for their lengths and do not overlap.
+    unsafe {
+        skriemelt_read(
+            payload.as_ptr(),
+            payload.len(),
+            records.as_mut_ptr(),
+            records.len(),
+        )
+    }
+}
+
+impl ReadAnswer {
+    /// The same answer in the plain reader's types, every field of it.
+    pub fn plain(&self) -> plain::Answer {
+        let p = &self.programme;
+        plain::Answer {
+            refusal: self.refusal.into(),
+            place: self.place,
+            programme: plain::Programme {
+                objects: p.objects,
+                dynonly: p.dynonly,
+                lfe: p.lfe,
+                content: p.content,
+                distribute: p.distribute,
+                multiple: p.multiple,
+                instances: p.instances,
+                bedcount: p.bedcount,
+                beds: p.beds.map(|b| plain::Bed {
+                    assignment: b.assignment,
+                    lfeonly: b.lfeonly,
+                    standard: b.standard,
+                }),
+                isf: p.isf,
+                dynamics: p.dynamics,
+            },
+            timing: plain::Timing {
+                blocks: self.timing.blocks,
+                updates: self.timing.updates.map(|u| plain::Update {
+                    start: u.start,
+                    ramp: u.ramp,
+                }),
+            },
+            unknown: self.unknown.into(),
+        }
+    }
+}

@@ -1,0 +1,50 @@
+/* Sizes and offsets of what crosses the border, and what the names stand for. bench/src/proved.rs asserts the same numbers on the Rust side. */
+#include "test.h"
+
+#define SIZE(type, n) check(sizeof(type) == (n), "sizeof " #type)
+#define AT(type, field, n) check(offsetof(type, field) == (n), "offset of " #type "." #field)
+
+static void sizes(void)
+{
+    SIZE(skriemelt_bed, 8);
+    SIZE(skriemelt_programme, 84);
+    SIZE(skriemelt_update, 4);
+    SIZE(skriemelt_timing, 34);
+    SIZE(skriemelt_read_answer, 136);
+}
+
+static void offsets(void)
+{
+    AT(skriemelt_bed, assignment, 0);
+    AT(skriemelt_bed, lfeonly, 4);
+    AT(skriemelt_bed, standard, 5);
+    AT(skriemelt_programme, objects, 0);
+    AT(skriemelt_programme, dynonly, 1);
+    AT(skriemelt_programme, lfe, 2);
+    AT(skriemelt_programme, content, 3);
+    AT(skriemelt_programme, distribute, 4);
+    AT(skriemelt_programme, multiple, 5);
+    AT(skriemelt_programme, instances, 6);
+    AT(skriemelt_programme, bedcount, 7);
+    AT(skriemelt_programme, isf, 8);
+    AT(skriemelt_programme, dynamics, 9);
+    AT(skriemelt_programme, beds, 12);
+    AT(skriemelt_update, start, 0);
+    AT(skriemelt_update, ramp, 2);
+    AT(skriemelt_timing, blocks, 0);
+    AT(skriemelt_timing, updates, 2);
+    AT(skriemelt_read_answer, place, 0);
+    AT(skriemelt_read_answer, refusal, 8);
+    AT(skriemelt_read_answer, unknown, 9);
+    AT(skriemelt_read_answer, programme, 12);
+    AT(skriemelt_read_answer, timing, 96);
+}
+
+int main(void)
+{
+    sizes();
+    offsets();
+    check(skriemelt_version() == SKRIEMELT_VERSION, "version");
+    check(SKRIEMELT_RECORD_STRIDE == SKRIEMELT_RECORD_PRECISE_Z + 1, "a record ends with the code of z");
+    return finish("test_layout");
+}

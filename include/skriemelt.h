@@ -1,0 +1,149 @@
+/*
+ * skriemelt.h: reading of object audio metadata (OAMD, ETSI TS 103 420 V1.2.1) from C and C++.
+ *
+ * The library is libhost.a (`rt staticlib host`). It needs memcpy and memset of the C library and nothing else: it has no state, takes no memory,
+ * opens nothing and never ends the program. Link with -lskriemelt behind `make -C host install`, or with target/staticlib/libhost.a.
+ *
+ * Slices. A slice is passed as two arguments: a pointer to its first byte, and its length in bytes. A pointer with length 0 may be NULL. A pointer with a
+ * length above 0 must point to that many bytes; it needs no alignment. Bytes of every sort are fine in a payload, and every length is fine for both.
+ * The payload and the record buffer must not overlap.
+ *
+ * Refusals. A refused call leaves every byte of the record buffer as it came, and all fields of its answer but refusal and place are 0.
+ * An accepted call writes the first 24 * objects * blocks bytes of the buffer and no others.
+ *
+ * Threads. Every call works on its arguments and its own stack (about 32 kB) alone. Calls may run at once in several threads, as long as no two are
+ * lent the same record buffer; one payload may be read by several.
+ *
+ * Bytes between the fields of an answer (padding) carry nothing: compare field by field.
+ */
+#ifndef SKRIEMELT_H
+#define SKRIEMELT_H
+
+#include <stddef.h>
+#include <stdint.h>
+
+#ifdef __cplusplus
+extern "C" {
+#endif
+
+/* The version of this interface: a thousand times the major number, plus the minor. */
+#define SKRIEMELT_VERSION 1000
+
+/* Limits. */
+#define SKRIEMELT_MOST_PAYLOAD_BYTES 4096 /* a longer payload is refused with 1 */
+#define SKRIEMELT_MOST_RECORD_BYTES 30720 /* a buffer of this length holds the records of every payload */
+#define SKRIEMELT_MOST_OBJECTS 159
+#define SKRIEMELT_MOST_BLOCKS 8
+#define SKRIEMELT_MOST_BEDS 9
+#define SKRIEMELT_MOST_UNKNOWN 46
+
+/* Refusals. Where it says "bit", the place is a bit position counted from 0 at the top bit of the payload's first byte. */
+#define SKRIEMELT_ACCEPTED 0           /* place 0 */
+#define SKRIEMELT_TOO_LONG 1           /* the payload is longer than 4,096 bytes; place: its length in bytes */
+#define SKRIEMELT_PAST_PAYLOAD 2       /* a field, or an element's declared size, passes the payload's end; place: first bit of that field or size */
+#define SKRIEMELT_OTHER_VERSION 3      /* the version is not 0; place 0 */
+#define SKRIEMELT_COUNTS_DISAGREE 4    /* object counts disagree; place: first bit behind the program assignment */
+#define SKRIEMELT_RESERVED_VALUE 5     /* a value that the standard marks reserved; place: first bit of that field */
+#define SKRIEMELT_SECOND_ELEMENT 6     /* a second known element of the same id; place: first bit of its id */
+#define SKRIEMELT_EXTENDED_EARLY 7     /* an extended object element before any object element; place: first bit of its id */
+#define SKRIEMELT_PAST_ELEMENT 8       /* a field of a known element passes the element's declared end; place: first bit of that field */
+#define SKRIEMELT_NO_ROOM 9            /* the record buffer is too short; place: bytes needed */
+/* 10 (tables not valid) and 11 (the written form is too long) are kept for writing, which this version does not have. */
+
+/*
+ * Records. One record for each object and block, objects outermost: the record of object o and block b begins at byte
+ * SKRIEMELT_RECORD_STRIDE * (o * blocks + b) of the buffer. A record's bytes:
+ */
+#define SKRIEMELT_RECORD_STRIDE 24
+#define SKRIEMELT_RECORD_ACTIVE 0            /* 1 active, 0 not */
+#define SKRIEMELT_RECORD_CLASS 1             /* one of SKRIEMELT_CLASS_.. */
+#define SKRIEMELT_RECORD_GAIN 2              /* gain in dB plus 50, 1 to 65; 0 is minus infinity */
+#define SKRIEMELT_RECORD_PRIORITY 3          /* priority in 32nds, 0 to 32 */
+#define SKRIEMELT_RECORD_X 4                 /* x in 62nds, 0 to 62 */
+#define SKRIEMELT_RECORD_Y 5                 /* y in 62nds, 0 to 62 */
+#define SKRIEMELT_RECORD_Z 6                 /* z in 15ths with its sign, plus 64: 49 to 79 */
+#define SKRIEMELT_RECORD_DISTANCE 7          /* 0 not given, 1 infinity, else 2 + index of the standard's table */
+#define SKRIEMELT_RECORD_WIDTH 8             /* width in 31sts */
+#define SKRIEMELT_RECORD_DEPTH 9             /* depth in 31sts */
+#define SKRIEMELT_RECORD_HEIGHT 10           /* height in 31sts */
+#define SKRIEMELT_RECORD_ZONE 11             /* zone index, 0 to 5 */
+#define SKRIEMELT_RECORD_ELEVATION 12        /* elevation flag */
+#define SKRIEMELT_RECORD_SCREEN 13           /* screen flag */
+#define SKRIEMELT_RECORD_SCREEN_FACTOR 14    /* screen factor bits; 0 without the flag */
+#define SKRIEMELT_RECORD_SCREEN_DEPTH 15     /* depth index; 0 without the flag */
+#define SKRIEMELT_RECORD_SNAP 16             /* snap flag */
+#define SKRIEMELT_RECORD_DIVERGENCE 17       /* divergence flag */
+#define SKRIEMELT_RECORD_DIVERGENCE_MODE 18  /* divergence mode */
+#define SKRIEMELT_RECORD_DIVERGENCE_VALUE 19 /* the mode's table index or code */
+#define SKRIEMELT_RECORD_PRECISE 20          /* precise position: presence bits, as carried: 4 z, 2 y, 1 x */
+#define SKRIEMELT_RECORD_PRECISE_X 21        /* code of x */
+#define SKRIEMELT_RECORD_PRECISE_Y 22        /* code of y */
+#define SKRIEMELT_RECORD_PRECISE_Z 23        /* code of z */
+
+#define SKRIEMELT_CLASS_BED 0
+#define SKRIEMELT_CLASS_ISF 1
+#define SKRIEMELT_CLASS_DYNAMIC 2
+
+/* Bits of skriemelt_programme.content (content_description). */
+#define SKRIEMELT_CONTENT_BED 1
+#define SKRIEMELT_CONTENT_ISF 2
+#define SKRIEMELT_CONTENT_DYNAMIC 4
+#define SKRIEMELT_CONTENT_RESERVED 8
+
+/* One bed of the program assignment (5.5.3), as carried. */
+typedef struct skriemelt_bed {
+    uint32_t assignment; /* channel assignment flags, 10 bits (standard) or 17, index 0 the top bit; 0 for an LFE-only bed */
+    uint8_t lfeonly;     /* b_lfe_only */
+    uint8_t standard;    /* b_standard_chan_assign; 0 for an LFE-only bed */
+} skriemelt_bed;
+
+/* The object count, and each field of the program assignment as carried; what is not carried is 0. */
+typedef struct skriemelt_programme {
+    uint8_t objects;    /* object count, 1 to 159 */
+    uint8_t dynonly;    /* b_dyn_object_only_program */
+    uint8_t lfe;        /* b_lfe_present */
+    uint8_t content;    /* content_description: SKRIEMELT_CONTENT_.. */
+    uint8_t distribute; /* b_bed_chan_distribute */
+    uint8_t multiple;   /* b_multiple_bed_instances_present */
+    uint8_t instances;  /* num_bed_instances_bits, 0 to 7 */
+    uint8_t bedcount;   /* beds in use, 0 to 9 */
+    uint8_t isf;        /* intermediate_spatial_format_idx, 0 to 5 */
+    uint8_t dynamics;   /* num_dynamic_objects_bits with its extension added */
+    skriemelt_bed beds[SKRIEMELT_MOST_BEDS]; /* those from bedcount on are 0 */
+} skriemelt_programme;
+
+/* When an update starts, and how long it takes to take hold; both in samples. */
+typedef struct skriemelt_update {
+    uint16_t start; /* 0 to 2,047 */
+    uint16_t ramp;  /* 0 to 2,048 */
+} skriemelt_update;
+
+/* The timing of each block. */
+typedef struct skriemelt_timing {
+    uint8_t blocks; /* 1 to 8 with a known object element, 0 without */
+    skriemelt_update updates[SKRIEMELT_MOST_BLOCKS]; /* those from blocks on are 0 */
+} skriemelt_timing;
+
+/* What a read answers, beside the records. On a refusal all but refusal and place is 0. */
+typedef struct skriemelt_read_answer {
+    uint64_t place;  /* see the refusals above */
+    uint8_t refusal; /* SKRIEMELT_ACCEPTED to SKRIEMELT_NO_ROOM */
+    uint8_t unknown; /* number of unknown elements, 0 to 46 */
+    skriemelt_programme programme;
+    skriemelt_timing timing;
+} skriemelt_read_answer;
+
+/* The version of the library; it equals SKRIEMELT_VERSION of the header that belongs to it. */
+uint32_t skriemelt_version(void);
+
+/*
+ * Reads one payload, already taken out of its EMDF container. The buffer needs 24 * objects * blocks bytes, never more than
+ * SKRIEMELT_MOST_RECORD_BYTES; it need not be cleared. Every input is answered: there is nothing to check beforehand.
+ */
+skriemelt_read_answer skriemelt_read(const uint8_t *payload, size_t payload_bytes, uint8_t *records, size_t records_bytes);
+
+#ifdef __cplusplus
+}
+#endif
+
+#endif
