@@ -1,0 +1,27 @@
+use borrow.Author.Needs.{needs}
+use Rattle.writer.specs.Valid.{preciseValid}
+use Rattle.checks.proofs.scenes.precise_valid.Statement.{statement}
+use Rattle.checks.proofs.scenes.precise_valid.Tie as tie
+
+returns : tie.Need-returns
+unfolding preciseValid
+returns c = cc
+
+pub precise-valid-spec : {M : Type 1} → statement M
+precise-valid-spec =
+    tie.close
+    (tie.spec
+    (λ c. search needs)
+    (λ c κs. search needs)
+    (λ c. search needs)
+    (λ c κs. search needs)
+    (λ c. search needs)
+    (λ c κs. search needs)
+    (λ c κs. search needs)
+    (λ c κs. search needs)
+    (λ c κs. search needs)
+    (λ c κs. search needs)
+    (λ c κs. search needs)
+    (λ c κs. search needs)
+    (λ c κs. search needs)
+    returns)

@@ -1,0 +1,24 @@
+use borrow.Author.Needs.{needs}
+use Rattle.writer.specs.Valid.{sceneValid}
+use Rattle.checks.specs.Parts.{renderedValid}
+use Rattle.checks.proofs.scenes.scene_valid.Statement.{statement}
+use Rattle.checks.proofs.scenes.scene_valid.Tie as tie
+
+returns : tie.Need-returns
+unfolding sceneValid renderedValid
+returns c = cc
+
+pub scene-valid-spec : {M : Type 1} → statement M
+scene-valid-spec =
+    tie.close
+    (tie.spec
+    (λ c κs. search needs)
+    (λ c κs. search needs)
+    (λ c κs. search needs)
+    (λ c κs. search needs)
+    (λ c κs. search needs)
+    (λ c κs. search needs)
+    (λ c κs. search needs)
+    (λ c κs. search needs)
+    (λ c κs. search needs)
+    returns)

@@ -1,0 +1,19 @@
+use borrow.Author.Needs.{needs}
+use Rattle.writer.specs.Valid.{volumeValid}
+use Rattle.checks.proofs.scenes.volume_valid.Statement.{statement}
+use Rattle.checks.proofs.scenes.volume_valid.Tie as tie
+
+returns : tie.Need-returns
+unfolding volumeValid
+returns c = cc
+
+pub volume-valid-spec : {M : Type 1} → statement M
+volume-valid-spec =
+    tie.close
+    (tie.spec
+    (λ c κs. search needs)
+    (λ c κs. search needs)
+    (λ c κs. search needs)
+    (λ c κs. search needs)
+    (λ c κs. search needs)
+    returns)

@@ -1,0 +1,11 @@
+use borrow.Author.Needs.{needs}
+use Rattle.writer.specs.Valid.{zoneValid}
+use Rattle.checks.proofs.scenes.zone_valid.Statement.{statement}
+use Rattle.checks.proofs.scenes.zone_valid.Tie as tie
+
+returns : tie.Need-returns
+unfolding zoneValid
+returns c = cc
+
+pub zone-valid-spec : {M : Type 1} → statement M
+zone-valid-spec = tie.close (tie.spec (λ c κs. search needs) (λ c κs. search needs) (λ c κs. search needs) returns)

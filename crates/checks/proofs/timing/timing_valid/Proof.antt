@@ -1,0 +1,14 @@
+use borrow.Author.Needs.{needs}
+use borrow.Author.Tests.{eq-eqb}
+use Rattle.writer.specs.Valid.{sampleOffset, timingValid}
+use Rattle.checks.proofs.timing.timing_valid.Statement.{statement}
+use Rattle.checks.proofs.timing.timing_valid.Tie as tie
+
+returns : tie.Need-returns
+unfolding timingValid sampleOffset
+returns c = rw (eq-eqb _ _ (c .before .updates-valid .ensures .1)) (cc)
+
+pub timing-valid-spec : {M : Type 1} → statement M
+timing-valid-spec =
+    tie.close
+    (tie.spec (λ c κs. search needs) (λ c κs. search needs) (λ c κs. search needs) (λ c κs. search needs) returns)

@@ -1,0 +1,103 @@
+// The programme: each field of the program assignment by what announces it (5.5.3).
+ghost use mathlib.Core.Path.{_≡_};
+ghost use lib.ListN.{length};
+ghost use Rattle.bits.specs.Language.{pick};
+ghost use Rattle.oamd.specs.Tables.{mostBeds};
+ghost use Rattle.oamd.specs.Programme.{set?, bedInstances};
+ghost use Rattle.writer.specs.Valid.{entriesValid, bedValid, programmeValid};
+ghost use Rattle.checks.specs.Parts.{othersValid, assignmentValid};
+use crate::ranges::ranged;
+use crate::ranges::wide_ranged;
+use oamd::Bed;
+use oamd::Programme;
+use oamd::both;
+
+// An assignment has 10 flags, or 17.
+fn most_assignment(standard: u8) -> u32
+    ensures { λ r. ⌜ r ≡ pick (set? standard) 1023 131071 ⌝ }
+{
+    if standard == 1 { 1023 } else { 131071 }
+}
+
+// An entry of the beds: an assignment only where the bed is not the LFE channel alone.
+fn bed_valid(used: bool, b: Bed) -> bool
+    ensures { λ r. ⌜ r ≡ bedValid used b ⌝ }
+{
+    let assigned = both(used, b.lfeonly == 0);
+    let most = most_assignment(b.standard);
+    let lfeonly = ranged(used, 0, 1, 0, b.lfeonly);
+    let standard = ranged(assigned, 0, 1, 0, b.standard);
+    let assignment = wide_ranged(assigned, 0, most, 0, b.assignment);
+    both(lfeonly, both(standard, assignment))
+}
+
+// The first `count` of the nine beds are used.
+fn beds_valid(beds: [Bed; 9], count: u8) -> bool
+    ensures { λ r. ⌜ (r ≡ entriesValid bedValid count beds) × (length beds ≡ mostBeds) ⌝ }
+{
+    let used = count as usize;
+    let mut valid = true;
+    let mut i: usize = 0;
+    while i < 9 {
+        let b = beds[i];
+        valid = both(valid, bed_valid(i < used, b));
+        i = i + 1;
+    }
+    valid
+}
+
+// num_bed_instances.
+fn bed_instances(content: u8, multiple: u8, instances: u8) -> u32
+    ensures { λ r. ⌜ r ≡ bedInstances content multiple instances ⌝ }
+{
+    if oamd::flag(4, 3, content as u32) {
+        if multiple == 1 {
+            return instances as u32 + 2;
+        }
+        return 1;
+    }
+    0
+}
+
+// The fields behind the beds, and that all together name the object count.
+fn others_valid(p: Programme) -> bool
+    ensures { λ r. ⌜ r ≡ othersValid p ⌝ }
+{
+    let has_isf = oamd::flag(4, 2, p.content as u32);
+    let has_dynamic = oamd::flag(4, 1, p.content as u32);
+    let isf = ranged(has_isf, 0, 5, 0, p.isf);
+    let dynamics = ranged(has_dynamic, 0, 158, 0, p.dynamics);
+    let agreed = meaning::agrees(p);
+    both(isf, both(dynamics, agreed))
+}
+
+// The beds, and what others_valid tests.
+fn assignment_valid(p: Programme) -> bool
+    ensures { λ r. ⌜ r ≡ assignmentValid p ⌝ }
+{
+    let has_beds = oamd::flag(4, 3, p.content as u32);
+    let count = bed_instances(p.content, p.multiple, p.instances);
+    let beds = p.beds;
+    let distribute = ranged(has_beds, 0, 1, 0, p.distribute);
+    let multiple = ranged(has_beds, 0, 1, 0, p.multiple);
+    let instances = ranged(p.multiple == 1, 0, 7, 0, p.instances);
+    let counted = p.bedcount as u32 == count;
+    let entries = beds_valid(beds, p.bedcount);
+    let others = others_valid(p);
+    let rest = both(counted, both(entries, others));
+    both(distribute, both(multiple, both(instances, rest)))
+}
+
+// A programme such as some accepted payload gives, with the reserved content flag clear.
+pub fn programme_valid(p: Programme) -> bool
+    ensures { λ r. ⌜ r ≡ programmeValid p ⌝ }
+{
+    let reserved = oamd::flag(4, 0, p.content as u32);
+    let objects = ranged(true, 1, 159, 0, p.objects);
+    let dynonly = ranged(true, 0, 1, 0, p.dynonly);
+    let lfe = ranged(p.dynonly == 1, 0, 1, 0, p.lfe);
+    let content = ranged(p.dynonly == 0, 0, 15, 0, p.content);
+    let assignment = assignment_valid(p);
+    let rest = both(content, both(!reserved, assignment));
+    both(objects, both(dynonly, both(lfe, rest)))
+}

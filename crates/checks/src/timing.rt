@@ -1,0 +1,65 @@
+// The timing: one sample offset serves all blocks (5.5.6, 5.5.7).
+ghost use mathlib.Core.Path.{_≡_};
+ghost use Prim.Native.Nat.{_%_};
+ghost use lib.ListN.{length};
+ghost use Rattle.bits.specs.Language.{pick};
+ghost use Rattle.oamd.specs.Tables.{mostBlocks};
+ghost use Rattle.writer.specs.Valid.{firstStart, updateValid, entriesValid, timingValid};
+use crate::ranges::ranged;
+use crate::ranges::wide_ranged;
+use oamd::Timing;
+use oamd::Update;
+use oamd::both;
+
+fn offset_if(used: bool, offset: u16) -> u16
+    ensures { λ r. ⌜ r ≡ pick used offset 0 ⌝ }
+{
+    if used { offset } else { 0 }
+}
+
+// An entry of the updates: what its start leaves by 32 is the offset.
+fn update_valid(offset: u16, used: bool, u: Update) -> bool
+    ensures { λ r. ⌜ r ≡ updateValid offset used u ⌝ }
+{
+    let start = u.start.raw();
+    let ramp = u.ramp.raw();
+    let left = offset_if(used, offset);
+    let started = wide_ranged(used, 0, 2047, 0, start as u32);
+    let ramped = wide_ranged(used, 0, 2048, 0, ramp as u32);
+    both(started, both(start % 32 == left, ramped))
+}
+
+// The first `blocks` of the eight updates are used.
+fn updates_valid(offset: u16, updates: [Update; 8], blocks: u8) -> bool
+    ensures { λ r. ⌜ (r ≡ entriesValid (updateValid offset) blocks updates) × (length updates ≡ mostBlocks) ⌝ }
+{
+    let used = blocks as usize;
+    let mut valid = true;
+    let mut i: usize = 0;
+    while i < 8 {
+        let u = updates[i];
+        valid = both(valid, update_valid(offset, i < used, u));
+        i = i + 1;
+    }
+    valid
+}
+
+// What the first start leaves by 32.
+fn sample_offset(updates: [Update; 8]) -> u16
+    ensures { λ r. ⌜ r ≡ firstStart updates % 32 ⌝ }
+{
+    let first = updates[0];
+    let start = first.start.raw();
+    start % 32
+}
+
+// A timing such as some accepted payload gives.
+pub fn timing_valid(t: Timing) -> bool
+    ensures { λ r. ⌜ r ≡ timingValid t ⌝ }
+{
+    let updates = t.updates;
+    let offset = sample_offset(updates);
+    let blocks = ranged(true, 0, 8, 0, t.blocks);
+    let entries = updates_valid(offset, updates, t.blocks);
+    both(blocks, entries)
+}
