@@ -22,7 +22,7 @@ Same b c e = (i : ℕ) → i < e → b i ≡ c i
 agree-next : (b c : Bits) (at to m : ℕ) → Agree b at c to (suc m) → Agree b (suc at) c (suc to) m
 agree-next b c at to m h i l = ap b (omega arith) ∙ h (suc i) (omega arith) ∙ ap c (omega arith)
 
-slice-agree : (b c : Bits) (at to m : ℕ) → Agree b at c to m → slice b at m ≡ slice c to m
+pub slice-agree : (b c : Bits) (at to m : ℕ) → Agree b at c to m → slice b at m ≡ slice c to m
 unfolding slice
 slice-agree b c at to zero h = refl
 slice-agree b c at to (suc m) h =

@@ -6,6 +6,7 @@ pub mod Refusals
 pub mod Size
 pub mod Writes
 pub mod Bytes
+pub mod Laying
 pub mod Ensures
 pub mod Spells
 pub mod First

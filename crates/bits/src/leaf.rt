@@ -22,7 +22,7 @@ fn byte(s: &[u8], i: usize) -> u32
 }
 
 // The four bytes from i as one number, bytes past the end as 0.
-fn word(s: &[u8], i: usize) -> u32
+pub fn word(s: &[u8], i: usize) -> u32
     requires { ⌜ i < 536870912 ⌝ }
     ensures { λ r. ⌜ r ≡ wordAt (now (s .entry)) i ⌝ }
 {

@@ -1,0 +1,6 @@
+pub mod Parts
+pub mod Entries
+pub mod Heads
+pub mod Records
+pub mod Extra
+pub mod Around
