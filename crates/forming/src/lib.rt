@@ -1,5 +1,5 @@
 // Lays the written form of tables into a lent buffer, clause by clause of the definition. What does not fit is not stored, so that a run over a short
-// buffer gives the length.
+// buffer gives the length. Nothing is exported yet: `write` is to stand above these parts, which ask for positions and counts in range.
 
 mod coding; // coding.rt: from a value to the coded fields that carry it
 mod fields; // fields.rt: the parts of a block, as coded
@@ -11,11 +11,3 @@ mod objects; // objects.rt: the object element's fields
 mod extended; // extended.rt: the extended object element's fields
 mod frames; // frames.rt: the two elements
 mod sizes; // sizes.rt: an element's size
-
-pub use extended::any_diverges;
-pub use extended::any_refines;
-pub use frames::extended_inside;
-pub use frames::object_inside;
-pub use frames::put_extended_element;
-pub use frames::put_object_element;
-pub use head::put_header;
