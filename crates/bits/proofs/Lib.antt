@@ -1,5 +1,3 @@
 pub mod Width
 pub mod Sticky
 pub mod SizeSteps
-pub mod LayLaws
-pub mod PutWord

@@ -6,7 +6,6 @@ pub mod Refusals
 pub mod Size
 pub mod Writes
 pub mod Bytes
-pub mod Laying
 pub mod Ensures
 pub mod Spells
 pub mod First

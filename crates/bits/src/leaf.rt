@@ -1,6 +1,6 @@
 // The one function that reads a field.
 ghost use mathlib.Core.Path.{_≡_};
-ghost use Prim.Native.Nat.{_^_, _≤_, _<_};
+ghost use Prim.Native.Nat.{_/_, _^_, _≤_, _<_};
 ghost use lib.ListN.{getD};
 ghost use Rattle.bits.specs.Language.{bits, bit};
 ghost use Rattle.bits.specs.View.{wordAt, overOf, Took};
@@ -22,7 +22,7 @@ fn byte(s: &[u8], i: usize) -> u32
 }
 
 // The four bytes from i as one number, bytes past the end as 0.
-pub fn word(s: &[u8], i: usize) -> u32
+fn word_from(s: &[u8], i: usize) -> u32
     requires { ⌜ i < 536870912 ⌝ }
     ensures { λ r. ⌜ r ≡ wordAt (now (s .entry)) i ⌝ }
 {
@@ -31,6 +31,13 @@ pub fn word(s: &[u8], i: usize) -> u32
     } else {
         ((byte(s, i) * 256 + byte(s, i + 1)) * 256 + byte(s, i + 2)) * 256 + byte(s, i + 3)
     }
+}
+
+// The same, from a position's byte on.
+pub fn word(s: &[u8], at: BitPos) -> u32
+    ensures { λ r. ⌜ r ≡ wordAt (now (s .entry)) (at .0 / 8) ⌝ }
+{
+    word_from(s, (at.raw() / 8) as usize)
 }
 
 // The refusal for passing a limit's end.
@@ -58,7 +65,7 @@ pub fn take(s: &[u8], l: Limit, c: Cur, w: u32) -> Cur
     let to = p as u64 + w as u64;
     let end = l.end.raw() as u64;
     if to <= end {
-        let x = word(s, (p / 8) as usize);
+        let x = word(s, at);
         Cur {
             missing: 0,
             v: (x << (p % 8)) >> (32 - w),

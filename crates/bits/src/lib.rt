@@ -3,7 +3,6 @@ use units::BitPos;
 
 mod leaf; // leaf.rt: a field of any width up to 24
 mod cursor; // cursor.rt: fields that may be absent, runs, refusals, declared ends
-mod putting; // putting.rt: a field written
 mod groups; // groups.rt: an element's size
 mod numbers; // numbers.rt: the refusals' numbers
 
@@ -16,9 +15,7 @@ pub use cursor::take_if;
 pub use cursor::with_value;
 pub use groups::read_size;
 pub use leaf::take;
-pub use putting::put;
-pub use putting::put_if;
-pub use putting::put_zeros;
+pub use leaf::word;
 
 // Where reading stands. While no is 0: the value of the last field, and the position after it. Else the first refusal: its number, its place, and
 // how many bits were missing.

@@ -12,7 +12,7 @@ use lib.Seq.{drop-cons}
 use borrow.Author.Tests.{lt-ltb, le-ltb, le-leb, lt-leb}
 use Rattle.bits.specs.Language.{both}
 use Rattle.bits.specs.Steps.{by-order}
-use Rattle.writer.specs.Valid.{entriesValid}
+use Rattle.written.specs.Valid.{entriesValid}
 
 both-assoc : (a b c : Bool) → both (both a b) c ≡ both a (both b c)
 both-assoc true b c = refl

@@ -8,8 +8,8 @@ use native.Mathlib.Numerals.{add-one}
 use native.Mathlib.Omega.{arith}
 use Rattle.oamd.specs.declared.Shares.{Shares}
 use Rattle.oamd.specs.Programme.{classOf}
-use Rattle.writer.specs.Valid.{recordValid, firstBad}
-use Rattle.writer.specs.Answer.{recordAt, recordsAt}
+use Rattle.written.specs.Valid.{recordValid, firstBad}
+use Rattle.written.specs.Answer.{recordAt, recordsAt}
 
 -- before record i of n, which begins at a byte and is a block of an object
 pub record SoFar (s : Shares) (blocks : ℕ) (bytes : List ℕ) (n object block from i : ℕ) : Type 0 where

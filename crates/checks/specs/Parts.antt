@@ -9,7 +9,7 @@ use Rattle.oamd.specs.declared.Scene.{Scene}
 use Rattle.oamd.specs.Tables.{mostObjects, mostBeds}
 use Rattle.oamd.specs.Programme.{set?, clear?, hasBeds, hasIsf, hasDynamic, hasReserved, bedInstances, agrees}
 use Rattle.oamd.specs.Record.{carries}
-use Rattle.writer.specs.Valid.{_and_, ranged, entriesValid, bedValid, programmeValid, placeValid, volumeValid, zoneValid, screenValid, sceneValid}
+use Rattle.written.specs.Valid.{_and_, ranged, entriesValid, bedValid, programmeValid, placeValid, volumeValid, zoneValid, screenValid, sceneValid}
 
 -- what stands behind the beds, and that all together name the object count
 unfoldable pub othersValid : Programme → Bool

@@ -1,8 +1,12 @@
-// One record, out of the bytes that begin at `at`.
+// One record, out of the bytes that begin at `at`; where there is no whole one, an inactive record of a bed object.
 ghost use mathlib.Core.Path.{_≡_};
-ghost use Prim.Native.Nat.{_+_, _≤_};
+ghost use mathlib.Core.Bool.{true, false};
+ghost use Prim.Native.Nat.{_+_, _≤_, _<_};
 ghost use lib.ListN.{length};
-ghost use Rattle.writer.specs.Answer.{sceneAt, divergenceAt, preciseAt};
+ghost use Rattle.oamd.specs.Tables.{recordStride};
+ghost use Rattle.oamd.specs.Meaning.{idle};
+ghost use Rattle.oamd.specs.Extended.{noDivergence, noPrecise};
+ghost use Rattle.written.specs.Answer.{sceneAt, divergenceAt, preciseAt};
 use oamd::Divergence;
 use oamd::Place;
 use oamd::Precise;
@@ -10,6 +14,20 @@ use oamd::Scene;
 use oamd::Screen;
 use oamd::Volume;
 use oamd::Zone;
+
+// Whether a whole record begins at a byte.
+fn whole(records: &[u8], at: usize) -> bool
+    ensures yes { λ r. ⌜ (r ≡ true → at + recordStride ≤ length (now (records .entry))) ⌝ }
+    ensures no { λ r. ⌜ (r ≡ false → length (now (records .entry)) < at + recordStride) ⌝ }
+{
+    if records.len() < at {
+        return false;
+    }
+    if records.len() - at < 24 {
+        return false;
+    }
+    true
+}
 
 fn place_at(records: &[u8], at: usize) -> Place
     requires { ⌜ at + 24 ≤ length (now records) ⌝ }
@@ -55,7 +73,7 @@ fn screen_at(records: &[u8], at: usize) -> Screen
     }
 }
 
-pub fn scene_at(records: &[u8], at: usize) -> Scene
+fn scene_of(records: &[u8], at: usize) -> Scene
     requires { ⌜ at + 24 ≤ length (now records) ⌝ }
     ensures { λ r. ⌜ r ≡ sceneAt (now (records .entry)) at ⌝ }
 {
@@ -76,7 +94,7 @@ pub fn scene_at(records: &[u8], at: usize) -> Scene
     }
 }
 
-pub fn divergence_at(records: &[u8], at: usize) -> Divergence
+fn divergence_of(records: &[u8], at: usize) -> Divergence
     requires { ⌜ at + 24 ≤ length (now records) ⌝ }
     ensures { λ r. ⌜ r ≡ divergenceAt (now (records .entry)) at ⌝ }
 {
@@ -87,7 +105,7 @@ pub fn divergence_at(records: &[u8], at: usize) -> Divergence
     }
 }
 
-pub fn precise_at(records: &[u8], at: usize) -> Precise
+fn precise_of(records: &[u8], at: usize) -> Precise
     requires { ⌜ at + 24 ≤ length (now records) ⌝ }
     ensures { λ r. ⌜ r ≡ preciseAt (now (records .entry)) at ⌝ }
 {
@@ -96,5 +114,44 @@ pub fn precise_at(records: &[u8], at: usize) -> Precise
         x: records[at + 21],
         y: records[at + 22],
         z: records[at + 23],
+    }
+}
+
+pub fn scene_at(records: &[u8], at: usize) -> Scene
+    ensures there { λ r. ⌜ (at + recordStride ≤ length (now (records .entry)) → r ≡ sceneAt (now (records .entry)) at) ⌝ }
+    ensures absent { λ r. ⌜ (length (now (records .entry)) < at + recordStride → r ≡ idle 0) ⌝ }
+{
+    if whole(records, at) {
+        return scene_of(records, at);
+    }
+    meaning::idle(0)
+}
+
+pub fn divergence_at(records: &[u8], at: usize) -> Divergence
+    ensures there { λ r. ⌜ (at + recordStride ≤ length (now (records .entry)) → r ≡ divergenceAt (now (records .entry)) at) ⌝ }
+    ensures absent { λ r. ⌜ (length (now (records .entry)) < at + recordStride → r ≡ noDivergence) ⌝ }
+{
+    if whole(records, at) {
+        return divergence_of(records, at);
+    }
+    Divergence {
+        used: 0,
+        mode: 0,
+        value: 0,
+    }
+}
+
+pub fn precise_at(records: &[u8], at: usize) -> Precise
+    ensures there { λ r. ⌜ (at + recordStride ≤ length (now (records .entry)) → r ≡ preciseAt (now (records .entry)) at) ⌝ }
+    ensures absent { λ r. ⌜ (length (now (records .entry)) < at + recordStride → r ≡ noPrecise) ⌝ }
+{
+    if whole(records, at) {
+        return precise_of(records, at);
+    }
+    Precise {
+        presence: 0,
+        x: 0,
+        y: 0,
+        z: 0,
     }
 }

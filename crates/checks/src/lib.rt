@@ -6,6 +6,9 @@ mod scenes; // scenes.rt: one record, taken apart
 mod bytes; // bytes.rt: one record, out of its bytes
 mod records; // records.rt: all records, in order
 
+pub use bytes::divergence_at;
+pub use bytes::precise_at;
+pub use bytes::scene_at;
 pub use programme::programme_valid;
 pub use records::first_bad;
 pub use timing::timing_valid;

@@ -4,7 +4,7 @@ ghost use lib.ListN.{length};
 ghost use Rattle.bits.specs.Language.{pick};
 ghost use Rattle.oamd.specs.Tables.{mostBeds};
 ghost use Rattle.oamd.specs.Programme.{set?, bedInstances};
-ghost use Rattle.writer.specs.Valid.{entriesValid, bedValid, programmeValid};
+ghost use Rattle.written.specs.Valid.{entriesValid, bedValid, programmeValid};
 ghost use Rattle.checks.specs.Parts.{othersValid, assignmentValid};
 use crate::ranges::ranged;
 use crate::ranges::wide_ranged;

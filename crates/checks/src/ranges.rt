@@ -1,6 +1,6 @@
 // One value: within its range where it is carried, and its default elsewhere.
 ghost use mathlib.Core.Path.{_≡_};
-ghost use Rattle.writer.specs.Valid.{ranged};
+ghost use Rattle.written.specs.Valid.{ranged};
 
 pub fn wide_ranged(carried: bool, low: u32, high: u32, default: u32, v: u32) -> bool
     ensures { λ r. ⌜ r ≡ ranged carried low high default v ⌝ }

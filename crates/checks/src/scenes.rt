@@ -1,7 +1,7 @@
 // One record: each of its values by what the record itself carries (Tables 28 and 29, 5.5.14, 5.5.15).
 ghost use mathlib.Core.Path.{_≡_};
 ghost use Rattle.oamd.specs.Record.{carries, recordOf};
-ghost use Rattle.writer.specs.Valid.{placeValid, volumeValid, zoneValid, screenValid, sceneValid, leastDivergence, mostDivergence, divergenceValid, preciseValid, recordValid};
+ghost use Rattle.written.specs.Valid.{placeValid, volumeValid, zoneValid, screenValid, sceneValid, leastDivergence, mostDivergence, divergenceValid, preciseValid, recordValid};
 ghost use Rattle.checks.specs.Parts.{renderedValid};
 use crate::ranges::ranged;
 use oamd::Divergence;

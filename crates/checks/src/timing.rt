@@ -4,7 +4,7 @@ ghost use Prim.Native.Nat.{_%_};
 ghost use lib.ListN.{length};
 ghost use Rattle.bits.specs.Language.{pick};
 ghost use Rattle.oamd.specs.Tables.{mostBlocks};
-ghost use Rattle.writer.specs.Valid.{firstStart, updateValid, entriesValid, timingValid};
+ghost use Rattle.written.specs.Valid.{firstStart, updateValid, entriesValid, timingValid};
 use crate::ranges::ranged;
 use crate::ranges::wide_ranged;
 use oamd::Timing;

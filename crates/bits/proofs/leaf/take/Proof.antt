@@ -3,10 +3,11 @@
 use borrow.Author.Needs.{needs}
 use denote.Ref.{now}
 use mathlib.Core.Path.{sym, ap, subst, _∙_}
-use Prim.Native.Nat.{ℕ, _^_, _<_}
+use Prim.Native.Nat.{ℕ, _/_, _^_, _<_}
 use native.Mathlib.Omega.{arith}
 use lib.Pow.{pow-pos}
 use Rattle.bits.specs.Language.{bit, slice, number}
+use Rattle.bits.specs.View.{wordAt}
 use Rattle.bits.proofs.Width.{shifted, bits-lt}
 use Rattle.bits.proofs.Sticky.{kept, short, whole}
 use Rattle.bits.proofs.leaf.take.Statement.{statement}
@@ -20,7 +21,8 @@ returns-2 c =
     let i = c .before .before .before .before in
     let b = i .before .before .before .before in
     let a = b .before .args in
-    let r = shifted (now (a .s)) (λ j. omega (arith, b .shared-slice-known .given j)) (i .raw .result) (a .w) (c .before .word .result) (omega arith) (search needs)
+    let x = c .before .word .ensures ∙ ap (λ (p : ℕ). wordAt (now (a .s)) (p / 8)) (sym (i .raw .ensures)) in
+    let r = shifted (now (a .s)) (λ j. omega (arith, b .shared-slice-known .given j)) (i .raw .result) (a .w) (c .before .word .result) (omega arith) x
     ∙ ap (λ (p : ℕ). number (slice (bit (now (a .s))) p (a .w))) (i .raw .ensures) in
     record {
       reads = whole (search needs) (omega arith) (omega arith) r;
@@ -39,7 +41,6 @@ take-spec =
     (λ c. search needs)
     (λ c. search needs)
     (λ c κs. search needs)
-    (λ c. search needs)
     (λ c. search needs)
     (λ c κs. search needs)
     (λ c. search needs)

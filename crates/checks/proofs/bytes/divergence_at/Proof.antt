@@ -1,20 +1,16 @@
 use borrow.Author.Needs.{needs}
-use Rattle.writer.specs.Answer.{divergenceAt}
+use native.Mathlib.Omega.{arith}
 use Rattle.checks.proofs.bytes.divergence_at.Statement.{statement}
 use Rattle.checks.proofs.bytes.divergence_at.Tie as tie
 
+divergence-of-requires : tie.Need-divergence-of-requires
+divergence-of-requires c κs = c .before .whole .ensures .0 (c .if1 .taken)
+
 returns : tie.Need-returns
-unfolding divergenceAt
-returns c = search needs
+returns c = ((λ h. c .divergence-of .ensures), (λ h. absurd (omega (arith, h, c .before .before .whole .ensures .0 (c .before .if1 .taken)))))
+
+returns-2 : tie.Need-returns-2
+returns-2 c = ((λ h. absurd (omega (arith, h, c .before .whole .ensures .1 (c .if1 .left)))), (λ h. search needs))
 
 pub divergence-at-spec : {M : Type 1} → statement M
-divergence-at-spec =
-    tie.close
-    (tie.spec
-    (λ c. search needs)
-    (λ c. search needs)
-    (λ c. search needs)
-    (λ c. search needs)
-    (λ c. search needs)
-    (λ c. search needs)
-    returns)
+divergence-at-spec = tie.close (tie.spec (λ c κs. search needs) divergence-of-requires returns returns-2)

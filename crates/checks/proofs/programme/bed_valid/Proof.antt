@@ -1,5 +1,5 @@
 use borrow.Author.Needs.{needs}
-use Rattle.writer.specs.Valid.{bedValid}
+use Rattle.written.specs.Valid.{bedValid}
 use Rattle.checks.proofs.programme.bed_valid.Statement.{statement}
 use Rattle.checks.proofs.programme.bed_valid.Tie as tie
 

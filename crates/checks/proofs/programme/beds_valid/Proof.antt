@@ -4,7 +4,7 @@ use Prim.Native.Nat.{ℕ, _-_}
 use native.Mathlib.Omega.{arith}
 use lib.ListN.{length}
 use borrow.Author.Needs.{needs}
-use Rattle.writer.specs.Valid.{bedValid}
+use Rattle.written.specs.Valid.{bedValid}
 use Rattle.checks.proofs.Entries.{SoFar, none, turn, whole}
 use Rattle.checks.proofs.programme.beds_valid.Statement.{statement}
 use Rattle.checks.proofs.programme.beds_valid.Tie as tie

@@ -1,5 +1,5 @@
 use borrow.Author.Needs.{needs}
-use Rattle.writer.specs.Valid.{ranged}
+use Rattle.written.specs.Valid.{ranged}
 use Rattle.checks.proofs.ranges.wide_ranged.Statement.{statement}
 use Rattle.checks.proofs.ranges.wide_ranged.Tie as tie
 

@@ -1,5 +1,5 @@
 use borrow.Author.Needs.{needs}
-use Rattle.writer.specs.Valid.{divergenceValid}
+use Rattle.written.specs.Valid.{divergenceValid}
 use Rattle.checks.proofs.scenes.divergence_valid.Statement.{statement}
 use Rattle.checks.proofs.scenes.divergence_valid.Tie as tie
 

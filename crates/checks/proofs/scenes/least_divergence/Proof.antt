@@ -1,7 +1,7 @@
 use mathlib.Core.Path.{_≡_, refl}
 use Prim.Native.Nat.{ℕ, zero, suc}
 use borrow.Author.Needs.{needs}
-use Rattle.writer.specs.Valid.{leastDivergence}
+use Rattle.written.specs.Valid.{leastDivergence}
 use Rattle.checks.proofs.scenes.least_divergence.Statement.{statement}
 use Rattle.checks.proofs.scenes.least_divergence.Tie as tie
 

@@ -1,7 +1,7 @@
 use mathlib.Core.Path.{_≡_, refl}
 use Prim.Native.Nat.{ℕ, zero, suc}
 use borrow.Author.Needs.{needs}
-use Rattle.writer.specs.Valid.{mostDivergence}
+use Rattle.written.specs.Valid.{mostDivergence}
 use Rattle.checks.proofs.scenes.most_divergence.Statement.{statement}
 use Rattle.checks.proofs.scenes.most_divergence.Tie as tie
 

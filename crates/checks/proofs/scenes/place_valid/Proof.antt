@@ -1,5 +1,5 @@
 use borrow.Author.Needs.{needs}
-use Rattle.writer.specs.Valid.{placeValid}
+use Rattle.written.specs.Valid.{placeValid}
 use Rattle.checks.proofs.scenes.place_valid.Statement.{statement}
 use Rattle.checks.proofs.scenes.place_valid.Tie as tie
 

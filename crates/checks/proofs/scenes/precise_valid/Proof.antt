@@ -1,5 +1,5 @@
 use borrow.Author.Needs.{needs}
-use Rattle.writer.specs.Valid.{preciseValid}
+use Rattle.written.specs.Valid.{preciseValid}
 use Rattle.checks.proofs.scenes.precise_valid.Statement.{statement}
 use Rattle.checks.proofs.scenes.precise_valid.Tie as tie
 

@@ -1,5 +1,5 @@
 use borrow.Author.Needs.{needs}
-use Rattle.writer.specs.Valid.{recordValid}
+use Rattle.written.specs.Valid.{recordValid}
 use Rattle.checks.proofs.scenes.record_valid.Statement.{statement}
 use Rattle.checks.proofs.scenes.record_valid.Tie as tie
 

@@ -1,5 +1,5 @@
 use borrow.Author.Needs.{needs}
-use Rattle.writer.specs.Valid.{sceneValid}
+use Rattle.written.specs.Valid.{sceneValid}
 use Rattle.checks.specs.Parts.{renderedValid}
 use Rattle.checks.proofs.scenes.scene_valid.Statement.{statement}
 use Rattle.checks.proofs.scenes.scene_valid.Tie as tie

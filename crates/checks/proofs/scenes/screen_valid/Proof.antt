@@ -1,5 +1,5 @@
 use borrow.Author.Needs.{needs}
-use Rattle.writer.specs.Valid.{screenValid}
+use Rattle.written.specs.Valid.{screenValid}
 use Rattle.checks.proofs.scenes.screen_valid.Statement.{statement}
 use Rattle.checks.proofs.scenes.screen_valid.Tie as tie
 

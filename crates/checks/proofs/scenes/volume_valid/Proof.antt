@@ -1,5 +1,5 @@
 use borrow.Author.Needs.{needs}
-use Rattle.writer.specs.Valid.{volumeValid}
+use Rattle.written.specs.Valid.{volumeValid}
 use Rattle.checks.proofs.scenes.volume_valid.Statement.{statement}
 use Rattle.checks.proofs.scenes.volume_valid.Tie as tie
 

@@ -1,5 +1,5 @@
 use borrow.Author.Needs.{needs}
-use Rattle.writer.specs.Valid.{zoneValid}
+use Rattle.written.specs.Valid.{zoneValid}
 use Rattle.checks.proofs.scenes.zone_valid.Statement.{statement}
 use Rattle.checks.proofs.scenes.zone_valid.Tie as tie
 

@@ -5,7 +5,7 @@ use native.Mathlib.Omega.{arith}
 use lib.ListN.{length, getD}
 use borrow.Author.Needs.{needs}
 use Rattle.oamd.specs.declared.Update.{Update}
-use Rattle.writer.specs.Valid.{firstStart}
+use Rattle.written.specs.Valid.{firstStart}
 use Rattle.checks.proofs.timing.sample_offset.Statement.{statement}
 use Rattle.checks.proofs.timing.sample_offset.Tie as tie
 

@@ -1,6 +1,6 @@
 use borrow.Author.Needs.{needs}
 use borrow.Author.Tests.{eq-eqb}
-use Rattle.writer.specs.Valid.{sampleOffset, timingValid}
+use Rattle.written.specs.Valid.{sampleOffset, timingValid}
 use Rattle.checks.proofs.timing.timing_valid.Statement.{statement}
 use Rattle.checks.proofs.timing.timing_valid.Tie as tie
 

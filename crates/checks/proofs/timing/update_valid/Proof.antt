@@ -1,5 +1,5 @@
 use borrow.Author.Needs.{needs}
-use Rattle.writer.specs.Valid.{updateValid}
+use Rattle.written.specs.Valid.{updateValid}
 use Rattle.checks.proofs.timing.update_valid.Statement.{statement}
 use Rattle.checks.proofs.timing.update_valid.Tie as tie
 

@@ -4,7 +4,7 @@ use Prim.Native.Nat.{ℕ, _-_}
 use native.Mathlib.Omega.{arith}
 use lib.ListN.{length}
 use borrow.Author.Needs.{needs}
-use Rattle.writer.specs.Valid.{updateValid}
+use Rattle.written.specs.Valid.{updateValid}
 use Rattle.checks.proofs.Entries.{SoFar, none, turn, whole}
 use Rattle.checks.proofs.timing.updates_valid.Statement.{statement}
 use Rattle.checks.proofs.timing.updates_valid.Tie as tie

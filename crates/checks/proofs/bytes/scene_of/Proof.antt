@@ -1,0 +1,27 @@
+use borrow.Author.Needs.{needs}
+use Rattle.written.specs.Answer.{sceneAt}
+use Rattle.checks.proofs.bytes.scene_of.Statement.{statement}
+use Rattle.checks.proofs.bytes.scene_of.Tie as tie
+
+returns : tie.Need-returns
+unfolding sceneAt
+returns c = cc
+
+pub scene-of-spec : {M : Type 1} → statement M
+scene-of-spec =
+    tie.close
+    (tie.spec
+    (λ c κs. search needs)
+    (λ c κs. search needs)
+    (λ c κs. search needs)
+    (λ c κs. search needs)
+    (λ c. search needs)
+    (λ c. search needs)
+    (λ c. search needs)
+    (λ c. search needs)
+    (λ c. search needs)
+    (λ c. search needs)
+    (λ c. search needs)
+    (λ c. search needs)
+    (λ c. search needs)
+    returns)

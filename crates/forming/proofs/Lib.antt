@@ -1,6 +1,0 @@
-pub mod Parts
-pub mod Entries
-pub mod Heads
-pub mod Records
-pub mod Extra
-pub mod Around

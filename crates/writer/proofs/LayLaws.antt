@@ -1,0 +1,233 @@
+-- The laws of laying: nothing, one after the other, a loop, and at the top the bytes of a whole form.
+use mathlib.Core.Path.{_≡_, refl, sym, ap, ap₂, _∙_, subst}
+use mathlib.Core.Bool.{Bool, true, false}
+use mathlib.Core.List.{List, [], _∷_, _++_}
+use Prim.Native.Nat.{ℕ, zero, suc, _+_, _-_, _*_, _/_, _%_, _^_, _≤_, _<_}
+use native.Mathlib.Omega.{arith}
+use native.Mathlib.Nat.{zero-div, mod-eq-of-lt}
+use lib.ListN.{length, getD, set, drop, replicate, length-drop, length-replicate, length-set, length-append, List·getD-append}
+use lib.Seq.{getD-drop, getD-append-add, ext-getD, getD-set-same, getD-set-other, set-out}
+use Rattle.bits.specs.Language.{slice, bit, number}
+use Rattle.bits.specs.Steps.{listed, by-order}
+use Rattle.bits.specs.Laws.{slice-agree}
+use Rattle.bits.specs.Writes.{toBits, only, Bin, bin-toBits, bin-append, length-toBits, number-toBits, holds-slice}
+use Rattle.bits.specs.Bytes.{toBytes, length-toBytes, getD-pack, getD-toBits, number-bit, number-lt}
+use Rattle.writer.specs.Laying.{withBit, setBit, lay, Laid, Bytes}
+
+pub lay-append : (s : List ℕ) (at : ℕ) (l m : List ℕ) → lay (lay s at l) (at + length l) m ≡ lay s at (l ++ m)
+unfolding lay
+lay-append s at [] m = ap (λ (k : ℕ). lay s k m) (omega arith)
+lay-append s at (x ∷ xs) m = ap (λ (k : ℕ). lay (lay (setBit s at x) (suc at) xs) k m) (omega arith) ∙ lay-append (setBit s at x) (suc at) xs m
+
+pub laid-nil : {s : List ℕ} {at : ℕ} → Laid s s at at []
+unfolding lay
+laid-nil = record { same = refl; next = omega arith; binary = λ i. omega arith }
+
+pub laid-bind : {s t u : List ℕ} {at p r : ℕ} {l m : List ℕ} → Laid s t at p l → Laid t u p r m → Laid s u at r (l ++ m)
+laid-bind {s} {t} {u} {at} {p} {r} {l} {m} f g = record {
+  same = g .same ∙ ap₂ (λ (x : List ℕ) (k : ℕ). lay x k m) (f .same) (f .next) ∙ lay-append s at l m;
+  next = omega (arith, f .next, g .next, length-append l m);
+  binary = bin-append l m (f .binary) (g .binary);
+}
+
+pub length-setBit : (s : List ℕ) (p x : ℕ) → length (setBit s p x) ≡ length s
+unfolding setBit
+length-setBit s p x = length-set s (p / 8) _
+
+pub length-lay : (s : List ℕ) (at : ℕ) (l : List ℕ) → length (lay s at l) ≡ length s
+unfolding lay
+length-lay s at [] = refl
+length-lay s at (x ∷ xs) = length-lay (setBit s at x) (suc at) xs ∙ length-setBit s at x
+
+-- past the buffer's end nothing is laid
+pub lay-past : (s : List ℕ) (at : ℕ) (l : List ℕ) → length s ≤ at / 8 → lay s at l ≡ s
+unfolding lay setBit
+lay-past s at [] h = refl
+lay-past s at (x ∷ xs) h =
+    let e : setBit s at x ≡ s = set-out s (at / 8) _ h in
+    ap (λ (t : List ℕ). lay t (suc at) xs) e ∙ lay-past s (suc at) xs (omega arith)
+
+pub laid-past : (s : List ℕ) (at p r w v : ℕ) → p ≡ at → length s ≤ p / 8 → r ≡ p + w → Laid s s at r (toBits w v)
+laid-past s at p r w v e h f = record {
+  same = sym (lay-past s at (toBits w v) (omega arith));
+  next = omega (arith, length-toBits w v);
+  binary = bin-toBits w v;
+}
+
+-- ---- its bits
+
+bin-set : (l : List ℕ) (k x : ℕ) → Bin l → Bin (set l k (x % 2))
+bin-set [] k x h i = h i
+bin-set (y ∷ ys) zero x h zero = omega arith
+bin-set (y ∷ ys) zero x h (suc i) = h (suc i)
+bin-set (y ∷ ys) (suc k) x h zero = h 0
+bin-set (y ∷ ys) (suc k) x h (suc i) = bin-set ys k x (λ j. h (suc j)) i
+
+pub by-eq : {X : Type 0} (m n : ℕ) → (m ≡ n → X) → ((m ≡ n → ⊥) → X) → X
+by-eq {X} m n f g = by-order m n (λ h. by-order n m (λ j. f (omega arith)) (λ j. g (λ e. omega arith))) (λ h. g (λ e. omega arith))
+
+withBit-lt : (y k x : ℕ) → withBit y k x < 256
+unfolding withBit
+withBit-lt y k x =
+    let l : List ℕ = set (toBits 8 y) k (x % 2) in
+    let n : length l ≡ 8 = length-set (toBits 8 y) k (x % 2) ∙ length-toBits 8 y in
+    rw n at (number-lt l (bin-set (toBits 8 y) k x (bin-toBits 8 y)))
+
+withBit-bit : (y k x j : ℕ) → j < 8 → withBit y k x / 2 ^ (7 - j) % 2 ≡ getD (set (toBits 8 y) k (x % 2)) j 0
+unfolding withBit
+withBit-bit y k x j h =
+    let l : List ℕ = set (toBits 8 y) k (x % 2) in
+    let n : length l ≡ 8 = length-set (toBits 8 y) k (x % 2) ∙ length-toBits 8 y in
+    let e : 7 - j ≡ length l - 1 - j = omega arith in
+    rw e (number-bit l j (bin-set (toBits 8 y) k x (bin-toBits 8 y)) (omega arith))
+
+pub setBit-same : (s : List ℕ) (p x : ℕ) → p < 8 * length s → bit (setBit s p x) p ≡ x % 2
+unfolding bit setBit
+setBit-same s p x h =
+    rw (getD-set-same s (p / 8) (withBit (getD s (p / 8) 0) (p % 8) x) 0 (omega arith))
+    (withBit-bit (getD s (p / 8) 0) (p % 8) x (p % 8) (omega arith) ∙ getD-set-same (toBits 8 (getD s (p / 8) 0)) (p % 8) (x % 2) 0 (omega (arith, length-toBits 8 (getD s (p / 8) 0))))
+
+pub setBit-other : (s : List ℕ) (p x q : ℕ) → (q ≡ p → ⊥) → bit (setBit s p x) q ≡ bit s q
+unfolding bit setBit
+setBit-other s p x q h =
+    let y : ℕ = getD s (p / 8) 0 in
+    by-eq (q / 8) (p / 8)
+    (λ e. by-order (length s) (p / 8)
+    (λ o. rw (set-out s (p / 8) (withBit y (p % 8) x) o))
+    (λ o.
+    let a : getD (set s (p / 8) (withBit y (p % 8) x)) (q / 8) 0 ≡ withBit y (p % 8) x = rw e (getD-set-same s (p / 8) (withBit y (p % 8) x) 0 o) in
+    let f : q % 8 ≡ p % 8 → ⊥ = λ g. h (omega arith) in
+    let i : 7 - q % 8 ≡ 8 - 1 - q % 8 = omega arith in
+    rw a (withBit-bit y (p % 8) x (q % 8) (omega arith) ∙ getD-set-other (toBits 8 y) (p % 8) (q % 8) (x % 2) 0 f ∙ getD-toBits 8 y (q % 8) (omega arith) ∙ rw (e, i))))
+    (λ n. rw (getD-set-other s (p / 8) (q / 8) (withBit y (p % 8) x) 0 n))
+
+bytes-setBit : (s : List ℕ) (p x : ℕ) → Bytes s → Bytes (setBit s p x)
+unfolding setBit
+bytes-setBit s p x h i = by-eq i (p / 8)
+    (λ e. by-order (length s) (p / 8)
+    (λ o. rw (set-out s (p / 8) (withBit (getD s (p / 8) 0) (p % 8) x) o) (h i))
+    (λ o. rw (e, getD-set-same s (p / 8) (withBit (getD s (p / 8) 0) (p % 8) x) 0 o) (withBit-lt (getD s (p / 8) 0) (p % 8) x)))
+    (λ n. rw (getD-set-other s (p / 8) i (withBit (getD s (p / 8) 0) (p % 8) x) 0 n) (h i))
+
+pub bytes-lay : (s : List ℕ) (at : ℕ) (l : List ℕ) → Bytes s → Bytes (lay s at l)
+unfolding lay
+bytes-lay s at [] h = h
+bytes-lay s at (x ∷ xs) h = bytes-lay (setBit s at x) (suc at) xs (bytes-setBit s at x h)
+
+-- before the place the bits stay
+pub lay-before : (s : List ℕ) (at : ℕ) (l : List ℕ) (q : ℕ) → q < at → bit (lay s at l) q ≡ bit s q
+unfolding lay
+lay-before s at [] q h = refl
+lay-before s at (x ∷ xs) q h = lay-before (setBit s at x) (suc at) xs q (omega arith) ∙ setBit-other s at x q (λ e. omega arith)
+
+-- and behind it
+pub lay-behind : (s : List ℕ) (at : ℕ) (l : List ℕ) (q : ℕ) → at + length l ≤ q → bit (lay s at l) q ≡ bit s q
+unfolding lay
+lay-behind s at [] q h = refl
+lay-behind s at (x ∷ xs) q h = lay-behind (setBit s at x) (suc at) xs q (omega arith) ∙ setBit-other s at x q (λ e. omega arith)
+
+-- and in it are those laid
+pub lay-inside : (s : List ℕ) (at : ℕ) (l : List ℕ) (i : ℕ) → i < length l → at + i < 8 * length s → bit (lay s at l) (at + i) ≡ getD l i 0 % 2
+unfolding lay
+lay-inside s at [] i h j = absurd (omega arith)
+lay-inside s at (x ∷ xs) zero h j =
+    let e : at + 0 ≡ at = omega arith in
+    rw e (lay-before (setBit s at x) (suc at) xs at (omega arith) ∙ setBit-same s at x (omega arith))
+lay-inside s at (x ∷ xs) (suc i) h j =
+    let e : at + suc i ≡ suc at + i = omega arith in
+    rw e (lay-inside (setBit s at x) (suc at) xs i (omega arith) (omega (arith, length-setBit s at x)))
+
+-- a byte is told by its bits
+pub byte-bits : (s : List ℕ) (j : ℕ) → getD s j 0 < 256 → number (slice (bit s) (8 * j) 8) ≡ getD s j 0
+unfolding bit
+byte-bits s j h =
+    let x : ℕ = getD s j 0 in
+    let l = length-toBits 8 x in
+    let q : slice (bit s) (8 * j) (length (toBits 8 x)) ≡ toBits 8 x = holds-slice (bit s) (8 * j) (toBits 8 x) (λ i k.
+    let a : (8 * j + i) / 8 ≡ j = omega arith in
+    let e : 7 - (8 * j + i) % 8 ≡ 8 - 1 - i = omega arith in
+    rw (a, e) (sym (getD-toBits 8 x i (omega arith)))) in
+    ap number (rw l at q) ∙ number-toBits 8 x ∙ mod-eq-of-lt h
+
+-- two lists of bytes with the same bits are the same
+pub ext-bit : (s t : List ℕ) → length s ≡ length t → Bytes s → Bytes t → ((q : ℕ) → q < 8 * length s → bit s q ≡ bit t q) → s ≡ t
+ext-bit s t n f g h = ext-getD 0 s t n λ i l.
+    sym (byte-bits s i (f i)) ∙ ap number (slice-agree (bit s) (bit t) (8 * i) (8 * i) 8 (λ j k. h (8 * i + j) (omega arith))) ∙ byte-bits t i (g i)
+
+pub zeros-toBits : (n : ℕ) → toBits n 0 ≡ replicate n 0
+unfolding toBits
+zeros-toBits zero = refl
+zeros-toBits (suc n) = ap₂ (λ (x : ℕ) (xs : List ℕ). x ∷ xs) (rw (zero-div (2 ^ n))) (zeros-toBits n)
+
+pub laid-on : {s t : List ℕ} {at r : ℕ} {l : List ℕ} (on : Bool) → on ≡ true → Laid s t at r l → Laid s t at r (only on l)
+laid-on on e h = rw e h
+
+pub laid-off : {s : List ℕ} {at : ℕ} (l : List ℕ) (on : Bool) → on ≡ false → Laid s s at at (only on l)
+laid-off l on e = rw e laid-nil
+
+-- the same bits, said in another way
+pub laid-is : {s t : List ℕ} {at r : ℕ} {l m : List ℕ} → l ≡ m → Laid s t at r l → Laid s t at r m
+laid-is {s} {t} {at} {r} e h = subst (λ (x : List ℕ). Laid s t at r x) e h
+
+-- the rules by which a function that lays one field after the other meets its definition: for `search`
+pub lay-then : (s t u : List ℕ) (at p r : ℕ) (l m : List ℕ) → Laid s t at p l → Laid t u p r m → Laid s u at r (l ++ m)
+lay-then s t u at p r l m f g = laid-bind f g
+
+-- a loop's invariant: whoever lays m from here has laid l from the start
+pub record Rest (s₀ s : List ℕ) (p₀ p : ℕ) (l m : List ℕ) : Type 0 where
+  pub ends : (u : List ℕ) (r : ℕ) → Laid s u p r m → Laid s₀ u p₀ r l
+
+pub rest-start : (s : List ℕ) (p : ℕ) (l m : List ℕ) → m ≡ l → Rest s s p p l m
+rest-start s p l m e = record { ends = λ u r h. laid-is e h }
+
+pub rest-step : {s₀ s t : List ℕ} {p₀ p q : ℕ} {l m : List ℕ} (a n : List ℕ) → m ≡ a ++ n → Rest s₀ s p₀ p l m → Laid s t p q a → Rest s₀ t p₀ q l n
+rest-step a n e f h = record { ends = λ u r g. f .ends u r (laid-is (sym e) (laid-bind h g)) }
+
+pub rest-end : {s₀ s : List ℕ} {p₀ p : ℕ} {l m : List ℕ} → m ≡ [] → Rest s₀ s p₀ p l m → Laid s₀ s p₀ p l
+rest-end {s} e f = f .ends _ _ (laid-is (sym e) laid-nil)
+
+-- ---- a whole form laid from the start: its bytes, and behind them the buffer's own
+
+getD-zeros : (n k : ℕ) → _≡_ {A = ℕ} (getD (replicate n 0) k 0) 0
+getD-zeros zero k = refl
+getD-zeros (suc n) zero = refl
+getD-zeros (suc n) (suc k) = getD-zeros n k
+
+getD-pad : (l : List ℕ) (n k : ℕ) → getD (l ++ replicate n 0) k 0 ≡ getD l k 0
+getD-pad [] n k = getD-zeros n k
+getD-pad (x ∷ xs) n zero = refl
+getD-pad (x ∷ xs) n (suc k) = getD-pad xs n k
+
+pub laid-bytes : (s u : List ℕ) (r : ℕ) (l : List ℕ) (pad m : ℕ) → Laid s u 0 r (l ++ replicate pad 0) → Bytes s → r ≡ 8 * m → pad < 8 → m ≤ length s
+    → u ≡ toBytes l ++ drop (length (toBytes l)) s
+unfolding toBytes
+laid-bytes s u r l pad m h bytes e small fits =
+    let f : List ℕ = l ++ replicate pad 0 in
+    let a : length f ≡ length l + length {A = ℕ} (replicate pad 0) = length-append l (replicate pad 0) in
+    let b : length {A = ℕ} (replicate pad 0) ≡ pad = length-replicate {A = ℕ} pad 0 in
+    let n : length (toBytes l) ≡ m = length-toBytes l ∙ (let z : (length l + 7) / 8 ≡ m = omega (arith, h .next) in z) in
+    let k : length (lay s 0 f) ≡ length s = length-lay s 0 f in
+    let d : length (drop (length (toBytes l)) s) ≡ length s - length (toBytes l) = length-drop (length (toBytes l)) s in
+    let g : length (toBytes l ++ drop (length (toBytes l)) s) ≡ length (toBytes l) + length (drop (length (toBytes l)) s) = length-append (toBytes l) _ in
+    h .same ∙ ext-getD 0 (lay s 0 f) (toBytes l ++ drop (length (toBytes l)) s) (omega arith) λ i j.
+    sym (byte-bits (lay s 0 f) i (bytes-lay s 0 f bytes i))
+    ∙ by-order m i
+    (λ o.
+    let x : length (toBytes l) + (i - length (toBytes l)) ≡ i = omega arith in
+    ap number (slice-agree (bit (lay s 0 f)) (bit s) (8 * i) (8 * i) 8 (λ q w. lay-behind s 0 f (8 * i + q) (omega (arith, h .next))))
+    ∙ byte-bits s i (bytes i)
+    ∙ ap (λ (y : ℕ). getD s y 0) (sym x)
+    ∙ sym (getD-drop (length (toBytes l)) s (i - length (toBytes l)) 0)
+    ∙ sym (getD-append-add (toBytes l) (drop (length (toBytes l)) s) (i - length (toBytes l)) 0)
+    ∙ ap (λ (y : ℕ). getD (toBytes l ++ drop (length (toBytes l)) s) y 0) x)
+    (λ o.
+    ap number (slice-agree (bit (lay s 0 f)) (listed l) (8 * i) (0 + 8 * i) 8 (λ q w.
+    let y : ℕ = 8 * i + q in
+    let z : 0 + y ≡ y = omega arith in
+    let v : 0 + 8 * i + q ≡ y = omega arith in
+    ap (bit (lay s 0 f)) (sym z) ∙ lay-inside s 0 f y (omega (arith, h .next)) (omega arith) ∙ mod-eq-of-lt (h .binary y) ∙ getD-pad l pad y ∙ ap (listed l) (sym v)))
+    ∙ sym (getD-pack (listed l) 0 ((length l + 7) / 8) i (omega (arith, length-toBytes l)))
+    ∙ sym (List·getD-append (toBytes l) (drop (length (toBytes l)) s) 0 i (omega arith)))
+
+pub laid-length : {s t : List ℕ} {at r : ℕ} {l : List ℕ} → Laid s t at r l → length t ≡ length s
+laid-length {s} {t} {at} {r} {l} h = ap length (h .same) ∙ length-lay s at l

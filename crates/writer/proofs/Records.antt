@@ -1,0 +1,78 @@
+-- The records' bytes, laid one after the other and one object after the other. Assumes nothing.
+use mathlib.Core.Path.{_≡_, refl, sym, ap, ap₂, _∙_}
+use mathlib.Core.Bool.{Bool}
+use mathlib.Core.List.{List, [], _∷_, _++_}
+use Prim.Native.Nat.{ℕ, zero, suc, _+_, _-_, _*_, _≤_, _<_}
+use native.Mathlib.Numerals.{add-one}
+use native.Mathlib.Omega.{arith}
+use lib.Dec.{ltb}
+use lib.ListN.{length, take, drop}
+use Rattle.bits.specs.Writes.{only, toBits, eachBits}
+use Rattle.writer.specs.Laying.{Laid}
+use Rattle.writer.proofs.LayLaws.{laid-bind, laid-is}
+use Rattle.oamd.specs.declared.Precise.{Precise}
+use Rattle.oamd.specs.Record.{Record}
+use Rattle.oamd.specs.Extended.{hasX, hasY, hasZ}
+use Rattle.written.specs.Coded.{asFlag}
+use Rattle.written.specs.Form.{byObject, objectDataBits, preciseBits}
+use Rattle.written.specs.Answer.{recordAt, recordsAt}
+
+module _ (f : ℕ → Record → List ℕ) (s : List ℕ) (n i k : ℕ) where
+  pub records-more : i < n → eachBits f i (recordsAt s (n - i) k) ≡ f i (recordAt s k) ++ eachBits f (i + 1) (recordsAt s (n - (i + 1)) (k + 24))
+  unfolding eachBits recordsAt
+  records-more h = ap (λ (m : ℕ). eachBits f i (recordsAt s m k)) (let e : n - i ≡ suc (n - (i + 1)) = omega arith in e) ∙ rw add-one
+
+  pub records-none : n ≤ i → eachBits f i (recordsAt s (n - i) k) ≡ []
+  unfolding eachBits recordsAt
+  records-none h = ap (λ (m : ℕ). eachBits f i (recordsAt s m k)) (let e : n - i ≡ 0 = omega arith in e)
+
+-- the first m records, and those behind them
+take-records : (s : List ℕ) (m r k : ℕ) → take m (recordsAt s (m + r) k) ≡ recordsAt s m k
+unfolding recordsAt
+take-records s zero r k = refl
+take-records s (suc m) r k =
+    ap (λ (j : ℕ). take (suc m) (recordsAt s j k)) (let e : suc m + r ≡ suc (m + r) = omega arith in e)
+    ∙ ap (λ (rs : List Record). recordAt s k ∷ rs) (take-records s m r (k + 24))
+
+drop-records : (s : List ℕ) (m r k : ℕ) → drop m (recordsAt s (m + r) k) ≡ recordsAt s r (k + 24 * m)
+unfolding recordsAt
+drop-records s zero r k = ap₂ (λ (j i : ℕ). recordsAt s j i) (let e : 0 + r ≡ r = omega arith in e) (let e : k ≡ k + 24 * 0 = omega arith in e)
+drop-records s (suc m) r k =
+    ap (λ (j : ℕ). drop (suc m) (recordsAt s j k)) (let e : suc m + r ≡ suc (m + r) = omega arith in e)
+    ∙ drop-records s m r (k + 24)
+    ∙ ap (λ (j : ℕ). recordsAt s r j) (let e : k + 24 + 24 * m ≡ k + 24 * suc m = omega arith in e)
+
+pub left-more : (n m i : ℕ) → i < n → (n - i) * m ≡ m + (n - (i + 1)) * m
+left-more n m i h = ap (λ (j : ℕ). j * m) (let e : n - i ≡ suc (n - (i + 1)) = omega arith in e) ∙ (let g : suc (n - (i + 1)) * m ≡ m + (n - (i + 1)) * m = omega arith in g)
+
+abbrev objectsFrom : List ℕ → ℕ → ℕ → ℕ → ℕ → List ℕ
+objectsFrom s m i n k = eachBits (λ j rs. objectDataBits rs) i (byObject m n (recordsAt s (n * m) k))
+
+module _ (s : List ℕ) (m n i k : ℕ) where
+  pub objects-more : i < n → objectsFrom s m i (n - i) k ≡ objectDataBits (recordsAt s m k) ++ objectsFrom s m (i + 1) (n - (i + 1)) (k + 24 * m)
+  unfolding eachBits byObject
+  objects-more h =
+      let r : ℕ = n - (i + 1) in
+      ap (λ (j : ℕ). objectsFrom s m i j k) (let e : n - i ≡ suc r = omega arith in e)
+      ∙ ap (λ (j : ℕ). objectDataBits (take m (recordsAt s j k)) ++ eachBits (λ j rs. objectDataBits rs) (suc i) (byObject m r (drop m (recordsAt s j k)))) (let g : suc r * m ≡ m + r * m = omega arith in g)
+      ∙ ap₂ (λ (x y : List Record). objectDataBits x ++ eachBits (λ j rs. objectDataBits rs) (suc i) (byObject m r y)) (take-records s m (r * m) k) (drop-records s m (r * m) k)
+      ∙ rw add-one
+
+  pub objects-none : n ≤ i → objectsFrom s m i (n - i) k ≡ []
+  unfolding eachBits byObject
+  objects-none h = ap (λ (j : ℕ). objectsFrom s m i j k) (let e : n - i ≡ 0 = omega arith in e)
+
+test : {s t : List ℕ} {at r : ℕ} {on t' : Bool} (l : List ℕ) → on ≡ t' → Laid s t at r (only on l) → Laid s t at r (only t' l)
+test l e h = laid-is (ap (λ (b : Bool). only b l) e) h
+
+pub axes-laid : (s t u v : List ℕ) (at p q r : ℕ) (z : Precise) (x y w : Bool) → x ≡ hasX (z .presence) → y ≡ hasY (z .presence) → w ≡ hasZ (z .presence)
+    → Laid s t at p (only x (toBits 2 (z .x))) → Laid t u p q (only y (toBits 2 (z .y))) → Laid u v q r (only w (toBits 2 (z .z)))
+    → Laid s v at r (only (hasX (z .presence)) (toBits 2 (z .x)) ++ (only (hasY (z .presence)) (toBits 2 (z .y)) ++ only (hasZ (z .presence)) (toBits 2 (z .z))))
+axes-laid s t u v at p q r z x y w e f g a b c = laid-bind (test (toBits 2 (z .x)) e a) (laid-bind (test (toBits 2 (z .y)) f b) (test (toBits 2 (z .z)) g c))
+
+pub precise-laid : (s t u v : List ℕ) (at p q r : ℕ) (sent : Bool) (z : Precise) (some : ℕ) → some ≡ asFlag (ltb 0 (z .presence))
+    → Laid s t at p (only sent (toBits 1 some)) → Laid t u p q (only (ltb 0 (z .presence)) (toBits 3 (z .presence)))
+    → Laid u v q r (only (hasX (z .presence)) (toBits 2 (z .x)) ++ (only (hasY (z .presence)) (toBits 2 (z .y)) ++ only (hasZ (z .presence)) (toBits 2 (z .z))))
+    → Laid s v at r (preciseBits sent z)
+unfolding preciseBits
+precise-laid s t u v at p q r sent z some e a b c = laid-bind (laid-is (ap (λ (k : ℕ). only sent (toBits 1 k)) e) a) (laid-bind b c)

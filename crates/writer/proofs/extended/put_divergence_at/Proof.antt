@@ -1,0 +1,23 @@
+use borrow.Author.Needs.{needs}
+use Rattle.writer.proofs.LayLaws.{laid-bind, laid-length}
+use Rattle.writer.proofs.Extra.{divergence-at}
+use native.Mathlib.Omega.{arith}
+use Rattle.writer.proofs.extended.put_divergence_at.Statement.{statement}
+use Rattle.writer.proofs.extended.put_divergence_at.Tie as tie
+
+same-length : tie.Need-same-length
+same-length c = laid-length (c .before .before .put-divergence .ensures .0)
+
+returns : tie.Need-returns
+returns c = (divergence-at _ _ _ _ _ _ _ _ _ (c .before .before .before .before .before .before .scene-at .ensures .0 (search needs)) (c .before .before .before .before .before .carries-of .ensures) (c .before .before .before .before .divergence-at .ensures .0 (search needs)) (c .before .before .put-divergence .ensures .0), omega (arith, c .before .before .put-divergence .ensures .1))
+
+pub put-divergence-at-spec : {M : Type 1} → statement M
+put-divergence-at-spec =
+    tie.close
+    (tie.spec
+    (λ c κs. search needs)
+    (λ c κs. search needs)
+    (λ c κs. search needs)
+    (λ c κs. search needs)
+    same-length
+    returns)

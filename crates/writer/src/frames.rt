@@ -1,0 +1,92 @@
+// The two elements: id, size, and inside it the discard flag 0, the fields, and zeros up to its end (5.5.1, 5.5.4).
+ghost use mathlib.Core.Path.{_≡_};
+ghost use Prim.Native.Nat.{_+_, _*_, _≤_, _<_};
+ghost use Rattle.writer.specs.Laying.{Laid};
+ghost use mathlib.Core.List.{_++_};
+ghost use lib.ListN.{length};
+ghost use Rattle.bits.specs.Writes.{toBits};
+ghost use Rattle.written.specs.Form.{sizeBits, objectElementBits, extendedElementBits, elementBits};
+ghost use Rattle.written.specs.Answer.{recordsAt, tablesOf};
+use crate::extended::put_extended_fields;
+use crate::objects::put_object_fields;
+use crate::putting::put;
+use crate::putting::put_zeros;
+use crate::sizes::minus;
+use crate::sizes::put_size;
+use crate::sizes::size_for;
+use oamd::Programme;
+use oamd::Timing;
+use units::BitPos;
+
+fn put_front(out: &mut [u8], at: BitPos, id: u32, v: u32) -> BitPos
+    requires { ⌜ at .0 ≤ 1800000 ⌝ }
+    ensures { λ r. ⌜ Laid (now (out .entry)) (now (out .exit)) (at .0) (r .0) (toBits 4 id ++ (sizeBits v ++ toBits 1 0)) ⌝ }
+    ensures { λ r. ⌜ r .0 ≤ at .0 + 25 ⌝ }
+{
+    let p = put(out, at, 4, id);
+    let p = put_size(out, p, v);
+    put(out, p, 1, 0)
+}
+
+// The bits inside the object element: the discard flag and the fields, laid where there is no room.
+pub fn object_inside(q: Programme, t: Timing, records: &[u8]) -> u32
+    requires { ⌜ (t .blocks ≤ 8) × (24 * (q .objects * (t .blocks)) ≤ length (now records)) ⌝ }
+    ensures { λ r. ⌜ (r ≡ 1 + length (objectElementBits (tablesOf q t (now (records .entry))))) × (r ≤ 206 + 616 * (q .objects)) ⌝ }
+{
+    let mut scratch = [0u8; 1];
+    let p = put_object_fields(&mut scratch, BitPos::new(0), q, t, records);
+    1 + p.raw()
+}
+
+// And inside the extended object element.
+pub fn extended_inside(records: &[u8], count: usize) -> u32
+    requires { ⌜ (count ≤ 2040) × (24 * count ≤ length (now records)) ⌝ }
+    ensures { λ r. ⌜ (r ≡ 1 + length (extendedElementBits (recordsAt (now (records .entry)) count 0))) × (r ≤ 3 + 21 * count) ⌝ }
+{
+    let mut scratch = [0u8; 1];
+    let p = put_extended_fields(&mut scratch, BitPos::new(0), records, count);
+    1 + p.raw()
+}
+
+// The object element, with n bits inside.
+pub fn put_object_element(
+    out: &mut [u8],
+    at: BitPos,
+    q: Programme,
+    t: Timing,
+    records: &[u8],
+    n: u32,
+) -> BitPos
+    requires { ⌜ at .0 ≤ 1300000 ⌝ }
+    requires { ⌜ (t .blocks ≤ 8) × (24 * (q .objects * (t .blocks)) ≤ length (now records)) ⌝ }
+    requires { ⌜ (n ≤ 200000) × (n ≡ 1 + length (objectElementBits (tablesOf q t (now records)))) ⌝ }
+    ensures { λ r. ⌜ Laid (now (out .entry)) (now (out .exit)) (at .0) (r .0) (elementBits 1 (objectElementBits (tablesOf q t (now (records .entry))))) ⌝ }
+    ensures { λ r. ⌜ r .0 ≤ at .0 + 260 + 616 * (q .objects) ⌝ }
+{
+    let v = size_for(n);
+    let pad = minus(8 * (v + 1), n);
+    let p = put_front(out, at, 1, v);
+    let p = put_object_fields(out, p, q, t, records);
+    put_zeros(out, p, pad)
+}
+
+// The extended object element, with n bits inside.
+pub fn put_extended_element(
+    out: &mut [u8],
+    at: BitPos,
+    records: &[u8],
+    count: usize,
+    n: u32,
+) -> BitPos
+    requires { ⌜ at .0 ≤ 1600000 ⌝ }
+    requires { ⌜ (count ≤ 2040) × (24 * count ≤ length (now records)) ⌝ }
+    requires { ⌜ (n ≤ 200000) × (n ≡ 1 + length (extendedElementBits (recordsAt (now records) count 0))) ⌝ }
+    ensures { λ r. ⌜ Laid (now (out .entry)) (now (out .exit)) (at .0) (r .0) (elementBits 5 (extendedElementBits (recordsAt (now (records .entry)) count 0))) ⌝ }
+    ensures { λ r. ⌜ r .0 ≤ at .0 + 60 + 21 * count ⌝ }
+{
+    let v = size_for(n);
+    let pad = minus(8 * (v + 1), n);
+    let p = put_front(out, at, 5, v);
+    let p = put_extended_fields(out, p, records, count);
+    put_zeros(out, p, pad)
+}

@@ -1,0 +1,91 @@
+-- What a write answers, and what the lent buffer holds afterwards, for all tables, all record bytes and all buffers.
+use mathlib.Core.List.{List, [], _∷_}
+use Prim.Native.Nat.{ℕ, zero, suc, _+_}
+use lib.Dec.{leb, ltb}
+use lib.ListN.{length, getD}
+use Rattle.bits.specs.declared.Refusal.the-variants.{NotValid, NoFit}
+use Rattle.bits.specs.Refusals.{numberOf}
+use Rattle.bits.specs.Language.{pick}
+use Rattle.oamd.specs.declared.Programme.{Programme}
+use Rattle.oamd.specs.declared.Timing.{Timing}
+use Rattle.oamd.specs.declared.Scene.{Scene}
+use Rattle.oamd.specs.declared.Divergence.{Divergence}
+use Rattle.oamd.specs.declared.Precise.{Precise}
+use Rattle.oamd.specs.Tables.{mostBytes, recordStride}
+use Rattle.oamd.specs.Programme.{shares}
+use Rattle.oamd.specs.Record.{Record, recordOf, onto}
+use Rattle.oamd.specs.Payload.{Tables}
+use Rattle.oamd.specs.Answer.{needed}
+use Rattle.written.specs.Valid.{_and_, programmeValid, timingValid, firstBad, recordCount}
+use Rattle.written.specs.Form.{form}
+
+-- ---- the tables of a programme, a timing and record bytes
+
+-- bytes 0 to 16 of the record that begins at a byte
+unfoldable pub sceneAt : List ℕ → ℕ → Scene
+sceneAt s at = record {
+  active = getD s at 0;
+  class = getD s (at + 1) 0;
+  gain = getD s (at + 2) 0;
+  priority = getD s (at + 3) 0;
+  place = record { x = getD s (at + 4) 0; y = getD s (at + 5) 0; z = getD s (at + 6) 0; distance = getD s (at + 7) 0 };
+  volume = record { width = getD s (at + 8) 0; depth = getD s (at + 9) 0; height = getD s (at + 10) 0 };
+  zone = record { index = getD s (at + 11) 0; elevation = getD s (at + 12) 0 };
+  screen = record { used = getD s (at + 13) 0; factor = getD s (at + 14) 0; depth = getD s (at + 15) 0 };
+  snap = getD s (at + 16) 0;
+}
+
+-- bytes 17 to 19
+unfoldable pub divergenceAt : List ℕ → ℕ → Divergence
+divergenceAt s at = record { used = getD s (at + 17) 0; mode = getD s (at + 18) 0; value = getD s (at + 19) 0 }
+
+-- bytes 20 to 23
+unfoldable pub preciseAt : List ℕ → ℕ → Precise
+preciseAt s at = record { presence = getD s (at + 20) 0; x = getD s (at + 21) 0; y = getD s (at + 22) 0; z = getD s (at + 23) 0 }
+
+abbrev pub recordAt : List ℕ → ℕ → Record
+recordAt s at = recordOf (sceneAt s at) (divergenceAt s at) (preciseAt s at)
+
+-- n records, the first of which begins at a byte
+unfoldable pub recordsAt : List ℕ → ℕ → ℕ → List Record
+recordsAt s zero at = []
+recordsAt s (suc n) at = recordAt s at ∷ recordsAt s n (at + recordStride)
+
+abbrev pub tablesOf : Programme → Timing → List ℕ → Tables
+tablesOf p t s = record { programme = p; timing = t; records = recordsAt s (recordCount p t) 0 }
+
+-- ---- the answer
+
+pub record WriteAnswer : Type 0 where
+  pub place : ℕ
+  pub refusal : ℕ
+  pub length : ℕ
+
+-- the answer, and the lent buffer afterwards
+pub record Written : Type 0 where
+  pub answer : WriteAnswer
+  pub out : List ℕ
+
+-- refused, the buffer is as it came
+abbrev pub refusedTo : List ℕ → ℕ → ℕ → Written
+refusedTo out number place = record { answer = record { place = place; refusal = number; length = 0 }; out = out }
+
+-- accepted, the payload is the first bytes of the buffer, and the others stay
+abbrev pub writtenTo : List ℕ → List ℕ → Written
+writtenTo out payload = record { answer = record { place = 0; refusal = 0; length = length payload }; out = onto payload out }
+
+-- the room is looked at last of all
+unfoldable pub fitted : List ℕ → List ℕ → Written
+fitted out payload =
+    pick (leb (length payload) (length out) and leb (length payload) mostBytes) (writtenTo out payload) (refusedTo out (numberOf NoFit) (length payload))
+
+-- the records, before the room
+unfoldable pub judged : List ℕ → Tables → ℕ → Written
+judged out t bad = pick (ltb bad (recordCount (t .programme) (t .timing))) (refusedTo out (numberOf NotValid) (1 + bad)) (fitted out (form t))
+
+-- programme, timing and how many record bytes there are, first of all
+unfoldable pub writing : Programme → Timing → List ℕ → List ℕ → Written
+writing p t s out =
+    pick (programmeValid p and timingValid t and leb (needed (tablesOf p t s)) (length s))
+    (judged out (tablesOf p t s) (firstBad (shares p) (t .blocks) 0 (recordsAt s (recordCount p t) 0)))
+    (refusedTo out (numberOf NotValid) 0)

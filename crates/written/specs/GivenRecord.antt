@@ -1,0 +1,140 @@
+-- Every valid record of a class is given by some accepted payload: that of a programme whose first object is of this class, with one block.
+use mathlib.Core.Path.{_≡_, refl, ap, _∙_}
+use mathlib.Core.Bool.{true}
+use mathlib.Core.List.{List, _∷_}
+use Prim.Native.Nat.{ℕ, _-_, _*_, _/_, _≤_}
+use native.Mathlib.Omega.{arith}
+use lib.ListN.{length, replicate}
+use lib.Seq.{length-take-le}
+use Rattle.bits.specs.Language.{ok, run, bit, pastPayload}
+use Rattle.bits.specs.Bytes.{length-toBytes}
+use Rattle.oamd.specs.declared.Programme.{Programme}
+use Rattle.oamd.specs.declared.Timing.{Timing}
+use Rattle.oamd.specs.Tables.{mostBytes, mostBeds, mostBlocks}
+use Rattle.oamd.specs.Programme.{noBed, labels, bedObjects, allBeds, named, agrees, shares, classOf}
+use Rattle.oamd.specs.Timing.{noUpdate}
+use Rattle.oamd.specs.Record.{Record}
+use Rattle.oamd.specs.Payload.{Payload, object-audio-metadata-payload, Tables, tables}
+use Rattle.written.specs.Valid.{ranged, bedValid, entriesValid, programmeValid, sampleOffset, updateValid, timingValid, recordValid, Valid}
+use Rattle.written.specs.Form.{hasObject, hasExtended, formBits, form}
+use Rattle.written.specs.Lemmas.Facts.{by-eq}
+use Rattle.written.specs.Lemmas.ProgrammeBack.{programme-facts, beds-le}
+use Rattle.written.specs.Lemmas.TimingBack.{timing-facts, sent-long}
+use Rattle.written.specs.Lemmas.AcceptedRecords.{no-bad}
+use Rattle.written.specs.Lemmas.Lengths.{Short, also, bits-short, if-sent, at-most, header-short, object-element-short, extended-element-short, element-short}
+use Rattle.written.specs.RoundTrip.{round-trip}
+use Rattle.written.specs.Given.{idleRecords, all-idle, idle-count}
+
+-- the form of up to 328 records is always short enough
+pub few-fit : (t : Tables) → Valid t → length (t .records) ≤ 328 → length (form t) ≤ mostBytes
+unfolding form formBits
+few-fit t v few =
+    let pf = programme-facts (t .programme) (v .programme) in
+    let tf = timing-facts (t .timing) (v .timing) in
+    let nine = pf .nine in
+    let blocks = tf .blocks in
+    let a = length-take-le (t .programme .bedcount) (t .programme .beds) (beds-le (t .programme) pf) in
+    let b = beds-le (t .programme) pf in
+    let c = sent-long (t .timing) tf in
+    let all : Short (formBits t) 32768 =
+    at-most 32768 (also (header-short (t .programme)) (also (bits-short 4 _) (also (if-sent (hasObject t) (element-short 1 _ _ (object-element-short t)))
+    (if-sent (hasExtended (t .records)) (element-short 5 _ _ (extended-element-short (t .records))))))) (omega arith) in
+    let n = length-toBytes (formBits t) in
+    let m = all .most in
+    omega arith
+
+-- ---- a programme for each class
+
+abbrev dynamicOnly : ℕ → Programme
+dynamicOnly lfe = record {
+  objects = 1;
+  dynonly = 1;
+  lfe = lfe;
+  content = 0;
+  distribute = 0;
+  multiple = 0;
+  instances = 0;
+  bedcount = 0;
+  isf = 0;
+  dynamics = 0;
+  beds = replicate mostBeds noBed;
+}
+
+abbrev isfOnly : Programme
+isfOnly = record {
+  objects = 4;
+  dynonly = 0;
+  lfe = 0;
+  content = 2;
+  distribute = 0;
+  multiple = 0;
+  instances = 0;
+  bedcount = 0;
+  isf = 0;
+  dynamics = 0;
+  beds = replicate mostBeds noBed;
+}
+
+abbrev oneBlock : Timing
+oneBlock = record { blocks = 1; updates = replicate mostBlocks noUpdate }
+
+-- a programme, valid, whose first object is of a class
+record Fit (class : ℕ) : Type 0 where
+  programme : Programme
+  valid : programmeValid programme ≡ true
+  few : programme .objects ≤ 4
+  some : 1 ≤ programme .objects
+  first : classOf (shares programme) (0 / 1) ≡ class
+
+fit : (class : ℕ) → class ≤ 2 → Fit class
+unfolding programmeValid ranged entriesValid bedValid agrees named allBeds bedObjects labels shares classOf
+fit class h = by-eq class 0
+    (λ e. rw e (record { programme = dynamicOnly 1; valid = refl; few = omega arith; some = omega arith; first = refl }))
+    (λ m. by-eq class 1
+    (λ e. rw e (record { programme = isfOnly; valid = refl; few = omega arith; some = omega arith; first = refl }))
+    (λ n.
+    let e : class ≡ 2 = omega arith in
+    rw e (record { programme = dynamicOnly 0; valid = refl; few = omega arith; some = omega arith; first = refl })))
+
+one-block-valid : timingValid oneBlock ≡ true
+unfolding timingValid ranged sampleOffset entriesValid updateValid
+one-block-valid = refl
+
+-- ---- the statement
+
+-- the bytes of a payload, no more than one may have, and what is read of them: this record first
+pub record RecordGivenBy (r : Record) : Type 0 where
+  pub bytes : List ℕ
+  pub short : length bytes ≤ mostBytes
+  pub payload : Payload
+  pub end : ℕ
+  pub reads : run object-audio-metadata-payload (bit bytes) 0 (8 * length bytes) pastPayload ≡ ok payload end
+  pub others : List Record
+  pub records : tables (payload .programme) (payload .known) .records ≡ r ∷ others
+
+-- valid tables of few records are given
+from-tables : (t : Tables) (r : Record) (others : List Record) → Valid t → length (t .records) ≤ 328 → t .records ≡ r ∷ others → RecordGivenBy r
+from-tables t r others v few e =
+    let a = round-trip t v in
+    record {
+      bytes = form t;
+      short = few-fit t v few;
+      payload = a .payload;
+      end = a .end;
+      reads = a .reads;
+      others = others;
+      records = ap (λ (x : Tables). x .records) (a .same) ∙ e;
+    }
+
+pub record-given : (class : ℕ) (r : Record) → class ≤ 2 → recordValid class r ≡ true → RecordGivenBy r
+record-given class r low good =
+    let f = fit class low in
+    let p : Programme = f .programme in
+    let few = f .few in
+    let some = f .some in
+    let others : List Record = idleRecords (shares p) 1 1 (p .objects - 1) in
+    let n : length (r ∷ others) ≡ p .objects * 1 = (let c = idle-count (shares p) 1 1 (p .objects - 1) in omega arith) in
+    let g : recordValid (classOf (shares p) (0 / 1)) r ≡ true = rw (f .first) good in
+    let b = no-bad (shares p) 1 0 (r ∷ others) (g, all-idle (shares p) 1 1 (p .objects - 1)) in
+    from-tables (record { programme = p; timing = oneBlock; records = r ∷ others }) r others
+    (record { programme = f .valid; timing = one-block-valid; count = n; records = omega arith }) (omega arith) refl

@@ -1,0 +1,143 @@
+-- 5.5.13 to 5.5.15: what an accepted extended object element carries is valid, and so are the records.
+use mathlib.Core.Path.{_≡_, refl, ap}
+use mathlib.Core.Bool.{Bool, true, false, false≢true}
+use mathlib.Core.List.{List, [], _∷_}
+use Prim.Native.Nat.{ℕ, suc, _+_, _<_}
+use native.Mathlib.Omega.{arith}
+use lib.ListN.{length, replicate}
+use lib.Dec.{eqb}
+use borrow.Author.Tests.{eqb-false}
+use Rattle.bits.specs.Language.{both, each}
+use Rattle.bits.specs.Ensures.{Ensures, All, e-give, e-bind, e-any, e-then, e-when, e-pass, e-if, e-each}
+use Rattle.oamd.specs.declared.Shares.{Shares}
+use Rattle.oamd.specs.declared.Scene.{Scene}
+use Rattle.oamd.specs.declared.Divergence.{Divergence}
+use Rattle.oamd.specs.declared.Precise.{Precise}
+use Rattle.oamd.specs.Programme.{set?}
+use Rattle.oamd.specs.Extended.{obj-div-block, ext-prec-pos-block, hasX, hasY, hasZ, noDivergence, noPrecise, Extension, extended-object-element}
+use Rattle.oamd.specs.Record.{Record, carries, allCarry, plainRecords, extendedRecords}
+use Rattle.written.specs.Valid.{_and_, ranged, leastDivergence, mostDivergence, divergenceValid, preciseValid, recordValid, firstBad}
+use Rattle.written.specs.Lemmas.Facts.{whole, by-test, by-eq, is-ranged}
+use Rattle.written.specs.Lemmas.ObjectsBack.{ValidFrom}
+use Rattle.written.specs.Lemmas.AcceptedProgramme.{read-ranged, always}
+use Rattle.written.specs.Lemmas.AcceptedScenes.{ScenesValid}
+
+-- ---- what is read
+
+-- the value of a mode, from its table or its code
+value-read : (used : Bool) (mode table code : ℕ) → (used ≡ true → mode < 4) → (used ≡ false → 0 ≡ mode) → eqb mode 3 ≡ false
+    → (both used (eqb mode 0) ≡ true → table < 4) → (both used (eqb mode 0) ≡ false → 0 ≡ table)
+    → (eqb mode 2 ≡ true → code < 64) → (eqb mode 2 ≡ false → 0 ≡ code) → both (eqb mode 2) (eqb code 0) ≡ false
+    → ranged used (leastDivergence mode) (mostDivergence mode) 0 (table + code) ≡ true
+value-read true mode table code m m' k t t' c c' z =
+    let l = m refl in
+    let n : mode ≡ 3 → ⊥ = eqb-false mode 3 k in
+    by-eq mode 0
+    (λ e.
+    let a : table < 4 = t (rw e refl) in
+    let b : 0 ≡ code = c' (rw e refl) in
+    rw e (always 0 3 0 (table + code) (omega arith) (omega arith)))
+    (λ x. by-eq mode 1
+    (λ e.
+    let a : 0 ≡ table = t' (rw e refl) in
+    let b : 0 ≡ code = c' (rw e refl) in
+    rw e (always 0 0 0 (table + code) (omega arith) (omega arith)))
+    (λ y.
+    let e : mode ≡ 2 = omega arith in
+    let a : 0 ≡ table = t' (rw e refl) in
+    let b : code < 64 = c (rw e refl) in
+    let d : code ≡ 0 → ⊥ = eqb-false code 0 (rw e at z) in
+    rw e (always 1 63 0 (table + code) (omega arith) (omega arith))))
+value-read false mode table code m m' k t t' c c' z =
+    let e : 0 ≡ mode = m' refl in
+    let a : 0 ≡ table = t' refl in
+    let b : 0 ≡ code = c' (rw (← e) refl) in
+    is-ranged false _ _ 0 (table + code) (λ q. absurd (false≢true q)) (λ q. absurd (false≢true q)) (λ q. omega arith)
+
+divergence-ensures : (sent : Bool) → Ensures (obj-div-block sent) (λ d. divergenceValid sent d ≡ true)
+unfolding obj-div-block divergenceValid
+divergence-ensures sent =
+    e-bind _ _ _ (e-if sent 1 _ λ used u u'.
+    e-bind _ _ _ (e-if (set? used) 2 _ λ mode m m'.
+    e-bind _ _ _ (e-pass (eqb mode 3) _ _ mode _ λ k.
+    e-bind _ _ _ (e-if (both (set? used) (eqb mode 0)) 2 _ λ table t t'.
+    e-bind _ _ _ (e-if (eqb mode 2) 6 _ λ code c c'.
+    e-bind _ _ _ (e-pass (both (eqb mode 2) (eqb code 0)) _ _ code _ λ z.
+    let n : mode ≡ 3 → ⊥ = eqb-false mode 3 k in
+    e-give _ _ (whole _ _ (read-ranged sent 1 used u u') (whole _ _ (read-ranged (set? used) 2 mode (λ q. let l = m q in omega arith) m')
+    (value-read (set? used) mode table code m m' k t t' c c' z)))))))))
+
+precise-ensures : (sent : Bool) → Ensures (ext-prec-pos-block sent) (λ p. preciseValid sent p ≡ true)
+unfolding ext-prec-pos-block preciseValid
+precise-ensures sent =
+    e-bind _ _ _ (e-if sent 1 _ λ given g g'.
+    e-bind _ _ _ (e-if (set? given) 3 _ λ presence n n'.
+    e-bind _ _ _ (e-if (hasX presence) 2 _ λ x a a'.
+    e-bind _ _ _ (e-if (hasY presence) 2 _ λ y b b'.
+    e-bind _ _ _ (e-if (hasZ presence) 2 _ λ z c c'.
+    e-give _ _ (whole _ _
+    (read-ranged sent 7 presence (λ q. by-test (set? given) n (λ p. let e = n' p in omega arith)) (λ q. let e = g' q in n' (rw (← e) refl)))
+    (whole _ _ (read-ranged (hasX presence) 3 x a a') (whole _ _ (read-ranged (hasY presence) 3 y b b') (read-ranged (hasZ presence) 3 z c c')))))))))
+
+-- what is carried of each record, as it was read
+pub record ExtensionRead (sent : List Bool) (x : Extension) : Type 0 where
+  pub divergence : All (λ c d. divergenceValid c d ≡ true) sent (x .divergence)
+  pub precise : All (λ c p. preciseValid c p ≡ true) sent (x .precise)
+
+none-carried : {A : Type 0} (valid : Bool → A → Bool) (none : A) → ((c : Bool) → valid c none ≡ true) → (sent : List Bool)
+    → All (λ c a. valid c a ≡ true) sent (replicate (length sent) none)
+none-carried valid none u [] = tt
+none-carried valid none u (c ∷ cs) = (u c, none-carried valid none u cs)
+
+no-divergence-valid : (c : Bool) → divergenceValid c noDivergence ≡ true
+unfolding divergenceValid ranged
+no-divergence-valid true = refl
+no-divergence-valid false = refl
+
+no-precise-valid : (c : Bool) → preciseValid c noPrecise ≡ true
+unfolding preciseValid ranged
+no-precise-valid true = refl
+no-precise-valid false = refl
+
+pub extension-ensures : (sent : List Bool) → Ensures (extended-object-element sent) (ExtensionRead sent)
+unfolding extended-object-element
+extension-ensures sent =
+    e-bind _ _ _ (e-any _ _ λ b.
+    e-bind _ _ _ (e-then _ (All (λ c d. divergenceValid c d ≡ true) sent) _ (e-when (set? b) (each obj-div-block sent) _ _
+    (λ q. e-each obj-div-block (λ c d. divergenceValid c d ≡ true) divergence-ensures sent)
+    (λ q. none-carried divergenceValid noDivergence no-divergence-valid sent)) λ ds d.
+    e-bind _ _ _ (e-any _ _ λ c.
+    e-bind _ _ _ (e-then _ (All (λ c p. preciseValid c p ≡ true) sent) _ (e-when (set? c) (each ext-prec-pos-block sent) _ _
+    (λ q. e-each ext-prec-pos-block (λ c p. preciseValid c p ≡ true) precise-ensures sent)
+    (λ q. none-carried preciseValid noPrecise no-precise-valid sent)) λ ps p.
+    e-give _ _ (record { divergence = d; precise = p })))))
+
+-- ---- the records
+
+-- each is valid, and there are as many as scenes
+pub record RecordsValid (s : Shares) (blocks i : ℕ) (n : ℕ) (rs : List Record) : Type 0 where
+  pub valid : ValidFrom s blocks i rs
+  pub long : length rs ≡ n
+
+pub plain-valid : (s : Shares) (blocks i : ℕ) (ss : List Scene) → ScenesValid s blocks i ss → RecordsValid s blocks i (length ss) (plainRecords ss)
+unfolding plainRecords recordValid
+plain-valid s blocks i [] h = record { valid = tt; long = refl }
+plain-valid s blocks i (x ∷ ss) h =
+    let r = plain-valid s blocks (suc i) ss (h .1) in
+    record { valid = (whole _ _ (h .0) (whole _ _ (no-divergence-valid (carries x)) (no-precise-valid (carries x))), r .valid); long = ap suc (r .long) }
+
+pub extended-valid : (s : Shares) (blocks i : ℕ) (ss : List Scene) (ds : List Divergence) (ps : List Precise) → ScenesValid s blocks i ss
+    → All (λ c d. divergenceValid c d ≡ true) (allCarry ss) ds → All (λ c p. preciseValid c p ≡ true) (allCarry ss) ps
+    → RecordsValid s blocks i (length ss) (extendedRecords ss ds ps)
+unfolding extendedRecords recordValid
+extended-valid s blocks i [] ds ps h d p = record { valid = tt; long = refl }
+extended-valid s blocks i (x ∷ ss) [] ps h d p = absurd d
+extended-valid s blocks i (x ∷ ss) (y ∷ ds) [] h d p = absurd p
+extended-valid s blocks i (x ∷ ss) (y ∷ ds) (z ∷ ps) h d p =
+    let r = extended-valid s blocks (suc i) ss ds ps (h .1) (d .1) (p .1) in
+    record { valid = (whole _ _ (h .0) (whole _ _ (d .0) (p .0)), r .valid); long = ap suc (r .long) }
+
+pub no-bad : (s : Shares) (blocks i : ℕ) (rs : List Record) → ValidFrom s blocks i rs → firstBad s blocks i rs ≡ i + length rs
+unfolding firstBad
+no-bad s blocks i [] h = omega arith
+no-bad s blocks i (r ∷ rs) h = rw (h .0) (let e = no-bad s blocks (suc i) rs (h .1) in omega arith)

@@ -1,0 +1,14 @@
+pub mod Valid
+pub mod Coded
+pub mod Form
+pub mod Answer
+pub mod Lemmas
+pub mod RoundTrip
+pub mod WriteRead
+pub mod Accepted
+pub mod ReadWrite
+pub mod Given
+pub mod GivenRecord
+pub mod Fewest
+pub mod FewestFrames
+pub mod FewestExtended

@@ -1,0 +1,210 @@
+-- The round trip: what is written of valid tables is read back as these tables.
+use mathlib.Core.Path.{_≡_, refl, sym, ap, _∙_, subst}
+use mathlib.Core.Bool.{false}
+use mathlib.Core.List.{List, [], _∷_, map}
+use mathlib.Core.Option.{none, some}
+use Prim.Native.Nat.{ℕ, _*_, _≤_, _<_}
+use native.Mathlib.Omega.{arith}
+use native.Mathlib.Nat.{zero-mul, mul-zero, mul-le-mul}
+use lib.ListN.{length}
+use borrow.Author.Tests.{le-leb, ltb-true, ltb-false}
+use Rattle.bits.specs.Language.{ok, bits, run, bit, from, for, pastPayload}
+use Rattle.bits.specs.Writes.{eachBits, Writes, w-give, w-bits, w-bind, w-end, w-each}
+use Rattle.bits.specs.Bytes.{from-bytes}
+use Rattle.oamd.specs.declared.Scene.{Scene}
+use Rattle.oamd.specs.declared.Kind.the-variants.{Object, Extended}
+use Rattle.oamd.specs.Tables.{mostBytes, mostObjects, mostBlocks}
+use Rattle.oamd.specs.Programme.{shares, classOf}
+use Rattle.oamd.specs.ObjectElement.{object-data, ObjectElement, object-element}
+use Rattle.oamd.specs.Record.{Record, plainRecords, extendedRecords}
+use Rattle.oamd.specs.Element.{kind, Known, nothing, scenes, fields, State, readKnown, oa-element, oa-element-md, elements}
+use Rattle.oamd.specs.Payload.{oa-element-count, Payload, object-audio-metadata-payload, Tables, timing, records, tables}
+use Rattle.oamd.specs.Answer.{accepted, needed, housed, reading}
+use Rattle.written.specs.Valid.{recordCount, Valid}
+use Rattle.written.specs.Form.{byObject, objectDataBits, objectElementBits, extendedElementBits, elementBits, any, hasObject, hasExtended, formBits, form}
+use Rattle.written.specs.Lemmas.Facts.{by-test}
+use Rattle.written.specs.Lemmas.ProgrammeBack.{ProgrammeFacts, programme-facts, header-written}
+use Rattle.written.specs.Lemmas.TimingBack.{TimingFacts, timing-facts, codedTiming, sent-long, coded-long, timing-written, timing-means, no-blocks-mean}
+use Rattle.written.specs.Lemmas.ObjectsBack.{ValidFrom, none-bad, codedObject, objects-write, objects-mean}
+use Rattle.written.specs.Lemmas.ExtendedBack.{all-carried, codedExtension, extended-writes, extended-means, plain-means}
+use Rattle.written.specs.Lemmas.ElementBack.{element-writes}
+use Rattle.written.specs.Lemmas.Lengths.{object-element-short, extended-element-short}
+
+-- what is read of an object element
+abbrev pub codedElement : Tables → ObjectElement
+codedElement t = record { timing = codedTiming (t .timing); objects = map codedObject (byObject (t .timing .blocks) (t .programme .objects) (t .records)) }
+
+module _ (t : Tables) (v : Valid t) where
+  p-facts : ProgrammeFacts (t .programme)
+  p-facts = programme-facts (t .programme) (v .programme)
+
+  t-facts : TimingFacts (t .timing)
+  t-facts = timing-facts (t .timing) (v .timing)
+
+  all-good : ValidFrom (shares (t .programme)) (t .timing .blocks) 0 (t .records)
+  all-good =
+      let n = v .count in
+      let b = v .records in
+      none-bad (shares (t .programme)) (t .timing .blocks) 0 (t .records) (omega arith)
+
+  from-zero : ValidFrom (shares (t .programme)) (t .timing .blocks) (0 * t .timing .blocks) (t .records)
+  from-zero = rw (zero-mul (t .timing .blocks)) all-good
+
+  -- ---- 5.5.5
+
+  object-written : 1 ≤ t .timing .blocks → Writes (object-element (t .programme .objects) (shares (t .programme))) (objectElementBits t) (codedElement t)
+  unfolding object-element objectElementBits
+  object-written one =
+      let s = shares (t .programme) in
+      let n : ℕ = t .programme .objects in
+      let os : List (List Record) = byObject (t .timing .blocks) n (t .records) in
+      let loop : Writes (for n (λ j. object-data (t .timing .blocks) (classOf s j))) (eachBits (λ j o. objectDataBits o) 0 os) (map codedObject os) =
+      w-each (λ j. object-data (t .timing .blocks) (classOf s j)) (λ j o. objectDataBits o) codedObject (from 0 n) 0 os
+      (objects-write s (t .timing .blocks) 0 n (t .records) from-zero (v .count)) in
+      w-bind (timing-written (t .timing) t-facts one) (w-bind (w-bits 1 1 (omega arith)) (w-bind (w-give 0)
+      (w-end (subst (λ (b : ℕ). Writes (for n (λ j. object-data b (classOf s j))) (eachBits (λ j o. objectDataBits o) 0 os) (map codedObject os))
+      (sym (coded-long (t .timing) t-facts)) loop) (w-give _))))
+
+  scenes-back : scenes (some (codedElement t)) ≡ map (λ r. r .scene) (t .records)
+  unfolding scenes
+  scenes-back = objects-mean (shares (t .programme)) (t .timing .blocks) 0 (t .programme .objects) [] (t .records) from-zero (v .count)
+
+  -- ---- 5.5.4
+
+  abbrev plain : Known
+  plain = record { object = some (codedElement t); extended = none }
+
+  abbrev whole : Known
+  whole = record { object = some (codedElement t); extended = some (codedExtension (t .records)) }
+
+  -- what has been read, with no unknown element among it
+  abbrev so-far : Known → State
+  so-far known = record { known = known; unknown = 0 }
+
+  -- far fewer bits than four size groups can count
+  few-records : length (t .records) ≤ mostObjects * mostBlocks
+  few-records =
+      let n = v .count in
+      let m : recordCount (t .programme) (t .timing) ≤ mostObjects * mostBlocks = mul-le-mul (p-facts .objects .on refl .1) (t-facts .blocks) in
+      omega arith
+
+  first-fits : length (objectElementBits t) < 559231
+  first-fits =
+      let s = object-element-short t .most in
+      let n = few-records in
+      let u = sent-long (t .timing) t-facts in
+      let b = t-facts .blocks in
+      omega arith
+
+  second-fits : length (extendedElementBits (t .records)) < 559231
+  second-fits =
+      let s = extended-element-short (t .records) .most in
+      let n = few-records in
+      omega arith
+
+  first-written : 1 ≤ t .timing .blocks
+      → Writes (oa-element-md (t .programme) 0 (so-far nothing)) (elementBits 1 (objectElementBits t)) (so-far plain)
+  unfolding oa-element-md oa-element readKnown fields kind
+  first-written one =
+      element-writes (λ k size. oa-element (t .programme) _ (so-far nothing) k) 1 (objectElementBits t) (so-far plain) (omega arith) first-fits
+      (λ size. w-bind (w-give Object) (w-bind (w-give Object) (w-end (w-end (object-written one) (w-give _)) (w-give _))))
+
+  second-written : Writes (oa-element-md (t .programme) 0 (so-far plain)) (elementBits 5 (extendedElementBits (t .records))) (so-far whole)
+  unfolding oa-element-md oa-element readKnown fields kind
+  second-written =
+      let x = extended-writes (t .records) (all-carried (shares (t .programme)) (t .timing .blocks) 0 (t .records) all-good) in
+      element-writes (λ k size. oa-element (t .programme) _ (so-far plain) k) 5 (extendedElementBits (t .records)) (so-far whole) (omega arith) second-fits
+      (λ size. w-bind (w-give Extended) (w-bind (w-give Extended) (w-end (w-end (rw scenes-back x) (w-give _)) (w-give _))))
+
+  -- ---- 5.5.2
+
+  -- the known elements of the payload, whose tables are these
+  record Written : Type 0 where
+    known : Known
+    writes : Writes object-audio-metadata-payload (formBits t) (record { programme = t .programme; known = known; unknown = 0 })
+    same : tables (t .programme) known ≡ t
+
+  -- without blocks there is no record
+  no-records : hasObject t ≡ false → t .records ≡ []
+  no-records o =
+      let b : t .timing .blocks ≡ 0 = (let z = ltb-false 0 (t .timing .blocks) o in omega arith) in
+      let n : length (t .records) ≡ 0 = v .count ∙ ap (λ (k : ℕ). t .programme .objects * k) b ∙ mul-zero (t .programme .objects) in
+      empty (t .records) n
+    where
+      empty : (rs : List Record) → length rs ≡ 0 → rs ≡ []
+      empty [] h = refl
+      empty (r ∷ rs) h = absurd (omega arith)
+
+  payload-written : Written
+  unfolding formBits object-audio-metadata-payload oa-element-count elements tables records scenes timing plainRecords hasExtended any
+  payload-written =
+      let head = header-written (t .programme) p-facts in
+      let time = timing-means (t .timing) t-facts in
+      let held = all-carried (shares (t .programme)) (t .timing .blocks) 0 (t .records) all-good in
+      by-test (hasObject t)
+      (λ o.
+      let some-block = ltb-true 0 (t .timing .blocks) o in
+      let first = first-written some-block in
+      by-test (hasExtended (t .records))
+      (λ x. record {
+        known = whole;
+        writes = rw (o, x) (w-bind head (w-bind (w-end (w-bits 4 2 (omega arith)) (w-bind (w-give 0) (w-give _)))
+            (w-end (w-bind first (w-end second-written (w-give _))) (w-give _))));
+        same = λ i. record {
+          programme = t .programme;
+          timing = time i;
+          records = (ap (λ (ss : List Scene). extendedRecords ss (codedExtension (t .records) .divergence)
+              (codedExtension (t .records) .precise)) scenes-back ∙ extended-means (t .records)) i;
+        };
+      })
+      (λ x. record {
+        known = plain;
+        writes = rw (o, x) (w-bind head (w-bind (w-end (w-bits 4 1 (omega arith)) (w-bind (w-give 0) (w-give _)))
+            (w-end (w-bind first (w-give _)) (w-give _))));
+        same = λ i. record {
+          programme = t .programme;
+          timing = time i;
+          records = (ap plainRecords scenes-back ∙ plain-means (t .records) held x) i;
+        };
+      }))
+      (λ o.
+      let none-left = no-records o in
+      let x : hasExtended (t .records) ≡ false = ap hasExtended none-left in
+      let b : t .timing .blocks ≡ 0 = (let z = ltb-false 0 (t .timing .blocks) o in omega arith) in
+      record {
+        known = nothing;
+        writes = rw (o, x) (w-bind head (w-bind (w-end (w-bits 4 0 (omega arith)) (w-bind (w-give 0) (w-give _))) (w-end (w-give (so-far nothing)) (w-give _))));
+        same = λ i. record { programme = t .programme; timing = no-blocks-mean (t .timing) t-facts b i; records = sym none-left i };
+      })
+
+-- ---- the statements
+
+-- the bytes s are read as the tables t, and none of their elements is unknown
+pub record ReadAs (s : List ℕ) (t : Tables) : Type 0 where
+  pub payload : Payload
+  pub end : ℕ
+  pub reads : run object-audio-metadata-payload (bit s) 0 (8 * length s) pastPayload ≡ ok payload end
+  pub same : tables (payload .programme) (payload .known) ≡ t
+  pub unknown : payload .unknown ≡ 0
+
+-- the form of valid tables, whatever its length, is read as these tables
+pub round-trip : (t : Tables) → Valid t → ReadAs (form t) t
+unfolding form
+round-trip t v =
+    let w = payload-written t v in
+    record {
+      payload = record { programme = t .programme; known = w .known; unknown = 0 };
+      end = _;
+      reads = from-bytes (w .writes);
+      same = w .same;
+      unknown = refl;
+    }
+
+-- and a read is accepted with these tables, where a payload can have that length and the buffer has the room for their records
+pub reads-back : (t : Tables) (buffer : List ℕ) → Valid t → length (form t) ≤ mostBytes → needed t ≤ length buffer
+    → reading (form t) buffer ≡ accepted buffer t 0
+unfolding reading housed
+reads-back t buffer v l room =
+    let r = round-trip t v in
+    let e = r .same in
+    rw (le-leb (length (form t)) mostBytes l, r .reads, r .unknown, e, le-leb (needed t) (length buffer) room) refl
