@@ -1,4 +1,5 @@
 // The format: the types that definitions and code share. The definitions are in specs/, a file for each clause of the standard.
+use units::ByteCount;
 use units::SampleCount;
 
 mod tables; // tables.rt: the standard's tables
@@ -215,4 +216,12 @@ pub struct ReadAnswer {
     pub unknown: u8,
     pub programme: Programme,
     pub timing: Timing,
+}
+
+// What a write answers, beside the payload: on a refusal the length is 0.
+#[repr(C)]
+pub struct WriteAnswer {
+    pub place: u64,
+    pub length: ByteCount,
+    pub refusal: u8,
 }

@@ -7,6 +7,7 @@ ghost use Prim.Native.Nat.{_*_};
 pub struct BitPos(u32);
 
 // A number of whole bytes; in a payload they may begin at any bit.
+#[repr(C)]
 pub struct ByteCount(u32);
 
 // A number of audio samples.

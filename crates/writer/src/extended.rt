@@ -9,8 +9,12 @@ ghost use Prim.Native.Nat.{_*_};
 ghost use lib.ListN.{length};
 ghost use Rattle.bits.specs.Writes.{eachBits};
 ghost use Rattle.oamd.specs.Record.{carries};
-ghost use Rattle.written.specs.Form.{divergenceBits, preciseBits, any, diverges, refines, extendedElementBits};
+ghost use mathlib.Core.Bool.{true};
+ghost use Rattle.bits.specs.Language.{pick};
+ghost use Rattle.written.specs.Form.{divergenceBits, preciseBits, extendedElementBits};
+ghost use Rattle.writer.specs.Parts.{Needed};
 ghost use Rattle.written.specs.Answer.{sceneAt, divergenceAt, preciseAt, recordsAt};
+use crate::Groups;
 use crate::blocks::carries_of;
 use crate::coding::as_flag;
 use crate::fields::put_both;
@@ -142,53 +146,53 @@ fn put_precises_if(on: bool, out: &mut [u8], at: BitPos, records: &[u8], n: usiz
     at
 }
 
-pub fn any_diverges(records: &[u8], n: usize) -> bool
-    requires { ⌜ (n ≤ 2040) × (24 * n ≤ length (now records)) ⌝ }
-    ensures { λ r. ⌜ r ≡ any diverges (recordsAt (now (records .entry)) n 0) ⌝ }
+pub fn either(a: bool, b: bool) -> bool
+    ensures { λ r. ⌜ r ≡ pick a true b ⌝ }
 {
+    if a {
+        return true;
+    }
+    b
+}
+
+// Which of the two groups some record needs.
+pub fn groups_of(records: &[u8], n: usize) -> Groups
+    requires { ⌜ (n ≤ 2040) × (24 * n ≤ length (now records)) ⌝ }
+    ensures { λ r. ⌜ Needed (recordsAt (now (records .entry)) n 0) r ⌝ }
+{
+    let mut diverges = false;
+    let mut refines = false;
     let mut k: usize = 0;
     let mut i: usize = 0;
     while i < n {
         let d = divergence_at(records, k);
-        if d.used == 1 {
-            return true;
-        }
+        let q = precise_at(records, k);
+        diverges = either(diverges, d.used == 1);
+        refines = either(refines, 0 < q.presence);
         k = k + 24;
         i = i + 1;
     }
-    false
-}
-
-pub fn any_refines(records: &[u8], n: usize) -> bool
-    requires { ⌜ (n ≤ 2040) × (24 * n ≤ length (now records)) ⌝ }
-    ensures { λ r. ⌜ r ≡ any refines (recordsAt (now (records .entry)) n 0) ⌝ }
-{
-    let mut k: usize = 0;
-    let mut i: usize = 0;
-    while i < n {
-        let d = precise_at(records, k);
-        if 0 < d.presence {
-            return true;
-        }
-        k = k + 24;
-        i = i + 1;
-    }
-    false
+    Groups { diverges, refines }
 }
 
 // Each of its two groups only where some record needs it.
-pub fn put_extended_fields(out: &mut [u8], at: BitPos, records: &[u8], n: usize) -> BitPos
+pub fn put_extended_fields(
+    out: &mut [u8],
+    at: BitPos,
+    records: &[u8],
+    n: usize,
+    groups: Groups,
+) -> BitPos
     requires { ⌜ at .0 ≤ 1700000 ⌝ }
     requires { ⌜ (n ≤ 2040) × (24 * n ≤ length (now records)) ⌝ }
+    requires { ⌜ Needed (recordsAt (now records) n 0) groups ⌝ }
     ensures { λ r. ⌜ Laid (now (out .entry)) (now (out .exit)) (at .0) (r .0) (extendedElementBits (recordsAt (now (records .entry)) n 0)) ⌝ }
     ensures { λ r. ⌜ r .0 ≤ at .0 + 2 + 21 * n ⌝ }
 {
-    let first = any_diverges(records, n);
-    let second = any_refines(records, n);
-    let one = as_flag(first);
-    let two = as_flag(second);
+    let one = as_flag(groups.diverges);
+    let two = as_flag(groups.refines);
     let p = put(out, at, 1, one as u32);
-    let p = put_divergences_if(first, out, p, records, n);
+    let p = put_divergences_if(groups.diverges, out, p, records, n);
     let p = put(out, p, 1, two as u32);
-    put_precises_if(second, out, p, records, n)
+    put_precises_if(groups.refines, out, p, records, n)
 }

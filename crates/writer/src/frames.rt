@@ -4,9 +4,11 @@ ghost use Prim.Native.Nat.{_+_, _*_, _≤_, _<_};
 ghost use Rattle.writer.specs.Laying.{Laid};
 ghost use mathlib.Core.List.{_++_};
 ghost use lib.ListN.{length};
-ghost use Rattle.bits.specs.Writes.{toBits};
+ghost use Rattle.bits.specs.Writes.{toBits, only};
 ghost use Rattle.written.specs.Form.{sizeBits, objectElementBits, extendedElementBits, elementBits};
 ghost use Rattle.written.specs.Answer.{recordsAt, tablesOf};
+ghost use Rattle.writer.specs.Parts.{Needed};
+use crate::Groups;
 use crate::extended::put_extended_fields;
 use crate::objects::put_object_fields;
 use crate::putting::put;
@@ -39,17 +41,18 @@ pub fn object_inside(q: Programme, t: Timing, records: &[u8]) -> u32
 }
 
 // And inside the extended object element.
-pub fn extended_inside(records: &[u8], count: usize) -> u32
+pub fn extended_inside(records: &[u8], count: usize, groups: Groups) -> u32
     requires { ⌜ (count ≤ 2040) × (24 * count ≤ length (now records)) ⌝ }
+    requires { ⌜ Needed (recordsAt (now records) count 0) groups ⌝ }
     ensures { λ r. ⌜ (r ≡ 1 + length (extendedElementBits (recordsAt (now (records .entry)) count 0))) × (r ≤ 3 + 21 * count) ⌝ }
 {
     let mut scratch = [0u8; 1];
-    let p = put_extended_fields(&mut scratch, BitPos::new(0), records, count);
+    let p = put_extended_fields(&mut scratch, BitPos::new(0), records, count, groups);
     1 + p.raw()
 }
 
 // The object element, with n bits inside.
-pub fn put_object_element(
+fn put_object_element(
     out: &mut [u8],
     at: BitPos,
     q: Programme,
@@ -71,15 +74,17 @@ pub fn put_object_element(
 }
 
 // The extended object element, with n bits inside.
-pub fn put_extended_element(
+fn put_extended_element(
     out: &mut [u8],
     at: BitPos,
     records: &[u8],
     count: usize,
+    groups: Groups,
     n: u32,
 ) -> BitPos
     requires { ⌜ at .0 ≤ 1600000 ⌝ }
     requires { ⌜ (count ≤ 2040) × (24 * count ≤ length (now records)) ⌝ }
+    requires { ⌜ Needed (recordsAt (now records) count 0) groups ⌝ }
     requires { ⌜ (n ≤ 200000) × (n ≡ 1 + length (extendedElementBits (recordsAt (now records) count 0))) ⌝ }
     ensures { λ r. ⌜ Laid (now (out .entry)) (now (out .exit)) (at .0) (r .0) (elementBits 5 (extendedElementBits (recordsAt (now (records .entry)) count 0))) ⌝ }
     ensures { λ r. ⌜ r .0 ≤ at .0 + 60 + 21 * count ⌝ }
@@ -87,6 +92,50 @@ pub fn put_extended_element(
     let v = size_for(n);
     let pad = minus(8 * (v + 1), n);
     let p = put_front(out, at, 5, v);
-    let p = put_extended_fields(out, p, records, count);
+    let p = put_extended_fields(out, p, records, count, groups);
     put_zeros(out, p, pad)
+}
+
+// Each where it is there.
+pub fn put_object_element_if(
+    on: bool,
+    out: &mut [u8],
+    at: BitPos,
+    q: Programme,
+    t: Timing,
+    records: &[u8],
+    n: u32,
+) -> BitPos
+    requires { ⌜ at .0 ≤ 1300000 ⌝ }
+    requires { ⌜ (t .blocks ≤ 8) × (24 * (q .objects * (t .blocks)) ≤ length (now records)) ⌝ }
+    requires { ⌜ (n ≤ 200000) × (n ≡ 1 + length (objectElementBits (tablesOf q t (now records)))) ⌝ }
+    ensures { λ r. ⌜ Laid (now (out .entry)) (now (out .exit)) (at .0) (r .0) (only on (elementBits 1 (objectElementBits (tablesOf q t (now (records .entry)))))) ⌝ }
+    ensures { λ r. ⌜ r .0 ≤ at .0 + 260 + 616 * (q .objects) ⌝ }
+{
+    if on {
+        return put_object_element(out, at, q, t, records, n);
+    }
+    at
+}
+
+pub fn put_extended_element_if(
+    on: bool,
+    out: &mut [u8],
+    at: BitPos,
+    records: &[u8],
+    count: usize,
+    groups: Groups,
+    n: u32,
+) -> BitPos
+    requires { ⌜ at .0 ≤ 1600000 ⌝ }
+    requires { ⌜ (count ≤ 2040) × (24 * count ≤ length (now records)) ⌝ }
+    requires { ⌜ Needed (recordsAt (now records) count 0) groups ⌝ }
+    requires { ⌜ (n ≤ 200000) × (n ≡ 1 + length (extendedElementBits (recordsAt (now records) count 0))) ⌝ }
+    ensures { λ r. ⌜ Laid (now (out .entry)) (now (out .exit)) (at .0) (r .0) (only on (elementBits 5 (extendedElementBits (recordsAt (now (records .entry)) count 0)))) ⌝ }
+    ensures { λ r. ⌜ r .0 ≤ at .0 + 60 + 21 * count ⌝ }
+{
+    if on {
+        return put_extended_element(out, at, records, count, groups, n);
+    }
+    at
 }

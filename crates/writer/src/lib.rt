@@ -1,5 +1,14 @@
-// Lays the written form of tables into a lent buffer, clause by clause of the definition. What does not fit is not stored, so that a run over a short
-// buffer gives the length. Nothing is exported yet: `write` is to stand above these parts, which ask for positions and counts in range.
+// `write`: a programme, a timing and record bytes to a payload in a lent buffer, in the one form of document 01. The parts lay their fields clause by
+// clause of the definition; what does not fit is not stored, so that a part laid over no room gives its length.
+ghost use mathlib.Core.Path.{_≡_};
+ghost use Prim.Native.Nat.{_*_, _≤_};
+ghost use lib.ListN.{length};
+ghost use Rattle.written.specs.Form.{form};
+ghost use Rattle.written.specs.Answer.{tablesOf, refusedWrite, fitted, writing};
+use oamd::Programme;
+use oamd::Timing;
+use oamd::WriteAnswer;
+use units::ByteCount;
 
 mod putting; // putting.rt: a field written
 mod coding; // coding.rt: from a value to the coded fields that carry it
@@ -9,5 +18,82 @@ mod head; // head.rt: what stands before the elements
 mod timing; // timing.rt: the timing
 mod objects; // objects.rt: the object element's fields
 mod extended; // extended.rt: the extended object element's fields
-mod frames; // frames.rt: the two elements
 mod sizes; // sizes.rt: an element's size
+mod frames; // frames.rt: the two elements
+mod form; // form.rt: the whole form
+
+// The longest payload.
+const MOST: u32 = 4096;
+
+// Which groups of the extended element some record needs.
+pub struct Groups {
+    pub diverges: bool,
+    pub refines: bool,
+}
+
+// Bits: inside the object element, inside the extended object element, and of the whole form.
+pub struct Measures {
+    pub object: u32,
+    pub extended: u32,
+    pub whole: u32,
+}
+
+fn refused(refusal: u8, place: u64) -> WriteAnswer
+    ensures { λ r. ⌜ r ≡ refusedWrite refusal place ⌝ }
+{
+    WriteAnswer {
+        place,
+        length: ByteCount::new(0),
+        refusal,
+    }
+}
+
+// Writes the form of valid tables, if there is room for all of it.
+fn write_form(q: Programme, t: Timing, records: &[u8], payload: &mut [u8]) -> WriteAnswer
+    requires { ⌜ (q .bedcount ≤ 9) × (t .blocks ≤ 8) × (24 * (q .objects * (t .blocks)) ≤ length (now records)) ⌝ }
+    ensures { λ r. ⌜ (record { answer = r; out = now (payload .exit) }) ≡ fitted (now (payload .entry)) (form (tablesOf q t (now (records .entry)))) ⌝ }
+{
+    let count = q.objects as usize * t.blocks as usize;
+    let groups = extended::groups_of(records, count);
+    let m = form::measure(q, t, records, count, groups);
+    let bytes = (m.whole + 7) / 8;
+    if payload.len() < bytes as usize {
+        return refused(11, bytes as u64);
+    }
+    if MOST < bytes {
+        return refused(11, bytes as u64);
+    }
+    let p = form::put_form(payload, q, t, records, count, groups, m);
+    putting::put_zeros(payload, p, 8 * bytes - m.whole);
+    WriteAnswer {
+        place: 0,
+        length: ByteCount::new(bytes),
+        refusal: 0,
+    }
+}
+
+// Writes tables. Accepted: the payload is the first bytes of the lent buffer, and no other byte of it changes. Refused: none changes.
+pub fn write(
+    programme: Programme,
+    timing: Timing,
+    records: &[u8],
+    payload: &mut [u8],
+) -> WriteAnswer
+    ensures { λ r. ⌜ (record { answer = r; out = now (payload .exit) }) ≡ writing programme timing (now (records .entry)) (now (payload .entry)) ⌝ }
+{
+    let count = programme.objects as usize * timing.blocks as usize;
+    if !checks::programme_valid(programme) {
+        return refused(10, 0);
+    }
+    if !checks::timing_valid(timing) {
+        return refused(10, 0);
+    }
+    if records.len() < 24 * count {
+        return refused(10, 0);
+    }
+    let bad = checks::first_bad(programme, timing, records);
+    if bad < count {
+        return refused(10, 1 + bad as u64);
+    }
+    write_form(programme, timing, records, payload)
+}

@@ -11,6 +11,7 @@ use Rattle.oamd.specs.declared.Timing.{Timing}
 use Rattle.oamd.specs.declared.Scene.{Scene}
 use Rattle.oamd.specs.declared.Divergence.{Divergence}
 use Rattle.oamd.specs.declared.Precise.{Precise}
+use Rattle.oamd.specs.declared.WriteAnswer.{WriteAnswer}
 use Rattle.oamd.specs.Tables.{mostBytes, recordStride}
 use Rattle.oamd.specs.Programme.{shares}
 use Rattle.oamd.specs.Record.{Record, recordOf, onto}
@@ -56,23 +57,21 @@ tablesOf p t s = record { programme = p; timing = t; records = recordsAt s (reco
 
 -- ---- the answer
 
-pub record WriteAnswer : Type 0 where
-  pub place : ℕ
-  pub refusal : ℕ
-  pub length : ℕ
-
 -- the answer, and the lent buffer afterwards
 pub record Written : Type 0 where
   pub answer : WriteAnswer
   pub out : List ℕ
 
+abbrev pub refusedWrite : ℕ → ℕ → WriteAnswer
+refusedWrite number place = record { place = place; length = record { 0 = 0 }; refusal = number }
+
 -- refused, the buffer is as it came
 abbrev pub refusedTo : List ℕ → ℕ → ℕ → Written
-refusedTo out number place = record { answer = record { place = place; refusal = number; length = 0 }; out = out }
+refusedTo out number place = record { answer = refusedWrite number place; out = out }
 
 -- accepted, the payload is the first bytes of the buffer, and the others stay
 abbrev pub writtenTo : List ℕ → List ℕ → Written
-writtenTo out payload = record { answer = record { place = 0; refusal = 0; length = length payload }; out = onto payload out }
+writtenTo out payload = record { answer = record { place = 0; length = record { 0 = length payload }; refusal = 0 }; out = onto payload out }
 
 -- the room is looked at last of all
 unfoldable pub fitted : List ℕ → List ℕ → Written

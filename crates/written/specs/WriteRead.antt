@@ -124,7 +124,7 @@ writes-valid p t s out v enough room short =
 -- What an accepted write has put into the buffer, read into a buffer that has the room, gives the programme, the timing and the record bytes
 -- that were given to the write, and no unknown element.
 pub write-read : (p : Programme) (t : Timing) (s out buffer : List ℕ) → writing p t s out .answer .refusal ≡ 0 → needed (tablesOf p t s) ≤ length buffer
-    → reading (take (writing p t s out .answer .length) (writing p t s out .out)) buffer
+    → reading (take (writing p t s out .answer .length .0) (writing p t s out .out)) buffer
     ≡ record { answer = acceptedWith p t 0; buffer = onto (take (needed (tablesOf p t s)) s) buffer }
 unfolding onto
 write-read p t s out buffer h room =

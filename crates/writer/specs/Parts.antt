@@ -1,0 +1,22 @@
+-- What the parts of a form are laid by, found before a bit is laid.
+use mathlib.Core.Path.{_≡_}
+use mathlib.Core.List.{List}
+use Prim.Native.Nat.{ℕ, _+_, _≤_}
+use lib.ListN.{length}
+use Rattle.oamd.specs.Record.{Record}
+use Rattle.oamd.specs.Payload.{Tables}
+use Rattle.written.specs.Form.{any, diverges, refines, objectElementBits, extendedElementBits, formBits}
+use Rattle.writer.specs.declared.Groups.{Groups}
+use Rattle.writer.specs.declared.Measures.{Measures}
+
+-- which groups of the extended element some record needs
+pub record Needed (rs : List Record) (g : Groups) : Type 0 where
+  pub diverges : g .diverges ≡ any diverges rs
+  pub refines : g .refines ≡ any refines rs
+
+-- the bits inside each element, the discard flag and the fields; and those of the whole form
+pub record Measured (t : Tables) (m : Measures) : Type 0 where
+  pub object : m .object ≡ 1 + length (objectElementBits t)
+  pub extended : m .extended ≡ 1 + length (extendedElementBits (t .records))
+  pub whole : m .whole ≡ length (formBits t)
+  pub small : (m .object ≤ 200000) × (m .extended ≤ 200000) × (m .whole ≤ 500000)
