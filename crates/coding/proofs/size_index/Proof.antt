@@ -1,7 +1,7 @@
 use borrow.Author.Needs.{needs}
 use Rattle.written.specs.Coded.{sizeIndex}
-use Rattle.writer.proofs.coding.size_index.Statement.{statement}
-use Rattle.writer.proofs.coding.size_index.Tie as tie
+use Rattle.coding.proofs.size_index.Statement.{statement}
+use Rattle.coding.proofs.size_index.Tie as tie
 
 returns : tie.Need-returns
 unfolding sizeIndex

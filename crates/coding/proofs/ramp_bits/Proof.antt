@@ -1,6 +1,6 @@
 use borrow.Author.Needs.{needs}
-use Rattle.writer.proofs.coding.ramp_bits.Statement.{statement}
-use Rattle.writer.proofs.coding.ramp_bits.Tie as tie
+use Rattle.coding.proofs.ramp_bits.Statement.{statement}
+use Rattle.coding.proofs.ramp_bits.Tie as tie
 
 returns : tie.Need-returns
 returns c = rw (← c .before .both .ensures, c .if1 .taken)

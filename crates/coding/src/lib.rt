@@ -51,7 +51,19 @@ pub fn ramp_code(ramp: u16) -> u8
     choice(ramp == 0, 0, more)
 }
 
-// Else 11 bits, but for 2,048, which they do not hold.
+// Else 11 bits, but for 2,048, which they do not hold: that one goes by index 15 (Table 25).
+pub fn ramp_indexed(ramp: u16) -> u8
+    ensures { λ r. ⌜ r ≡ pick (ltb ramp 2048) 0 1 ⌝ }
+{
+    choice(ramp < 2048, 0, 1)
+}
+
+pub fn ramp_index(ramp: u16) -> u8
+    ensures { λ r. ⌜ r ≡ pick (ltb ramp 2048) 0 15 ⌝ }
+{
+    choice(ramp < 2048, 0, 15)
+}
+
 pub fn ramp_bits(code: u8, ramp: u16) -> u16
     ensures { λ r. ⌜ r ≡ pick (both (eqb code 3) (ltb ramp 2048)) ramp 0 ⌝ }
 {

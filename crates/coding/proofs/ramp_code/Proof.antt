@@ -1,7 +1,7 @@
 use borrow.Author.Needs.{needs}
 use Rattle.written.specs.Coded.{rampCode}
-use Rattle.writer.proofs.coding.ramp_code.Statement.{statement}
-use Rattle.writer.proofs.coding.ramp_code.Tie as tie
+use Rattle.coding.proofs.ramp_code.Statement.{statement}
+use Rattle.coding.proofs.ramp_code.Tie as tie
 
 returns : tie.Need-returns
 unfolding rampCode

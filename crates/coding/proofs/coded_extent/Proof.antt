@@ -1,7 +1,7 @@
 use borrow.Author.Needs.{needs}
 use Rattle.written.specs.Coded.{codedExtent}
-use Rattle.writer.proofs.coding.coded_extent.Statement.{statement}
-use Rattle.writer.proofs.coding.coded_extent.Tie as tie
+use Rattle.coding.proofs.coded_extent.Statement.{statement}
+use Rattle.coding.proofs.coded_extent.Tie as tie
 
 returns : tie.Need-returns
 unfolding codedExtent

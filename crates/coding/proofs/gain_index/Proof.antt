@@ -1,7 +1,7 @@
 use borrow.Author.Needs.{needs}
 use Rattle.written.specs.Coded.{gainIndex}
-use Rattle.writer.proofs.coding.gain_index.Statement.{statement}
-use Rattle.writer.proofs.coding.gain_index.Tie as tie
+use Rattle.coding.proofs.gain_index.Statement.{statement}
+use Rattle.coding.proofs.gain_index.Tie as tie
 
 returns : tie.Need-returns
 unfolding gainIndex

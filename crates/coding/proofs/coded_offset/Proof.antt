@@ -1,7 +1,7 @@
 use borrow.Author.Needs.{needs}
 use Rattle.written.specs.Coded.{codedOffset}
-use Rattle.writer.proofs.coding.coded_offset.Statement.{statement}
-use Rattle.writer.proofs.coding.coded_offset.Tie as tie
+use Rattle.coding.proofs.coded_offset.Statement.{statement}
+use Rattle.coding.proofs.coded_offset.Tie as tie
 
 returns : tie.Need-returns
 unfolding codedOffset

@@ -1,7 +1,7 @@
 use borrow.Author.Needs.{needs}
 use Rattle.written.specs.Coded.{zBits}
-use Rattle.writer.proofs.coding.z_bits.Statement.{statement}
-use Rattle.writer.proofs.coding.z_bits.Tie as tie
+use Rattle.coding.proofs.z_bits.Statement.{statement}
+use Rattle.coding.proofs.z_bits.Tie as tie
 
 returns : tie.Need-returns
 unfolding zBits

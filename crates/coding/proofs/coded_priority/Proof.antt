@@ -1,7 +1,7 @@
 use borrow.Author.Needs.{needs}
 use Rattle.written.specs.Coded.{codedPriority}
-use Rattle.writer.proofs.coding.coded_priority.Statement.{statement}
-use Rattle.writer.proofs.coding.coded_priority.Tie as tie
+use Rattle.coding.proofs.coded_priority.Statement.{statement}
+use Rattle.coding.proofs.coded_priority.Tie as tie
 
 returns : tie.Need-returns
 unfolding codedPriority

@@ -1,7 +1,7 @@
 use borrow.Author.Needs.{needs}
 use Rattle.written.specs.Coded.{zSign}
-use Rattle.writer.proofs.coding.z_sign.Statement.{statement}
-use Rattle.writer.proofs.coding.z_sign.Tie as tie
+use Rattle.coding.proofs.z_sign.Statement.{statement}
+use Rattle.coding.proofs.z_sign.Tie as tie
 
 returns : tie.Need-returns
 unfolding zSign

@@ -1,7 +1,7 @@
 use borrow.Author.Needs.{needs}
 use Rattle.written.specs.Coded.{codedGain}
-use Rattle.writer.proofs.coding.coded_gain.Statement.{statement}
-use Rattle.writer.proofs.coding.coded_gain.Tie as tie
+use Rattle.coding.proofs.coded_gain.Statement.{statement}
+use Rattle.coding.proofs.coded_gain.Tie as tie
 
 returns : tie.Need-returns
 unfolding codedGain

@@ -1,7 +1,7 @@
 use borrow.Author.Needs.{needs}
 use Rattle.written.specs.Coded.{codedDistance}
-use Rattle.writer.proofs.coding.coded_distance.Statement.{statement}
-use Rattle.writer.proofs.coding.coded_distance.Tie as tie
+use Rattle.coding.proofs.coded_distance.Statement.{statement}
+use Rattle.coding.proofs.coded_distance.Tie as tie
 
 returns : tie.Need-returns
 unfolding codedDistance
