@@ -67,7 +67,7 @@ fn print_hex(bytes: &[u8]) {
         i = i + 1;
     }
     let to = 2 * i;
-    io::write_all(OUT, &text[..to]);
+    io::write_all(OUT, &text[0..to]);
 }
 
 // The record's bytes from a place on, as hex digits; past the end of the records nothing is printed.

@@ -41,8 +41,8 @@ fn write_back(a: ReadAnswer, records: &[u8]) {
     if 4096 < n {
         return;
     }
-    printing::written(&payload[..n]);
-    let back = reads_back(a, records, &payload[..n]);
+    printing::written(&payload[0..n]);
+    let back = reads_back(a, records, &payload[0..n]);
     printing::line(&keys::READ_BACK, back as u64);
 }
 
