@@ -5,6 +5,9 @@ use oamd::ReadAnswer;
 use oamd::Timing;
 use oamd::Update;
 
+// The bytes that hold the records of every payload.
+const ROOM: usize = 30720;
+
 fn same_bed(a: Bed, b: Bed) -> bool {
     if a.assignment != b.assignment {
         return false;
@@ -115,16 +118,13 @@ fn same_bytes(a: &[u8], b: &[u8], n: usize) -> bool {
     true
 }
 
-// The tables of two answers, each with its records.
+// The tables of two answers, each with a buffer of records that held zeros before.
 pub fn tables(a: ReadAnswer, records: &[u8], b: ReadAnswer, others: &[u8]) -> bool {
-    let programme = a.programme;
-    let timing = a.timing;
-    if !same_programme(programme, b.programme) {
+    if !same_programme(a.programme, b.programme) {
         return false;
     }
-    if !same_timing(timing, b.timing) {
+    if !same_timing(a.timing, b.timing) {
         return false;
     }
-    let n = 24 * (programme.objects as usize * timing.blocks as usize);
-    same_bytes(records, others, n)
+    same_bytes(records, others, ROOM)
 }
