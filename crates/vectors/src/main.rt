@@ -28,9 +28,9 @@ fn reads_back(a: ReadAnswer, records: &[u8], payload: &[u8]) -> bool {
     same::tables(a, records, b, &again)
 }
 
-// Writes the tables of an accepted payload, and reads them back.
+// Writes the tables of an accepted payload over ones, and reads them back.
 fn write_back(a: ReadAnswer, records: &[u8]) {
-    let mut payload = [0u8; 4096];
+    let mut payload = [255u8; 4096];
     let w = writer::write(a.programme, a.timing, records, &mut payload);
     if w.refusal != 0 {
         printing::not_written(w.refusal, w.place);
