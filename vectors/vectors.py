@@ -103,8 +103,8 @@ def write_docs(f):
     for n, v in enumerate(VECTORS):
         f.write("| %d | %s | %s | %s |\n" % (n, cell(v.name), cell(v.exercises), cell(v.how)))
     f.write("\n## Written forms\n\nThe form of the tables of each accepted vector whose reserved content flag is clear stands in `written`, "
-            "from the writer in form.py, which follows document 01 and clause 5.5. These %d were derived by hand from the tables, field by "
-            "field (vectors/written.py), and both agree.\n" % len(HAND))
+            "from the writer in form.py, which follows document 01 and clause 5.5. The bits of these %d were derived by hand from the tables, "
+            "field by field (vectors/written.py); both agree in every field.\n" % len(HAND))
     number = {v.name: n for n, v in enumerate(VECTORS)}
     for name, shows, parts, hexa in HAND:
         f.write("\n### %s (%d)\n\nShows: %s.\n\n```\n%s\n```\n\nBytes:\n\n```\n" % (name, number[name], shows, "\n".join(parts)))

@@ -1,7 +1,8 @@
 """Written forms derived by hand, bit by bit, from the tables of a vector and document 01, "The written form".
 
 `hand` takes the vector's name, what its form shows, the fields in the order of clause 5.5 (a line for each part, `N x` before
-a part that stands N times), and the bytes.  `check_hand` holds them against each other and against form.py.
+a part that stands N times), and the bytes.  The bits were all derived by hand; the bytes of the forms above 17 bytes were
+packed from those bits.  `check_hand` holds them against each other and against form.py.
 """
 from helpers import *
 
