@@ -156,15 +156,19 @@ def groups(*pairs):
 
 
 def size_groups(v):
-    """Size groups of a value: one group to 15, two to 271 (offset 16), three to 4,367 (offset 272)."""
+    """Size groups of a value: one group to 15, two to 271 (offset 16), three to 4,367 (offset 272), four from there
+    (offset 4,368)."""
     if v < 16:
         return groups((v, 0))
     if v < 272:
         v -= 16
         return groups((v >> 4, 1), (v & 15, 0))
-    assert v < 4368
-    v -= 272
-    return groups((v >> 8, 1), (v >> 4 & 15, 1), (v & 15, 0))
+    if v < 4368:
+        v -= 272
+        return groups((v >> 8, 1), (v >> 4 & 15, 1), (v & 15, 0))
+    assert v < 69904
+    v -= 4368
+    return groups((v >> 12, 1), (v >> 8 & 15, 1), (v >> 4 & 15, 1), (v & 15, 0))
 
 
 def element(id_, body, alt=None, discard=0, bytes_=None, pad=0, sizes=None):

@@ -1,13 +1,17 @@
 #!/usr/bin/env python3
-"""Test vectors for a reader of OAMD payloads (ETSI TS 103 420 clauses 5.5, 5.6, document 01).
+"""Test vectors for a reader and a writer of OAMD payloads (ETSI TS 103 420 clauses 5.5, 5.6, document 01).
 
-  python3 vectors.py              write crates/vectors/data/payloads, crates/vectors/stdout and docs/VECTORS.md
-  python3 vectors.py --show N     print the bits of vector N field by field, and its expected text
+  python3 vectors.py              write crates/vectors/data/payloads, crates/vectors/data/written, crates/vectors/stdout
+                                  and docs/VECTORS.md
+  python3 vectors.py --show N     print the bits of vector N field by field, its expected text and its written form
   python3 vectors.py --list       print number, length in bytes and name of every vector
 
-payloads: per vector 2 bytes big-endian length, then the payload.  stdout: per vector a line vector=N, then the lines of
-the listing program of document 01.  The record buffer is taken to be large enough, so refusal 9 does not occur.
-Nothing here decodes a payload: the expected text stands in the vectors_*.py files, derived by hand.
+payloads: per vector 2 bytes big-endian length, then the payload.  written: likewise the written form of the vector's tables;
+length 0 where the payload is refused, has the reserved content flag set, or has a form above 4,096 bytes.  stdout: per vector
+a line vector=N, then the lines of the listing program of document 01, then, of an accepted payload without that flag, the
+written form.  The buffers are taken to be large enough, so refusal 9 does not occur, and 11 only above 4,096 bytes.
+Nothing here decodes a payload: the expected text stands in the vectors_*.py files, derived by hand; form.py writes the forms,
+and written.py has some of them derived by hand.
 """
 import os
 import sys
@@ -23,7 +27,36 @@ import vectors_timing      # noqa: E402,F401
 import vectors_object      # noqa: E402,F401
 import vectors_status      # noqa: E402,F401
 import vectors_extended    # noqa: E402,F401
-from helpers import VECTORS  # noqa: E402
+from form import form, tables_of  # noqa: E402
+from helpers import VECTORS, count_, dyn_only, pack, version  # noqa: E402
+from written import HAND, check_hand  # noqa: E402
+
+# The programme of the vectors whose payload is given as bytes: that of document 01's example, one dynamic object.
+EXAMPLE = [version(), count_(0), dyn_only()]
+EXAMPLE = [field for part in EXAMPLE for field in part]
+
+
+def form_of(v):
+    """The fields of the written form of a vector's tables, or None if there is none."""
+    if v.expected[0] != "refusal=0":
+        return None
+    q, timing, records = tables_of(v.fields or EXAMPLE, v.expected)
+    return form(q, timing, records) if q.content < 8 else None
+
+
+def written_of(v):
+    """The bytes of the written form, of whatever length; none if there is no form."""
+    fields = form_of(v)
+    return pack(fields, 0)[0] if fields else b""
+
+
+def written_lines(v):
+    form_ = written_of(v)
+    if not form_:
+        return []
+    if len(form_) > 4096:
+        return ["written refusal=11 place=%d" % len(form_)]
+    return ["written=" + form_.hex(), "read back=1"]
 
 
 def show(n):
@@ -34,23 +67,50 @@ def show(n):
     print("%d bytes%s: %s" % (len(v.bytes), "" if v.whole == len(v.bytes) else " (cut from %d)" % v.whole,
                               v.bytes[:64].hex(" ") + (" ..." if len(v.bytes) > 64 else "")))
     if v.fields is not None:
-        pos = 0
-        for name, w, value in v.fields:
-            if name == "<HERE>":
-                print("%6d        ---- refusal expected at this bit" % pos)
-                continue
-            bits = format(value, "0%db" % w)
-            if len(bits) > 40:
-                bits = bits[:40] + "..."
-            over = "   <- passes the payload's end" if pos + w > 8 * len(v.bytes) else ""
-            print("%6d %4d  %-36s %s%s%s" % (pos, w, name, bits, " = %d" % value if w > 1 and w <= 17 else "", over))
-            pos += w
-        print("%6d        end of the fields; the payload has %d bits" % (pos, 8 * len(v.bytes)))
-    print("\n".join(v.expected))
+        show_fields(v)
+    print("\n".join(v.expected + written_lines(v)))
+
+
+def show_fields(v):
+    pos = 0
+    for name, w, value in v.fields:
+        if name == "<HERE>":
+            print("%6d        ---- refusal expected at this bit" % pos)
+            continue
+        bits = format(value, "0%db" % w)
+        if len(bits) > 40:
+            bits = bits[:40] + "..."
+        over = "   <- passes the payload's end" if pos + w > 8 * len(v.bytes) else ""
+        print("%6d %4d  %-36s %s%s%s" % (pos, w, name, bits, " = %d" % value if w > 1 and w <= 17 else "", over))
+        pos += w
+    print("%6d        end of the fields; the payload has %d bits" % (pos, 8 * len(v.bytes)))
 
 
 def cell(s):
     return s.replace("|", "\\|").replace("\n", " ")
+
+
+def write_store(name, items):
+    with open(os.path.join(ROOT, "crates", "vectors", "data", name), "wb") as f:
+        for item in items:
+            f.write(len(item).to_bytes(2, "big") + item)
+
+
+def write_docs(f):
+    f.write("# Test vectors\n\nWritten by vectors.py; number N is the N-th payload of `payloads`, the N-th form of `written` and the lines "
+            "after `vector=N` in `stdout`.\n\n| Number | Name | What it exercises | How its expected text was worked out |\n"
+            "|---|---|---|---|\n")
+    for n, v in enumerate(VECTORS):
+        f.write("| %d | %s | %s | %s |\n" % (n, cell(v.name), cell(v.exercises), cell(v.how)))
+    f.write("\n## Written forms\n\nThe form of the tables of each accepted vector whose reserved content flag is clear stands in `written`, "
+            "from the writer in form.py, which follows document 01 and clause 5.5. The bits of these %d were derived by hand from the tables, "
+            "field by field (vectors/written.py); both agree in every field.\n" % len(HAND))
+    number = {v.name: n for n, v in enumerate(VECTORS)}
+    for name, shows, parts, hexa in HAND:
+        f.write("\n### %s (%d)\n\nShows: %s.\n\n```\n%s\n```\n\nBytes:\n\n```\n" % (name, number[name], shows, "\n".join(parts)))
+        for i in range(0, len(hexa), 128):
+            f.write(bytes.fromhex(hexa[i:i + 128]).hex(" ") + "\n")
+        f.write("```\n")
 
 
 def main(argv):
@@ -63,20 +123,15 @@ def main(argv):
         for n, v in enumerate(VECTORS):
             print("%4d %5d  %s" % (n, len(v.bytes), v.name))
         return
-    with open(os.path.join(ROOT, "crates", "vectors", "data", "payloads"), "wb") as f:
-        for v in VECTORS:
-            f.write(len(v.bytes).to_bytes(2, "big") + v.bytes)
+    check_hand(lambda name: form_of(next(v for v in VECTORS if v.name == name)))
+    forms = [written_of(v) for v in VECTORS]
+    write_store("payloads", [v.bytes for v in VECTORS])
+    write_store("written", [f if len(f) <= 4096 else b"" for f in forms])
     with open(os.path.join(ROOT, "crates", "vectors", "stdout"), "w", newline="\n") as f:
         for n, v in enumerate(VECTORS):
-            f.write("vector=%d\n" % n)
-            for line in v.expected:
-                f.write(line + "\n")
+            f.write("\n".join(["vector=%d" % n] + v.expected + written_lines(v)) + "\n")
     with open(os.path.join(ROOT, "docs", "VECTORS.md"), "w", newline="\n") as f:
-        f.write("# Test vectors\n\nWritten by vectors.py; number N is the N-th payload of `payloads` and the lines after "
-                "`vector=N` in `expected`.\n\n| Number | Name | What it exercises | How its expected text was worked out |\n"
-                "|---|---|---|---|\n")
-        for n, v in enumerate(VECTORS):
-            f.write("| %d | %s | %s | %s |\n" % (n, cell(v.name), cell(v.exercises), cell(v.how)))
+        write_docs(f)
     print("%d vectors, %d payload bytes" % (len(VECTORS), sum(len(v.bytes) for v in VECTORS)))
 
 

@@ -1,4 +1,4 @@
-// The key names of the listing, each with its sign of equality.
+// The key names of the listing and of the vectors, each with its sign of equality.
 pub const REFUSAL: [u8; 8] = *b"refusal=";
 
 pub const PLACE: [u8; 6] = *b"place=";
@@ -20,3 +20,7 @@ pub const BLOCK: [u8; 6] = *b"block=";
 pub const RECORD: [u8; 7] = *b"record=";
 
 pub const VECTOR: [u8; 7] = *b"vector=";
+
+pub const WRITTEN: [u8; 8] = *b"written=";
+
+pub const READ_BACK: [u8; 10] = *b"read back=";

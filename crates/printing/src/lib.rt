@@ -9,6 +9,9 @@ const OUT: i32 = 1;
 // The bytes of a record that are printed.
 const SHOWN: usize = 24;
 
+// The longest payload.
+const MOST: usize = 4096;
+
 // A line of a key and a number.
 pub fn line(key: &[u8], n: u64) {
     io::write_all(OUT, key);
@@ -48,6 +51,23 @@ fn print_updates(t: Timing) {
 
 fn digit(n: u8) -> u8 {
     if n < 10 { 48 + n } else { 87 + n % 16 }
+}
+
+// Bytes as hex digits, the first 4,096 of them at most.
+fn print_hex(bytes: &[u8]) {
+    let mut text = [48u8; 8192];
+    let mut i: usize = 0;
+    while i < MOST {
+        if bytes.len() <= i {
+            break;
+        }
+        let b = bytes[i];
+        text[2 * i] = digit(b / 16);
+        text[2 * i + 1] = digit(b % 16);
+        i = i + 1;
+    }
+    let to = 2 * i;
+    io::write_all(OUT, &text[0..to]);
 }
 
 // The record's bytes from a place on, as hex digits; past the end of the records nothing is printed.
@@ -124,13 +144,34 @@ fn print_accepted(a: ReadAnswer, records: &[u8]) {
     print_objects(records, objects, blocks);
 }
 
+// What a read answered.
+pub fn answer(a: ReadAnswer, records: &[u8]) {
+    line(&keys::REFUSAL, a.refusal as u64);
+    line(&keys::PLACE, a.place);
+    if a.refusal == 0 {
+        print_accepted(a, records);
+    }
+}
+
 // Reads a payload and prints what it answers.
 pub fn list(payload: &[u8]) {
     let mut records = [0u8; 30720];
     let a = reader::read(payload, &mut records);
-    line(&keys::REFUSAL, a.refusal as u64);
-    line(&keys::PLACE, a.place);
-    if a.refusal == 0 {
-        print_accepted(a, &records);
-    }
+    answer(a, &records);
+}
+
+// A written payload, as hex digits.
+pub fn written(payload: &[u8]) {
+    io::write_all(OUT, &keys::WRITTEN);
+    print_hex(payload);
+    io::write_all(OUT, b"\n");
+}
+
+// A refusal to write, and its place.
+pub fn not_written(refusal: u8, place: u64) {
+    io::write_all(OUT, b"written ");
+    io::write_all(OUT, &keys::REFUSAL);
+    io::print_decimal(OUT, refusal as u64);
+    io::write_all(OUT, b" ");
+    line(&keys::PLACE, place);
 }

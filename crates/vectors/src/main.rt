@@ -1,11 +1,62 @@
-// Lists every payload of data/payloads: two bytes of length, the higher first, and the payload, one after the other.
+// Lists every payload of data/payloads: two bytes of length, the higher first, and the payload, one after the other. The tables of each that is
+// accepted are written, and what is written is read back; tables with the reserved content flag have no written form.
 ghost use mathlib.Core.Path.{_≡_};
 ghost use Prim.Native.Nat.{_<_};
+use oamd::ReadAnswer;
+
+mod same; // same.rt: whether two tables are the same
+
+// The reserved content flag, the first of the four that are sent.
+const RESERVED: u8 = 8;
 
 fn wide(x: u8) -> usize
     ensures { λ r. ⌜ (r ≡ x) × (r < 256) ⌝ }
 {
     x as usize
+}
+
+// Whether a written payload gives the tables that it was written from, and no unknown element.
+fn reads_back(a: ReadAnswer, records: &[u8], payload: &[u8]) -> bool {
+    let mut again = [0u8; 30720];
+    let b = reader::read(payload, &mut again);
+    if b.refusal != 0 {
+        return false;
+    }
+    if b.unknown != 0 {
+        return false;
+    }
+    same::tables(a, records, b, &again)
+}
+
+// Writes the tables of an accepted payload over ones, and reads them back.
+fn write_back(a: ReadAnswer, records: &[u8]) {
+    let mut payload = [255u8; 4096];
+    let w = writer::write(a.programme, a.timing, records, &mut payload);
+    if w.refusal != 0 {
+        printing::not_written(w.refusal, w.place);
+        return;
+    }
+    let length = w.length;
+    let n = length.raw() as usize;
+    if 4096 < n {
+        return;
+    }
+    printing::written(&payload[0..n]);
+    let back = reads_back(a, records, &payload[0..n]);
+    printing::line(&keys::READ_BACK, back as u64);
+}
+
+// Reads a payload, prints what it answers, and writes its tables again.
+fn list_one(payload: &[u8]) {
+    let mut records = [0u8; 30720];
+    let a = reader::read(payload, &mut records);
+    printing::answer(a, &records);
+    let programme = a.programme;
+    if a.refusal == 0 {
+        if programme.content < RESERVED {
+            write_back(a, &records);
+        }
+    }
 }
 
 // The payloads of a store; a last one that is cut short is not listed.
@@ -27,7 +78,7 @@ fn list_all(store: &[u8]) {
         }
         let to = from + n;
         printing::line(&keys::VECTOR, number);
-        printing::list(&store[from..to]);
+        list_one(&store[from..to]);
         at = to;
         number = number + 1;
     }
