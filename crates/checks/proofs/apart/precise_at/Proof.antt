@@ -1,7 +1,7 @@
 use borrow.Author.Needs.{needs}
 use native.Mathlib.Omega.{arith}
-use Rattle.checks.proofs.bytes.precise_at.Statement.{statement}
-use Rattle.checks.proofs.bytes.precise_at.Tie as tie
+use Rattle.checks.proofs.apart.precise_at.Statement.{statement}
+use Rattle.checks.proofs.apart.precise_at.Tie as tie
 
 precise-of-requires : tie.Need-precise-of-requires
 precise-of-requires c κs = c .before .whole .ensures .0 (c .if1 .taken)

@@ -2,8 +2,8 @@ use borrow.Author.Needs.{needs}
 use mathlib.Core.Path.{sym}
 use mathlib.Core.Bool.{true≢false}
 use native.Mathlib.Omega.{arith}
-use Rattle.checks.proofs.bytes.whole.Statement.{statement}
-use Rattle.checks.proofs.bytes.whole.Tie as tie
+use Rattle.checks.proofs.apart.whole.Statement.{statement}
+use Rattle.checks.proofs.apart.whole.Tie as tie
 
 returns : tie.Need-returns
 returns c = ((λ e. absurd (true≢false (sym e))), (λ e. omega arith))

@@ -1,7 +1,7 @@
 use borrow.Author.Needs.{needs}
 use Rattle.written.specs.Answer.{preciseAt}
-use Rattle.checks.proofs.bytes.precise_of.Statement.{statement}
-use Rattle.checks.proofs.bytes.precise_of.Tie as tie
+use Rattle.checks.proofs.apart.precise_of.Statement.{statement}
+use Rattle.checks.proofs.apart.precise_of.Tie as tie
 
 returns : tie.Need-returns
 unfolding preciseAt

@@ -1,7 +1,7 @@
 use borrow.Author.Needs.{needs}
 use Rattle.written.specs.Answer.{divergenceAt}
-use Rattle.checks.proofs.bytes.divergence_of.Statement.{statement}
-use Rattle.checks.proofs.bytes.divergence_of.Tie as tie
+use Rattle.checks.proofs.apart.divergence_of.Statement.{statement}
+use Rattle.checks.proofs.apart.divergence_of.Tie as tie
 
 returns : tie.Need-returns
 unfolding divergenceAt

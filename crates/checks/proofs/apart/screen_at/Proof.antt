@@ -1,7 +1,7 @@
 use borrow.Author.Needs.{needs}
 use Rattle.written.specs.Answer.{sceneAt}
-use Rattle.checks.proofs.bytes.screen_at.Statement.{statement}
-use Rattle.checks.proofs.bytes.screen_at.Tie as tie
+use Rattle.checks.proofs.apart.screen_at.Statement.{statement}
+use Rattle.checks.proofs.apart.screen_at.Tie as tie
 
 returns : tie.Need-returns
 unfolding sceneAt

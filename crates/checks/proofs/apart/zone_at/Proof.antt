@@ -1,7 +1,7 @@
 use borrow.Author.Needs.{needs}
 use Rattle.written.specs.Answer.{sceneAt}
-use Rattle.checks.proofs.bytes.zone_at.Statement.{statement}
-use Rattle.checks.proofs.bytes.zone_at.Tie as tie
+use Rattle.checks.proofs.apart.zone_at.Statement.{statement}
+use Rattle.checks.proofs.apart.zone_at.Tie as tie
 
 returns : tie.Need-returns
 unfolding sceneAt

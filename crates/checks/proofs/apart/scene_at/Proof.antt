@@ -1,7 +1,7 @@
 use borrow.Author.Needs.{needs}
 use native.Mathlib.Omega.{arith}
-use Rattle.checks.proofs.bytes.scene_at.Statement.{statement}
-use Rattle.checks.proofs.bytes.scene_at.Tie as tie
+use Rattle.checks.proofs.apart.scene_at.Statement.{statement}
+use Rattle.checks.proofs.apart.scene_at.Tie as tie
 
 scene-of-requires : tie.Need-scene-of-requires
 scene-of-requires c κs = c .before .whole .ensures .0 (c .if1 .taken)

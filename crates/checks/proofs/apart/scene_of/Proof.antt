@@ -1,7 +1,7 @@
 use borrow.Author.Needs.{needs}
 use Rattle.written.specs.Answer.{sceneAt}
-use Rattle.checks.proofs.bytes.scene_of.Statement.{statement}
-use Rattle.checks.proofs.bytes.scene_of.Tie as tie
+use Rattle.checks.proofs.apart.scene_of.Statement.{statement}
+use Rattle.checks.proofs.apart.scene_of.Tie as tie
 
 returns : tie.Need-returns
 unfolding sceneAt

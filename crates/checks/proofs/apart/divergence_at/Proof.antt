@@ -1,7 +1,7 @@
 use borrow.Author.Needs.{needs}
 use native.Mathlib.Omega.{arith}
-use Rattle.checks.proofs.bytes.divergence_at.Statement.{statement}
-use Rattle.checks.proofs.bytes.divergence_at.Tie as tie
+use Rattle.checks.proofs.apart.divergence_at.Statement.{statement}
+use Rattle.checks.proofs.apart.divergence_at.Tie as tie
 
 divergence-of-requires : tie.Need-divergence-of-requires
 divergence-of-requires c κs = c .before .whole .ensures .0 (c .if1 .taken)
