@@ -12,3 +12,4 @@ pub mod GivenRecord
 pub mod Fewest
 pub mod FewestFrames
 pub mod FewestExtended
+pub mod Unique

@@ -14,6 +14,7 @@ use Rattle.oamd.specs.Programme.{hasReserved}
 use Rattle.oamd.specs.Record.{Record, recordBytesOf, bytesOf, onto}
 use Rattle.oamd.specs.Payload.{Payload, object-audio-metadata-payload, Tables, tables}
 use Rattle.oamd.specs.Answer.{accepted, needed, housed, reading}
+use Rattle.demands.specs.Answers.{accepted-when}
 use Rattle.written.specs.Valid.{recordCount, Valid}
 use Rattle.written.specs.Form.{form}
 use Rattle.written.specs.Answer.{sceneAt, divergenceAt, preciseAt, recordAt, recordsAt, tablesOf, writtenTo, writing}
@@ -109,3 +110,12 @@ module _ (s buffer : List ℕ) (q : Payload) (to : ℕ) where
       ) in
       rw (read-is a) (writes-valid (given .programme) (given .timing) (onto (bytesOf (given .records)) buffer) out (rw back v) enough (rw back room)
       (rw back short) ∙ ap (λ (t : Tables). writtenTo out (form t)) back)
+
+-- of every accepted read, asked of its answer alone
+pub valid-read : (s buffer : List ℕ) → reading s buffer .answer .refusal ≡ 0 → hasReserved (reading s buffer .answer .programme .content) ≡ false
+    → Valid (tablesOf (reading s buffer .answer .programme) (reading s buffer .answer .timing) (reading s buffer .buffer))
+unfolding tables
+valid-read s buffer h clear =
+    let w = accepted-when s buffer .0 h in
+    let a : Accepted s buffer (w .1) (w .2) = record { short = w .0; reads = w .3; room = w .4 } in
+    read-valid s buffer (w .1) (w .2) a (rw (read-is s buffer (w .1) (w .2) a) at clear)
