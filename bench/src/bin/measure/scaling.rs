@@ -56,13 +56,12 @@ fn line(name: &str, payloads: &[Vec<u8>], unit: &Unit, rounds: usize) {
 }
 
 pub fn by_length(accepted: &[Vec<u8>], rounds: usize) {
-    println!(
-        "\nTime against payload length: accepted generated payloads, and writing their tables."
-    );
+    println!("\nTime against payload length: generated payloads whose tables can be written, and writing these.");
     head("length");
+    let writable = |p: &&Vec<u8>| Tables::of(p).is_some_and(|tables| tables.form_bytes() > 0);
     for (from, to) in LENGTHS {
         let some = accepted.iter().filter(|p| p.len() >= from && p.len() < to);
-        let some: Vec<Vec<u8>> = some.take(500).cloned().collect();
+        let some: Vec<Vec<u8>> = some.filter(writable).take(500).cloned().collect();
         if some.len() < 10 {
             continue;
         }
