@@ -11,4 +11,5 @@ pub use bytes::precise_at;
 pub use bytes::scene_at;
 pub use programme::programme_valid;
 pub use records::first_bad;
+pub use records::record_count;
 pub use timing::timing_valid;

@@ -74,7 +74,7 @@ fn first_bad_of(shares: Shares, blocks: u32, records: &[u8], count: usize) -> us
 }
 
 // How many records a programme and a timing ask for.
-fn record_count(objects: u8, blocks: u8) -> usize
+pub fn record_count(objects: u8, blocks: u8) -> usize
     ensures { λ r. ⌜ (r ≡ objects * blocks) × (r ≤ 255 * blocks) ⌝ }
 {
     objects as usize * blocks as usize

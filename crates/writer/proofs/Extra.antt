@@ -4,8 +4,7 @@ use mathlib.Core.Bool.{Bool, true, false}
 use mathlib.Core.List.{List, [], _∷_, _++_}
 use Prim.Native.Nat.{ℕ, zero, suc, _+_, _-_, _≤_, _<_}
 use native.Mathlib.Omega.{arith}
-use borrow.Author.Tests.{eq-eqb, ne-eqb, lt-ltb, le-ltb}
-use lib.Dec.{ltb, eqb}
+use Rattle.bits.specs.Language.{pick}
 use Rattle.bits.specs.Writes.{only, toBits, eachBits}
 use Rattle.writer.specs.Laying.{Laid}
 use Rattle.writer.proofs.LayLaws.{laid-bind, laid-is}
@@ -26,31 +25,27 @@ module _ (s t bytes : List ℕ) (at r k : ℕ) (scene : Scene) (sent : Bool) whe
       → Laid s t at r (preciseBits sent d) → Laid s t at r (preciseBits (carries (sceneAt bytes k)) (preciseAt bytes k))
   precise-at d e f g h = laid-is (ap₂ preciseBits (f ∙ ap (λ (x : Scene). carries x) e) g) h
 
-module _ (test : Record → Bool) (s : List ℕ) (n i k : ℕ) where
-  any-yes : i < n → test (recordAt s k) ≡ true → any test (recordsAt s (n - i) k) ≡ true
+-- a flag that is set once some record passed the test, and the records still to come
+module _ (test : Record → Bool) (s : List ℕ) (n i k : ℕ) (seen : Bool) where
+  pub any-more : (here next : Bool) → i < n → here ≡ test (recordAt s k) → next ≡ pick seen true here
+      → pick next true (any test (recordsAt s (n - (i + 1)) (k + 24))) ≡ pick seen true (any test (recordsAt s (n - i) k))
   unfolding any recordsAt
-  any-yes h e = ap (λ (m : ℕ). any test (recordsAt s m k)) (let q : n - i ≡ suc (n - (i + 1)) = omega arith in q) ∙ rw e
+  any-more here next h e f =
+      ap (λ (x : Bool). pick x true (any test (recordsAt s (n - (i + 1)) (k + 24)))) (f ∙ ap (λ (x : Bool). pick seen true x) e)
+      ∙ or-or seen (test (recordAt s k)) _
+      ∙ ap (λ (m : ℕ). pick seen true (any test (recordsAt s m k))) (let q : suc (n - (i + 1)) ≡ n - i = omega arith in q)
+    where
+      or-or : (x y z : Bool) → pick (pick x true y) true z ≡ pick x true (pick y true z)
+      or-or true y z = refl
+      or-or false y z = refl
 
-  any-no : i < n → test (recordAt s k) ≡ false → any test (recordsAt s (n - i) k) ≡ any test (recordsAt s (n - (i + 1)) (k + 24))
+  pub any-end : n ≤ i → seen ≡ pick seen true (any test (recordsAt s (n - i) k))
   unfolding any recordsAt
-  any-no h e = ap (λ (m : ℕ). any test (recordsAt s m k)) (let q : n - i ≡ suc (n - (i + 1)) = omega arith in q) ∙ rw e
-
-  pub any-none : n ≤ i → any test (recordsAt s (n - i) k) ≡ false
-  unfolding any recordsAt
-  any-none h = ap (λ (m : ℕ). any test (recordsAt s m k)) (let q : n - i ≡ 0 = omega arith in q)
-
-module _ (s : List ℕ) (n i k : ℕ) where
-  pub stops-diverges : (d : Divergence) → i < n → d ≡ divergenceAt s k → d .used ≡ 1 → any diverges (recordsAt s (n - i) k) ≡ true
-  stops-diverges d h e f = any-yes diverges s n i k h (eq-eqb _ _ (ap (λ (x : Divergence). x .used) (sym e) ∙ f))
-
-  pub goes-diverges : (d : Divergence) → i < n → d ≡ divergenceAt s k → (d .used ≡ 1 → ⊥) → any diverges (recordsAt s (n - i) k) ≡ any diverges (recordsAt s (n - (i + 1)) (k + 24))
-  goes-diverges d h e f = any-no diverges s n i k h (ne-eqb _ _ (λ q. f (ap (λ (x : Divergence). x .used) e ∙ q)))
-
-  pub stops-refines : (d : Precise) → i < n → d ≡ preciseAt s k → 0 < d .presence → any refines (recordsAt s (n - i) k) ≡ true
-  stops-refines d h e f = let q = ap (λ (x : Precise). x .presence) e in any-yes refines s n i k h (lt-ltb 0 (preciseAt s k .presence) (omega arith))
-
-  pub goes-refines : (d : Precise) → i < n → d ≡ preciseAt s k → d .presence ≤ 0 → any refines (recordsAt s (n - i) k) ≡ any refines (recordsAt s (n - (i + 1)) (k + 24))
-  goes-refines d h e f = let q = ap (λ (x : Precise). x .presence) e in any-no refines s n i k h (le-ltb 0 (preciseAt s k .presence) (omega arith))
+  any-end h = ended seen ∙ ap (λ (m : ℕ). pick seen true (any test (recordsAt s m k))) (let q : 0 ≡ n - i = omega arith in q)
+    where
+      ended : (x : Bool) → x ≡ pick x true false
+      ended true = refl
+      ended false = refl
 
 pub extended-laid : (s t u v w : List ℕ) (at p q o r : ℕ) (rs : List Record) (first second : Bool) (one two : ℕ) → first ≡ any diverges rs → second ≡ any refines rs
     → one ≡ asFlag first → two ≡ asFlag second → Laid s t at p (toBits 1 one)

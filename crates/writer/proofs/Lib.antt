@@ -6,3 +6,4 @@ pub mod Heads
 pub mod Records
 pub mod Extra
 pub mod Around
+pub mod Whole

@@ -49,7 +49,7 @@ fn element_bits(on: bool, n: u32) -> u32
 
 // How long the form and its parts are, before a byte is written.
 pub fn measure(q: Programme, t: Timing, records: &[u8], count: usize, groups: Groups) -> Measures
-    requires { ⌜ (q .bedcount ≤ 9) × (t .blocks ≤ 8) × (count ≡ q .objects * (t .blocks)) × (24 * count ≤ length (now records)) ⌝ }
+    requires { ⌜ (q .bedcount ≤ 9) × (t .blocks ≤ 8) × (count ≡ q .objects * (t .blocks)) × (count ≤ 2040) × (24 * count ≤ length (now records)) ⌝ }
     requires { ⌜ Needed (recordsAt (now records) count 0) groups ⌝ }
     ensures { λ r. ⌜ Measured (tablesOf q t (now (records .entry))) r ⌝ }
 {
@@ -74,7 +74,7 @@ pub fn put_form(
     groups: Groups,
     m: Measures,
 ) -> BitPos
-    requires { ⌜ (q .bedcount ≤ 9) × (t .blocks ≤ 8) × (count ≡ q .objects * (t .blocks)) × (24 * count ≤ length (now records)) ⌝ }
+    requires { ⌜ (q .bedcount ≤ 9) × (t .blocks ≤ 8) × (count ≡ q .objects * (t .blocks)) × (count ≤ 2040) × (24 * count ≤ length (now records)) ⌝ }
     requires { ⌜ Needed (recordsAt (now records) count 0) groups × Measured (tablesOf q t (now records)) m ⌝ }
     ensures { λ r. ⌜ Laid (now (out .entry)) (now (out .exit)) 0 (r .0) (formBits (tablesOf q t (now (records .entry)))) ⌝ }
 {

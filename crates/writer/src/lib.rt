@@ -53,7 +53,7 @@ fn write_form(q: Programme, t: Timing, records: &[u8], payload: &mut [u8]) -> Wr
     requires { ⌜ (q .bedcount ≤ 9) × (t .blocks ≤ 8) × (24 * (q .objects * (t .blocks)) ≤ length (now records)) ⌝ }
     ensures { λ r. ⌜ (record { answer = r; out = now (payload .exit) }) ≡ fitted (now (payload .entry)) (form (tablesOf q t (now (records .entry)))) ⌝ }
 {
-    let count = q.objects as usize * t.blocks as usize;
+    let count = checks::record_count(q.objects, t.blocks);
     let groups = extended::groups_of(records, count);
     let m = form::measure(q, t, records, count, groups);
     let bytes = (m.whole + 7) / 8;
@@ -81,7 +81,7 @@ pub fn write(
 ) -> WriteAnswer
     ensures { λ r. ⌜ (record { answer = r; out = now (payload .exit) }) ≡ writing programme timing (now (records .entry)) (now (payload .entry)) ⌝ }
 {
-    let count = programme.objects as usize * timing.blocks as usize;
+    let count = checks::record_count(programme.objects, timing.blocks);
     if !checks::programme_valid(programme) {
         return refused(10, 0);
     }

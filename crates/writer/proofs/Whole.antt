@@ -1,0 +1,133 @@
+-- The whole form: its length, its bits, and what is answered of it. Assumes nothing.
+use mathlib.Core.Path.{_≡_, refl, sym, ap, ap₂, _∙_, subst}
+use mathlib.Core.Bool.{Bool, true, false, not, true≢false}
+use mathlib.Core.List.{List, _++_}
+use Prim.Native.Nat.{ℕ, _+_, _-_, _*_, _/_, _≤_, _<_}
+use native.Mathlib.Omega.{arith}
+use borrow.Author.Tests.{le-leb, lt-leb, lt-ltb, le-ltb}
+use lib.Dec.{leb}
+use lib.ListN.{length, replicate, length-append, length-replicate}
+use Rattle.bits.specs.Language.{pick}
+use Rattle.bits.specs.Writes.{toBits, only, length-toBits}
+use Rattle.bits.specs.Bytes.{toBytes, length-toBytes}
+use Rattle.oamd.specs.declared.Programme.{Programme}
+use Rattle.oamd.specs.declared.Timing.{Timing}
+use Rattle.oamd.specs.declared.WriteAnswer.{WriteAnswer}
+use Rattle.oamd.specs.Tables.{mostBytes, recordStride}
+use Rattle.oamd.specs.Programme.{shares}
+use Rattle.oamd.specs.Record.{Record, onto}
+use Rattle.oamd.specs.Payload.{Tables}
+use Rattle.written.specs.Coded.{asFlag}
+use Rattle.written.specs.Form.{headerBits, objectElementBits, extendedElementBits, sizeBits, sizeFor, framedBits, elementBits, hasObject, hasExtended, formBits, form}
+use Rattle.written.specs.Valid.{programmeValid, timingValid, firstBad, recordCount}
+use Rattle.written.specs.Answer.{Written, recordsAt, tablesOf, refusedTo, fitted, judged, writing}
+use Rattle.writer.specs.Laying.{Laid, Bytes}
+use Rattle.writer.proofs.LayLaws.{laid-bind, laid-is, laid-bytes}
+
+abbrev pub gives : WriteAnswer → List ℕ → Written
+gives a out = record { answer = a; out = out }
+
+-- the bits of an element with n bits inside
+abbrev pub framed : ℕ → ℕ
+framed n = 4 + length (sizeBits (sizeFor n)) + 8 * (sizeFor n + 1)
+
+element-length : (id n : ℕ) (fields : List ℕ) (on : Bool) → n ≡ 1 + length fields → pick on (framed n) 0 ≡ length (only on (elementBits id fields))
+unfolding elementBits framedBits sizeFor
+element-length id n fields false e = refl
+element-length id n fields true e =
+    let size : List ℕ = sizeBits (sizeFor (1 + length fields)) in
+    let pad : ℕ = 8 * (sizeFor (1 + length fields) + 1) - (1 + length fields) in
+    let a = length-append (toBits 4 id) (size ++ ((toBits 1 0 ++ fields) ++ replicate pad 0)) in
+    let b = length-append size ((toBits 1 0 ++ fields) ++ replicate pad 0) in
+    let c = length-append (toBits 1 0 ++ fields) (replicate pad 0) in
+    let d = length-append (toBits 1 0) fields in
+    let f = length-replicate {A = ℕ} pad 0 in
+    let g = length-toBits 4 id in
+    let h = length-toBits 1 0 in
+    ap framed e ∙ omega arith
+
+module _ (t : Tables) (some : Bool) (e : some ≡ hasExtended (t .records)) where
+  pub form-length : (header object extended first second : ℕ) → header ≡ length (headerBits (t .programme))
+      → object ≡ 1 + length (objectElementBits t) → extended ≡ 1 + length (extendedElementBits (t .records))
+      → first ≡ pick (hasObject t) (framed object) 0 → second ≡ pick some (framed extended) 0 → header + 4 + first + second ≡ length (formBits t)
+  unfolding formBits
+  form-length header object extended first second a b c f g =
+      let one : List ℕ = only (hasObject t) (elementBits 1 (objectElementBits t)) in
+      let two : List ℕ = only (hasExtended (t .records)) (elementBits 5 (extendedElementBits (t .records))) in
+      let count : List ℕ = toBits 4 (asFlag (hasObject t) + asFlag (hasExtended (t .records))) in
+      let h : first ≡ length one = f ∙ element-length 1 object (objectElementBits t) (hasObject t) b in
+      let i : second ≡ length two = g ∙ ap (λ (x : Bool). pick x (framed extended) 0) e ∙ element-length 5 extended (extendedElementBits (t .records)) (hasExtended (t .records)) c in
+      let j = length-append (headerBits (t .programme)) (count ++ (one ++ two)) in
+      let k = length-append count (one ++ two) in
+      let l = length-append one two in
+      let m = length-toBits 4 (asFlag (hasObject t) + asFlag (hasExtended (t .records))) in
+      omega arith
+
+  pub form-laid : (s u v w x : List ℕ) (at p q o r one two : ℕ) → at ≡ 0 → one ≡ asFlag (hasObject t) → two ≡ asFlag some → Laid s u at p (headerBits (t .programme))
+      → Laid u v p q (toBits 4 (one + two)) → Laid v w q o (only (hasObject t) (elementBits 1 (objectElementBits t)))
+      → Laid w x o r (only some (elementBits 5 (extendedElementBits (t .records)))) → Laid s x 0 r (formBits t)
+  unfolding formBits
+  form-laid s u v w x at p q o r one two z f g a b c d =
+      subst (λ (k : ℕ). Laid s x k r (formBits t)) z
+      (laid-bind a
+      (laid-bind (laid-is (ap₂ (λ (k n : ℕ). toBits 4 (k + n)) f (g ∙ ap (λ (y : Bool). asFlag y) e)) b)
+      (laid-bind c (laid-is (ap (λ (y : Bool). only y (elementBits 5 (extendedElementBits (t .records)))) e) d))))
+
+-- the answer, by the room
+module _ (out : List ℕ) (t : Tables) (bytes : ℕ) (e : bytes ≡ (length (formBits t) + 7) / 8) where
+  form-bytes : bytes ≡ length (form t)
+  unfolding form
+  form-bytes = e ∙ sym (length-toBytes (formBits t))
+
+  no-fit : (leb (length (form t)) (length out) ≡ false) → refusedTo out 11 bytes ≡ fitted out (form t)
+  unfolding fitted
+  no-fit h = ap (refusedTo out 11) form-bytes ∙ sym (rw h refl)
+
+  pub no-room : length out < bytes → refusedTo out 11 bytes ≡ fitted out (form t)
+  no-room h = no-fit (lt-leb (length (form t)) (length out) (let f = form-bytes in omega arith))
+
+  pub too-long : bytes ≤ length out → mostBytes < bytes → refusedTo out 11 bytes ≡ fitted out (form t)
+  unfolding fitted
+  too-long g h =
+      ap (refusedTo out 11) form-bytes
+      ∙ sym (rw (le-leb (length (form t)) (length out) (let f = form-bytes in omega arith), lt-leb (length (form t)) mostBytes (let f = form-bytes in omega arith)) refl)
+
+  pub fits : (u : List ℕ) (r pad n : ℕ) → n ≡ bytes → Bytes out → bytes ≤ length out → bytes ≤ mostBytes → Laid out u 0 r (formBits t ++ replicate pad 0) → r ≡ 8 * bytes → pad < 8
+      → gives (record { place = 0; length = record { 0 = n }; refusal = 0 }) u ≡ fitted out (form t)
+  unfolding fitted onto form
+  fits u r pad n q b g h l i j =
+      ap₂ (λ (n : ℕ) (x : List ℕ). gives (record { place = 0; length = record { 0 = n }; refusal = 0 }) x) (q ∙ form-bytes) (laid-bytes out u r (formBits t) pad bytes l b i j g)
+      ∙ sym (rw (le-leb (length (form t)) (length out) (let f = form-bytes in omega arith), le-leb (length (form t)) mostBytes (let f = form-bytes in omega arith)) refl)
+
+-- a test that is asked the other way round
+pub is-off : (x : Bool) → not x ≡ true → x ≡ false
+is-off true e = absurd (true≢false (sym e))
+is-off false e = refl
+
+pub is-on : (x : Bool) → not x ≡ false → x ≡ true
+is-on true e = refl
+is-on false e = absurd (true≢false e)
+
+-- the answer, by the tables
+module _ (p : Programme) (t : Timing) (s out : List ℕ) where
+  pub bad-programme : programmeValid p ≡ false → refusedTo out 10 0 ≡ writing p t s out
+  unfolding writing
+  bad-programme a = sym (rw a refl)
+
+  pub bad-timing : programmeValid p ≡ true → timingValid t ≡ false → refusedTo out 10 0 ≡ writing p t s out
+  unfolding writing
+  bad-timing a b = sym (rw (a, b) refl)
+
+  pub few-bytes : programmeValid p ≡ true → timingValid t ≡ true → length s < recordStride * recordCount p t → refusedTo out 10 0 ≡ writing p t s out
+  unfolding writing
+  few-bytes a b c = sym (rw (a, b, lt-leb (recordStride * recordCount p t) (length s) c) refl)
+
+  module _ (a : programmeValid p ≡ true) (b : timingValid t ≡ true) (c : recordStride * recordCount p t ≤ length s)
+      (bad : ℕ) (d : bad ≡ firstBad (shares p) (t .blocks) 0 (recordsAt s (recordCount p t) 0)) where
+    pub bad-record : bad < recordCount p t → refusedTo out 10 (1 + bad) ≡ writing p t s out
+    unfolding writing judged
+    bad-record h = sym (rw (a, b, le-leb (recordStride * recordCount p t) (length s) c, ← d, lt-ltb bad (recordCount p t) h) refl)
+
+    pub good-records : recordCount p t ≤ bad → fitted out (form (tablesOf p t s)) ≡ writing p t s out
+    unfolding writing judged
+    good-records h = sym (rw (a, b, le-leb (recordStride * recordCount p t) (length s) c, ← d, le-ltb bad (recordCount p t) h) refl)

@@ -1,0 +1,64 @@
+-- `groups_of` meets its contract: what was seen and what is still to come answer for all. Assumes nothing.
+use mathlib.Core.Path.{_≡_, _∙_, sym, ap}
+use mathlib.Core.Bool.{true}
+use Prim.Native.Nat.{_-_, _*_, _≤_}
+use native.Mathlib.Nat.{sub-zero}
+use native.Mathlib.Omega.{arith}
+use borrow.Author.Needs.{needs}
+use lib.Dec.{eqb, ltb}
+use Rattle.bits.specs.Language.{pick}
+use Rattle.oamd.specs.declared.Divergence.{Divergence}
+use Rattle.oamd.specs.declared.Precise.{Precise}
+use Rattle.written.specs.Form.{any, diverges, refines}
+use Rattle.written.specs.Answer.{recordsAt}
+use Rattle.writer.proofs.Extra.{any-more, any-end}
+use Rattle.writer.proofs.extended.groups_of.Statement.{statement}
+use Rattle.writer.proofs.extended.groups_of.Tie as tie
+
+abbrev Inv-loop : tie.InvT-loop
+Inv-loop records n diverging₀ refining₀ k₀ i₀ diverging refining k i =
+    (i ≤ n) × (k ≡ 24 * i)
+    × (pick diverging true (any diverges (recordsAt records (n - i) k)) ≡ any diverges (recordsAt records n 0))
+    × (pick refining true (any refines (recordsAt records (n - i) k)) ≡ any refines (recordsAt records n 0))
+
+abbrev μ-loop : tie.MeasureT-loop
+μ-loop records n diverging₀ refining₀ k₀ i₀ diverging refining k i = n - i
+
+loop-holds : tie.Need-loop-holds Inv-loop μ-loop
+loop-holds c = (search needs, search needs, simp sub-zero, simp sub-zero)
+
+loop-again : tie.Need-loop-again Inv-loop μ-loop
+loop-again c =
+    let h = c .before .before .before .before .before .before .before .loop in
+    let d = c .before .before .before .before .before .divergence-at .ensures .0 (omega arith) in
+    let p = c .before .before .before .before .precise-at .ensures .0 (omega arith) in (
+      search needs,
+      search needs,
+      any-more diverges _ _ (h .i) _ (h .diverges) _ _ (search needs) (ap (λ (x : Divergence). eqb (x .used) 1) d) (c .before .before .either .ensures) ∙ h .inv .2,
+      any-more refines _ _ (h .i) _ (h .refines) _ _ (search needs) (ap (λ (x : Precise). ltb 0 (x .presence)) p) (c .either2 .ensures) ∙ h .inv .3,
+    )
+
+returns : tie.Need-returns Inv-loop μ-loop
+returns c =
+    let h = c .before .loop in
+    record {
+      diverges = any-end diverges _ _ (h .i) _ (h .diverges) (omega arith) ∙ h .inv .2;
+      refines = any-end refines _ _ (h .i) _ (h .refines) (omega arith) ∙ h .inv .3;
+    }
+
+pub groups-of-spec : {M : Type 1} → statement M
+groups-of-spec =
+    tie.close
+    (tie.spec
+    Inv-loop
+    μ-loop
+    loop-holds
+    (λ c κs. search needs)
+    (λ c κs. search needs)
+    (λ c κs. search needs)
+    (λ c κs. search needs)
+    (λ c. search needs)
+    (λ c. search needs)
+    (λ c. search needs)
+    loop-again
+    returns)

@@ -1,0 +1,59 @@
+-- `write_form` meets its contract: the length first, then the room, then the bytes. Assumes nothing.
+use borrow.Author.Needs.{needs}
+use denote.Ref.{now}
+use mathlib.Core.Path.{_≡_, sym, ap, _∙_}
+use Prim.Native.Nat.{ℕ, _+_, _-_, _*_, _/_}
+use native.Mathlib.Omega.{arith}
+use Rattle.oamd.specs.declared.WriteAnswer.{WriteAnswer}
+use Rattle.written.specs.Answer.{tablesOf}
+use Rattle.writer.proofs.LayLaws.{laid-bind, laid-length}
+use Rattle.writer.proofs.Whole.{gives, no-room, too-long, fits}
+use Rattle.writer.proofs.write_form.Statement.{statement}
+use Rattle.writer.proofs.write_form.Tie as tie
+
+returns : tie.Need-returns
+returns c =
+    let a = c .before .before .before .before .before .before .before .before .args in
+    let whole = c .before .before .before .measure .ensures .whole in
+    ap (λ (r : WriteAnswer). gives r (now (a .payload))) (c .refused .ensures)
+    ∙ no-room (now (a .payload)) (tablesOf (a .q) (a .t) (now (a .records))) _ (ap (λ (n : ℕ). (n + 7) / 8) whole) (c .before .if1 .taken)
+
+returns-2 : tie.Need-returns-2
+returns-2 c =
+    let a = c .before .before .before .before .before .before .before .before .before .args in
+    let whole = c .before .before .before .before .measure .ensures .whole in
+    ap (λ (r : WriteAnswer). gives r (now (a .payload))) (c .refused2 .ensures)
+    ∙ too-long (now (a .payload)) (tablesOf (a .q) (a .t) (now (a .records))) _ (ap (λ (n : ℕ). (n + 7) / 8) whole) (c .before .before .if1 .left) (c .before .if2 .taken)
+
+returns-3 : tie.Need-returns-3
+returns-3 c =
+    let a = c .before .before .before .before .before .before .before .before .before .before .before .before .before .before .before .before .before .before .args in
+    let m = c .before .before .before .before .before .before .before .before .before .before .before .before .before .measure .result in
+    let whole = c .before .before .before .before .before .before .before .before .before .before .before .before .before .measure .ensures .whole in
+    let form = c .before .before .before .before .before .before .before .before .put-form .ensures in
+    let zeros = c .before .before .before .put-zeros .ensures in
+    fits (now (a .payload)) (tablesOf (a .q) (a .t) (now (a .records))) _ (ap (λ (n : ℕ). (n + 7) / 8) whole) _ (c .before .before .before .put-zeros .result .0) (8 * ((m .whole + 7) / 8) - m .whole) _ (c .new .ensures)
+    (λ i. omega (arith, c .before .before .before .before .before .before .before .before .before .before .before .before .before .before .before .before .slice-known .given i)) (c .before .before .before .before .before .before .before .before .before .before .before .if1 .left) (c .before .before .before .before .before .before .before .before .before .before .if2 .left) (laid-bind form (zeros .0)) (omega (arith, form .next, zeros .1)) (omega arith)
+
+pub write-form-spec : {M : Type 1} → statement M
+write-form-spec =
+    tie.close
+    (tie.spec
+    (λ c κs. search needs)
+    (λ c κs. search needs)
+    (λ c κs. search needs)
+    (λ c. search needs)
+    (λ c. search needs)
+    (λ c. search needs)
+    (λ c κs. search needs)
+    returns
+    (λ c. search needs)
+    (λ c κs. search needs)
+    returns-2
+    (λ c κs. search needs)
+    (λ c. search needs)
+    (λ c. search needs)
+    (λ c κs. search needs)
+    (λ c κs. search needs)
+    (λ c. search needs)
+    returns-3)
