@@ -14,8 +14,8 @@
  * refusal and place are 0. An accepted read writes the first 24 * objects * blocks bytes of its buffer and no others; an accepted write writes the first
  * `length` bytes of its buffer and no others.
  *
- * Threads. Every call works on its arguments and its own stack (a read: about 32 kB) alone. Calls may run at once in several threads, as long as no two
- * are lent the same buffer to be filled. What a call only looks at (read: the payload, write: the records) may be shared.
+ * Threads. Every call works on its arguments and its own stack alone (a read: about 32 kB, a write: about 1 kB). Calls may run at once in several threads,
+ * as long as no two are lent the same buffer to be filled. What a call only looks at (read: the payload, write: the records) may be shared.
  *
  * Bytes between the fields of an answer (padding) carry nothing: compare field by field.
  */
