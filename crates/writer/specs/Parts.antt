@@ -1,13 +1,19 @@
 -- What the parts of a form are laid by, found before a bit is laid.
 use mathlib.Core.Path.{_≡_}
+use mathlib.Core.Bool.{Bool, true, false}
 use mathlib.Core.List.{List}
 use Prim.Native.Nat.{ℕ, _+_, _≤_}
 use lib.ListN.{length}
-use Rattle.oamd.specs.Record.{Record}
+use Rattle.oamd.specs.Record.{Record, carries}
 use Rattle.oamd.specs.Payload.{Tables}
-use Rattle.written.specs.Form.{any, diverges, refines, objectElementBits, extendedElementBits, formBits}
+use Rattle.written.specs.Form.{divergenceBits, preciseBits, any, diverges, refines, objectElementBits, extendedElementBits, formBits}
 use Rattle.writer.specs.declared.Groups.{Groups}
 use Rattle.writer.specs.declared.Measures.{Measures}
+
+-- one of the two groups of the extended element, of one record
+abbrev pub extraBits : Bool → Record → List ℕ
+extraBits true r = divergenceBits (carries (r .scene)) (r .divergence)
+extraBits false r = preciseBits (carries (r .scene)) (r .precise)
 
 -- which groups of the extended element some record needs
 pub record Needed (rs : List Record) (g : Groups) : Type 0 where

@@ -12,17 +12,17 @@ ghost use Rattle.oamd.specs.Record.{carries};
 ghost use mathlib.Core.Bool.{true};
 ghost use Rattle.bits.specs.Language.{pick};
 ghost use Rattle.written.specs.Form.{divergenceBits, preciseBits, extendedElementBits};
-ghost use Rattle.writer.specs.Parts.{Needed};
-ghost use Rattle.written.specs.Answer.{sceneAt, divergenceAt, preciseAt, recordsAt};
+ghost use Rattle.writer.specs.Parts.{extraBits, Needed};
+ghost use Rattle.written.specs.Answer.{sceneAt, divergenceAt, preciseAt, recordAt, recordsAt};
 use crate::Groups;
 use crate::blocks::carries_of;
-use crate::coding::as_flag;
 use crate::fields::put_both;
 use crate::putting::put;
 use crate::putting::put_if;
 use checks::divergence_at;
 use checks::precise_at;
 use checks::scene_at;
+use coding::as_flag;
 use oamd::Divergence;
 use oamd::Precise;
 use units::BitPos;
@@ -74,36 +74,6 @@ fn put_divergence_at(out: &mut [u8], at: BitPos, records: &[u8], k: usize) -> Bi
     put_divergence(sent, out, at, d)
 }
 
-// Of each record, in order.
-fn put_divergences(out: &mut [u8], at: BitPos, records: &[u8], n: usize) -> BitPos
-    requires { ⌜ at .0 ≤ 1800000 ⌝ }
-    requires { ⌜ (n ≤ 2040) × (24 * n ≤ length (now records)) ⌝ }
-    ensures { λ r. ⌜ Laid (now (out .entry)) (now (out .exit)) (at .0) (r .0) (eachBits (λ i r. divergenceBits (carries (r .scene)) (r .divergence)) 0 (recordsAt (now (records .entry)) n 0)) ⌝ }
-    ensures { λ r. ⌜ r .0 ≤ at .0 + 11 * n ⌝ }
-{
-    let mut p = at;
-    let mut k: usize = 0;
-    let mut i: usize = 0;
-    while i < n {
-        p = put_divergence_at(out, p, records, k);
-        k = k + 24;
-        i = i + 1;
-    }
-    p
-}
-
-fn put_divergences_if(on: bool, out: &mut [u8], at: BitPos, records: &[u8], n: usize) -> BitPos
-    requires { ⌜ at .0 ≤ 1800000 ⌝ }
-    requires { ⌜ (n ≤ 2040) × (24 * n ≤ length (now records)) ⌝ }
-    ensures { λ r. ⌜ Laid (now (out .entry)) (now (out .exit)) (at .0) (r .0) (only on (eachBits (λ i r. divergenceBits (carries (r .scene)) (r .divergence)) 0 (recordsAt (now (records .entry)) n 0))) ⌝ }
-    ensures { λ r. ⌜ r .0 ≤ at .0 + 11 * n ⌝ }
-{
-    if on {
-        return put_divergences(out, at, records, n);
-    }
-    at
-}
-
 fn put_precise_at(out: &mut [u8], at: BitPos, records: &[u8], k: usize) -> BitPos
     requires { ⌜ at .0 ≤ 1900000 ⌝ }
     requires { ⌜ k + 24 ≤ length (now records) ⌝ }
@@ -116,32 +86,52 @@ fn put_precise_at(out: &mut [u8], at: BitPos, records: &[u8], k: usize) -> BitPo
     put_precise(sent, out, at, d)
 }
 
+// One of the two groups of a record: its divergence, or its precise position.
+fn put_extra_at(first: bool, out: &mut [u8], at: BitPos, records: &[u8], k: usize) -> BitPos
+    requires { ⌜ at .0 ≤ 1900000 ⌝ }
+    requires { ⌜ k + 24 ≤ length (now records) ⌝ }
+    ensures { λ r. ⌜ Laid (now (out .entry)) (now (out .exit)) (at .0) (r .0) (extraBits first (recordAt (now (records .entry)) k)) ⌝ }
+    ensures { λ r. ⌜ r .0 ≤ at .0 + 11 ⌝ }
+{
+    if first {
+        return put_divergence_at(out, at, records, k);
+    }
+    put_precise_at(out, at, records, k)
+}
+
 // Of each record, in order.
-fn put_precises(out: &mut [u8], at: BitPos, records: &[u8], n: usize) -> BitPos
+fn put_extras(first: bool, out: &mut [u8], at: BitPos, records: &[u8], n: usize) -> BitPos
     requires { ⌜ at .0 ≤ 1800000 ⌝ }
     requires { ⌜ (n ≤ 2040) × (24 * n ≤ length (now records)) ⌝ }
-    ensures { λ r. ⌜ Laid (now (out .entry)) (now (out .exit)) (at .0) (r .0) (eachBits (λ i r. preciseBits (carries (r .scene)) (r .precise)) 0 (recordsAt (now (records .entry)) n 0)) ⌝ }
-    ensures { λ r. ⌜ r .0 ≤ at .0 + 10 * n ⌝ }
+    ensures { λ r. ⌜ Laid (now (out .entry)) (now (out .exit)) (at .0) (r .0) (eachBits (λ i r. extraBits first r) 0 (recordsAt (now (records .entry)) n 0)) ⌝ }
+    ensures { λ r. ⌜ r .0 ≤ at .0 + 11 * n ⌝ }
 {
     let mut p = at;
     let mut k: usize = 0;
     let mut i: usize = 0;
     while i < n {
-        p = put_precise_at(out, p, records, k);
+        p = put_extra_at(first, out, p, records, k);
         k = k + 24;
         i = i + 1;
     }
     p
 }
 
-fn put_precises_if(on: bool, out: &mut [u8], at: BitPos, records: &[u8], n: usize) -> BitPos
+fn put_extras_if(
+    on: bool,
+    first: bool,
+    out: &mut [u8],
+    at: BitPos,
+    records: &[u8],
+    n: usize,
+) -> BitPos
     requires { ⌜ at .0 ≤ 1800000 ⌝ }
     requires { ⌜ (n ≤ 2040) × (24 * n ≤ length (now records)) ⌝ }
-    ensures { λ r. ⌜ Laid (now (out .entry)) (now (out .exit)) (at .0) (r .0) (only on (eachBits (λ i r. preciseBits (carries (r .scene)) (r .precise)) 0 (recordsAt (now (records .entry)) n 0))) ⌝ }
-    ensures { λ r. ⌜ r .0 ≤ at .0 + 10 * n ⌝ }
+    ensures { λ r. ⌜ Laid (now (out .entry)) (now (out .exit)) (at .0) (r .0) (only on (eachBits (λ i r. extraBits first r) 0 (recordsAt (now (records .entry)) n 0))) ⌝ }
+    ensures { λ r. ⌜ r .0 ≤ at .0 + 11 * n ⌝ }
 {
     if on {
-        return put_precises(out, at, records, n);
+        return put_extras(first, out, at, records, n);
     }
     at
 }
@@ -187,12 +177,12 @@ pub fn put_extended_fields(
     requires { ⌜ (n ≤ 2040) × (24 * n ≤ length (now records)) ⌝ }
     requires { ⌜ Needed (recordsAt (now records) n 0) groups ⌝ }
     ensures { λ r. ⌜ Laid (now (out .entry)) (now (out .exit)) (at .0) (r .0) (extendedElementBits (recordsAt (now (records .entry)) n 0)) ⌝ }
-    ensures { λ r. ⌜ r .0 ≤ at .0 + 2 + 21 * n ⌝ }
+    ensures { λ r. ⌜ r .0 ≤ at .0 + 2 + 22 * n ⌝ }
 {
     let one = as_flag(groups.diverges);
     let two = as_flag(groups.refines);
     let p = put(out, at, 1, one as u32);
-    let p = put_divergences_if(groups.diverges, out, p, records, n);
+    let p = put_extras_if(groups.diverges, true, out, p, records, n);
     let p = put(out, p, 1, two as u32);
-    put_precises_if(groups.refines, out, p, records, n)
+    put_extras_if(groups.refines, false, out, p, records, n)
 }

@@ -44,7 +44,7 @@ pub fn object_inside(q: Programme, t: Timing, records: &[u8]) -> u32
 pub fn extended_inside(records: &[u8], count: usize, groups: Groups) -> u32
     requires { ⌜ (count ≤ 2040) × (24 * count ≤ length (now records)) ⌝ }
     requires { ⌜ Needed (recordsAt (now records) count 0) groups ⌝ }
-    ensures { λ r. ⌜ (r ≡ 1 + length (extendedElementBits (recordsAt (now (records .entry)) count 0))) × (r ≤ 3 + 21 * count) ⌝ }
+    ensures { λ r. ⌜ (r ≡ 1 + length (extendedElementBits (recordsAt (now (records .entry)) count 0))) × (r ≤ 3 + 22 * count) ⌝ }
 {
     let mut scratch = [0u8; 1];
     let p = put_extended_fields(&mut scratch, BitPos::new(0), records, count, groups);
@@ -87,7 +87,7 @@ fn put_extended_element(
     requires { ⌜ Needed (recordsAt (now records) count 0) groups ⌝ }
     requires { ⌜ (n ≤ 200000) × (n ≡ 1 + length (extendedElementBits (recordsAt (now records) count 0))) ⌝ }
     ensures { λ r. ⌜ Laid (now (out .entry)) (now (out .exit)) (at .0) (r .0) (elementBits 5 (extendedElementBits (recordsAt (now (records .entry)) count 0))) ⌝ }
-    ensures { λ r. ⌜ r .0 ≤ at .0 + 60 + 21 * count ⌝ }
+    ensures { λ r. ⌜ r .0 ≤ at .0 + 60 + 22 * count ⌝ }
 {
     let v = size_for(n);
     let pad = minus(8 * (v + 1), n);
@@ -132,7 +132,7 @@ pub fn put_extended_element_if(
     requires { ⌜ Needed (recordsAt (now records) count 0) groups ⌝ }
     requires { ⌜ (n ≤ 200000) × (n ≡ 1 + length (extendedElementBits (recordsAt (now records) count 0))) ⌝ }
     ensures { λ r. ⌜ Laid (now (out .entry)) (now (out .exit)) (at .0) (r .0) (only on (elementBits 5 (extendedElementBits (recordsAt (now (records .entry)) count 0)))) ⌝ }
-    ensures { λ r. ⌜ r .0 ≤ at .0 + 60 + 21 * count ⌝ }
+    ensures { λ r. ⌜ r .0 ≤ at .0 + 60 + 22 * count ⌝ }
 {
     if on {
         return put_extended_element(out, at, records, count, groups, n);

@@ -9,7 +9,7 @@ same-length : tie.Need-same-length
 same-length c = laid-length (laid-bind (c .before .before .before .before .before .before .put .ensures .0) (c .before .before .put-ramp .ensures .0))
 
 returns : tie.Need-returns
-returns c = (update-laid _ _ _ _ _ _ (c .before .before .before .before .before .before .before .before .before .before .before .before .before .before .before .args .u) _ _ _ _ _ _ (c .before .before .before .before .before .before .before .before .before .before .before .before .before .raw .ensures) (c .before .before .before .before .before .before .before .before .before .before .before .before .raw2 .ensures) (c .before .before .before .before .before .before .before .before .before .before .before .ramp-code .ensures) (c .before .before .before .before .before .before .before .before .before .before .choice .ensures) (c .before .before .before .before .before .before .before .before .before .choice2 .ensures) (c .before .before .before .before .before .before .before .before .ramp-bits .ensures) (c .before .before .before .before .before .before .put .ensures .0) (c .before .before .put-ramp .ensures .0), omega (arith, c .before .before .before .before .before .before .put .ensures .1, c .before .before .put-ramp .ensures .1))
+returns c = (update-laid _ _ _ _ _ _ (c .before .before .before .before .before .before .before .before .before .before .before .before .before .before .before .args .u) _ _ _ _ _ _ (c .before .before .before .before .before .before .before .before .before .before .before .before .before .raw .ensures) (c .before .before .before .before .before .before .before .before .before .before .before .before .raw2 .ensures) (c .before .before .before .before .before .before .before .before .before .before .before .ramp-code .ensures) (c .before .before .before .before .before .before .before .before .before .before .ramp-indexed .ensures) (c .before .before .before .before .before .before .before .before .before .ramp-index .ensures) (c .before .before .before .before .before .before .before .before .ramp-bits .ensures) (c .before .before .before .before .before .before .put .ensures .0) (c .before .before .put-ramp .ensures .0), omega (arith, c .before .before .before .before .before .before .put .ensures .1, c .before .before .put-ramp .ensures .1))
 
 pub put-update-spec : {M : Type 1} → statement M
 put-update-spec =
