@@ -11,6 +11,7 @@ static void sizes(void)
     SIZE(skriemelt_update, 4);
     SIZE(skriemelt_timing, 34);
     SIZE(skriemelt_read_answer, 136);
+    SIZE(skriemelt_write_answer, 16);
 }
 
 static void offsets(void)
@@ -38,6 +39,9 @@ static void offsets(void)
     AT(skriemelt_read_answer, unknown, 9);
     AT(skriemelt_read_answer, programme, 12);
     AT(skriemelt_read_answer, timing, 96);
+    AT(skriemelt_write_answer, place, 0);
+    AT(skriemelt_write_answer, length, 8);
+    AT(skriemelt_write_answer, refusal, 12);
 }
 
 int main(void)

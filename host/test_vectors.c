@@ -1,6 +1,8 @@
 /*
- * Every vector of crates/vectors/data/payloads through skriemelt_read, printed as the listing program prints it, against crates/vectors/stdout.
- * Arguments: the payloads, the expected lines.
+ * Every vector of crates/vectors/data/payloads through skriemelt_read, printed as the listing program prints it, against crates/vectors/stdout; the tables
+ * of each accepted one through skriemelt_write, against crates/vectors/data/written, and read back.
+ * Arguments: the payloads, the expected lines, the written forms. The last file has an entry for each payload, in the same order: two bytes of length and
+ * the form; the length is 0 where the payload is refused, has the reserved content flag set, or has a form of more than 4,096 bytes.
  */
 #include "test.h"
 
@@ -95,54 +97,147 @@ static size_t line_start(const uint8_t *s, size_t at)
     return at;
 }
 
+/* Whether what the text has from a place on is what is expected there. */
+static int as_expected(size_t from, const uint8_t *want, size_t want_bytes)
+{
+    size_t k = from, s;
+
+    if (text_bytes <= want_bytes && memcmp(text + from, want + from, text_bytes - from) == 0)
+        return 1;
+    while (k < text_bytes && k < want_bytes && (uint8_t)text[k] == want[k])
+        k++;
+    s = line_start(want, k < want_bytes ? k : want_bytes);
+    printf("got %.60s\n   expected %.60s\n", text + s, (const char *)want + s);
+    return 0;
+}
+
+/* Field by field: what lies between the fields carries nothing. */
+static int same_programme(const skriemelt_programme *a, const skriemelt_programme *b)
+{
+    unsigned i;
+    int same = a->objects == b->objects && a->dynonly == b->dynonly && a->lfe == b->lfe && a->content == b->content &&
+               a->distribute == b->distribute && a->multiple == b->multiple && a->instances == b->instances && a->bedcount == b->bedcount &&
+               a->isf == b->isf && a->dynamics == b->dynamics;
+
+    for (i = 0; i < SKRIEMELT_MOST_BEDS; i++)
+        same = same && a->beds[i].assignment == b->beds[i].assignment && a->beds[i].lfeonly == b->beds[i].lfeonly &&
+               a->beds[i].standard == b->beds[i].standard;
+    return same;
+}
+
+static int same_timing(const skriemelt_timing *a, const skriemelt_timing *b)
+{
+    unsigned i;
+    int same = a->blocks == b->blocks;
+
+    for (i = 0; i < SKRIEMELT_MOST_BLOCKS; i++)
+        same = same && a->updates[i].start == b->updates[i].start && a->updates[i].ramp == b->updates[i].ramp;
+    return same;
+}
+
+/* The written form, read, gives the tables that it was written from, and no unknown element. */
+static void read_back(const skriemelt_read_answer *a, const uint8_t *records, const uint8_t *form, size_t length)
+{
+    static uint8_t again[SKRIEMELT_MOST_RECORD_BYTES];
+    size_t bytes = (size_t)SKRIEMELT_RECORD_STRIDE * a->programme.objects * a->timing.blocks;
+    skriemelt_read_answer b = skriemelt_read(form, length, again, sizeof again);
+
+    check(b.refusal == SKRIEMELT_ACCEPTED && b.place == 0 && b.unknown == 0, "the written form is accepted");
+    check(same_programme(&a->programme, &b.programme), "the written programme is read back");
+    check(same_timing(&a->timing, &b.timing), "the written timing is read back");
+    check(memcmp(records, again, bytes) == 0, "the written records are read back");
+}
+
+/* Writes the tables of a vector into exactly the expected room. Nothing is expected of tables that are refused. */
+static void write_vector(const skriemelt_read_answer *a, const uint8_t *records, const uint8_t *want, size_t want_bytes)
+{
+    uint8_t *form = malloc(want_bytes ? want_bytes : 1);
+    skriemelt_write_answer w;
+
+    if (form == NULL)
+        exit(2);
+    w = skriemelt_write(a->programme, a->timing, records, SKRIEMELT_MOST_RECORD_BYTES, form, want_bytes);
+    if (a->programme.content & SKRIEMELT_CONTENT_RESERVED) {
+        check(want_bytes == 0 && w.refusal == SKRIEMELT_NOT_VALID && w.place == 0 && w.length == 0, "the reserved content flag is not written");
+    } else if (want_bytes == 0) {
+        check(w.refusal == SKRIEMELT_NO_FIT && w.place > SKRIEMELT_MOST_PAYLOAD_BYTES && w.length == 0, "a form of more than 4,096 bytes");
+    } else {
+        check(w.refusal == SKRIEMELT_ACCEPTED && w.place == 0 && w.length == want_bytes, "the written form's length");
+        check(w.refusal != SKRIEMELT_ACCEPTED || memcmp(form, want, want_bytes) == 0, "the written form");
+        if (w.refusal == SKRIEMELT_ACCEPTED)
+            read_back(a, records, form, want_bytes);
+    }
+    free(form);
+}
+
+/* The next entry of a file: two bytes of length, the higher first, and as many bytes. */
+static const uint8_t *entry(const uint8_t *file, size_t bytes, size_t *at, size_t *length)
+{
+    const uint8_t *start;
+
+    if (bytes - *at < 2 || bytes - *at - 2 < (*length = 256 * (size_t)file[*at] + file[*at + 1])) {
+        fprintf(stderr, "test_vectors: a file ends within an entry\n");
+        exit(2);
+    }
+    start = file + *at + 2;
+    *at += 2 + *length;
+    return start;
+}
+
+/* Reads a vector and says its lines; writes its tables if it is accepted. */
+static void one_vector(unsigned number, const uint8_t *bytes, size_t n, const uint8_t *form, size_t form_bytes)
+{
+    static uint8_t records[SKRIEMELT_MOST_RECORD_BYTES];
+    /* a copy of its own, so that the address sanitizer sees a read past its end */
+    uint8_t *payload = malloc(n ? n : 1);
+    skriemelt_read_answer a;
+
+    if (payload == NULL)
+        exit(2);
+    memcpy(payload, bytes, n);
+    memset(records, 0xA5, sizeof records);
+    a = skriemelt_read(payload, n, records, sizeof records);
+    free(payload);
+    say("vector=%u\nrefusal=%u\nplace=%llu\n", number, a.refusal, (unsigned long long)a.place);
+    if (a.refusal == SKRIEMELT_ACCEPTED) {
+        accepted(&a, records);
+        write_vector(&a, records, form, form_bytes);
+    } else {
+        check(form_bytes == 0, "no form of a refused vector is expected");
+    }
+}
+
 int main(int argc, char **argv)
 {
-    size_t bytes, want_bytes, at = 0, from = 0;
-    unsigned number = 0;
-    uint8_t *store, *want, *records = malloc(SKRIEMELT_MOST_RECORD_BYTES);
+    size_t bytes, want_bytes, written_bytes, at = 0, written_at = 0, from = 0;
+    unsigned number;
+    uint8_t *store, *want, *written;
 
-    if (argc != 3 || records == NULL) {
-        fprintf(stderr, "usage: test_vectors PAYLOADS EXPECTED\n");
+    if (argc != 4) {
+        fprintf(stderr, "usage: test_vectors PAYLOADS EXPECTED WRITTEN\n");
         return 2;
     }
     store = whole(argv[1], &bytes);
     want = whole(argv[2], &want_bytes);
-    while (at + 2 <= bytes) {
-        size_t n = 256 * (size_t)store[at] + store[at + 1];
-        /* a copy of its own, so that the address sanitizer sees a read past its end */
-        uint8_t *payload = malloc(n ? n : 1);
-        skriemelt_read_answer a;
+    written = whole(argv[3], &written_bytes);
+    for (number = 0; at < bytes; number++) {
+        size_t n, form_bytes;
+        const uint8_t *payload = entry(store, bytes, &at, &n);
+        const uint8_t *form = entry(written, written_bytes, &written_at, &form_bytes);
+        unsigned long failed = test_failed;
 
-        if (payload == NULL || n > bytes - at - 2)
-            return 2;
-        memcpy(payload, store + at + 2, n);
-        memset(records, 0xA5, SKRIEMELT_MOST_RECORD_BYTES);
-        a = skriemelt_read(payload, n, records, SKRIEMELT_MOST_RECORD_BYTES);
-        free(payload);
-        say("vector=%u\nrefusal=%u\nplace=%llu\n", number, a.refusal, (unsigned long long)a.place);
-        if (a.refusal == SKRIEMELT_ACCEPTED)
-            accepted(&a, records);
-        if (text_bytes <= want_bytes && memcmp(text + from, want + from, text_bytes - from) == 0) {
-            check(1, "");
-        } else {
-            size_t k = from, s;
-            while (k < text_bytes && k < want_bytes && (uint8_t)text[k] == want[k])
-                k++;
-            s = line_start(want, k < want_bytes ? k : want_bytes);
-            printf("vector %u: got %.60s\n   expected %.60s\n", number, text + s, (char *)want + s);
-            check(0, "a vector");
-            return finish("test_vectors");
-        }
+        one_vector(number, payload, n, form, form_bytes);
+        check(as_expected(from, want, want_bytes), "a vector's lines");
+        if (test_failed != failed)
+            printf("   in vector %u\n", number);
         from = text_bytes;
-        at += 2 + n;
-        number++;
     }
-    check(at == bytes, "the payloads end with a whole one");
     check(text_bytes == want_bytes, "nothing more is expected");
+    check(written_at == written_bytes, "no more written forms are expected");
     check(number > 0, "there are vectors");
     free(text);
     free(store);
     free(want);
-    free(records);
+    free(written);
     return finish("test_vectors");
 }

@@ -1,18 +1,21 @@
 /*
- * skriemelt.h: reading of object audio metadata (OAMD, ETSI TS 103 420 V1.2.1) from C and C++.
+ * skriemelt.h: reading and writing of object audio metadata (OAMD, ETSI TS 103 420 V1.2.1) from C and C++.
  *
  * The library is libhost.a (`rt staticlib host`). It needs memcpy and memset of the C library and nothing else: it has no state, takes no memory,
  * opens nothing and never ends the program. Link with -lskriemelt behind `make -C host install`, or with target/staticlib/libhost.a.
  *
  * Slices. A slice is passed as two arguments: a pointer to its first byte, and its length in bytes. A pointer with length 0 may be NULL. A pointer with a
- * length above 0 must point to that many bytes; it needs no alignment. Bytes of every sort are fine in a payload, and every length is fine for both.
- * The payload and the record buffer must not overlap.
+ * length above 0 must point to that many bytes; it needs no alignment. Bytes of every sort are fine in a payload and in records, and every length is fine
+ * for both. The payload and the records of one call must not overlap.
  *
- * Refusals. A refused call leaves every byte of the record buffer as it came, and all fields of its answer but refusal and place are 0.
- * An accepted call writes the first 24 * objects * blocks bytes of the buffer and no others.
+ * Tables. The programme and the timing are passed and answered by value. Values of every sort are fine in them.
  *
- * Threads. Every call works on its arguments and its own stack (about 32 kB) alone. Calls may run at once in several threads, as long as no two are
- * lent the same record buffer; one payload may be read by several.
+ * Refusals. A refused call leaves every byte of the lent buffer (read: the records, write: the payload) as it came, and all fields of its answer but
+ * refusal and place are 0. An accepted read writes the first 24 * objects * blocks bytes of its buffer and no others; an accepted write writes the first
+ * `length` bytes of its buffer and no others.
+ *
+ * Threads. Every call works on its arguments and its own stack alone (a read: about 32 kB, a write: about 1 kB). Calls may run at once in several threads,
+ * as long as no two are lent the same buffer to be filled. What a call only looks at (read: the payload, write: the records) may be shared.
  *
  * Bytes between the fields of an answer (padding) carry nothing: compare field by field.
  */
@@ -27,10 +30,10 @@ extern "C" {
 #endif
 
 /* The version of this interface: a thousand times the major number, plus the minor. */
-#define SKRIEMELT_VERSION 1000
+#define SKRIEMELT_VERSION 1001
 
 /* Limits. */
-#define SKRIEMELT_MOST_PAYLOAD_BYTES 4096 /* a longer payload is refused with 1 */
+#define SKRIEMELT_MOST_PAYLOAD_BYTES 4096 /* a longer payload is refused with 1, a longer written form with 11 */
 #define SKRIEMELT_MOST_RECORD_BYTES 30720 /* a buffer of this length holds the records of every payload */
 #define SKRIEMELT_MOST_OBJECTS 159
 #define SKRIEMELT_MOST_BLOCKS 8
@@ -48,7 +51,9 @@ extern "C" {
 #define SKRIEMELT_EXTENDED_EARLY 7     /* an extended object element before any object element; place: first bit of its id */
 #define SKRIEMELT_PAST_ELEMENT 8       /* a field of a known element passes the element's declared end; place: first bit of that field */
 #define SKRIEMELT_NO_ROOM 9            /* the record buffer is too short; place: bytes needed */
-/* 10 (tables not valid) and 11 (the written form is too long) are kept for writing, which this version does not have. */
+/* A read is refused with 1 to 9, a write with 10 or 11; 10 comes first. */
+#define SKRIEMELT_NOT_VALID 10         /* not valid: programme, timing or too few record bytes, place 0; a record, place: 1 + index of the first bad one */
+#define SKRIEMELT_NO_FIT 11            /* the form is longer than the payload buffer or 4,096 bytes; place: bytes needed */
 
 /*
  * Records. One record for each object and block, objects outermost: the record of object o and block b begins at byte
@@ -133,6 +138,13 @@ typedef struct skriemelt_read_answer {
     skriemelt_timing timing;
 } skriemelt_read_answer;
 
+/* What a write answers, beside the payload. On a refusal the length is 0. */
+typedef struct skriemelt_write_answer {
+    uint64_t place;  /* see the refusals above */
+    uint32_t length; /* bytes of the payload, 2 to 4,096 */
+    uint8_t refusal; /* SKRIEMELT_ACCEPTED, SKRIEMELT_NOT_VALID or SKRIEMELT_NO_FIT */
+} skriemelt_write_answer;
+
 /* The version of the library; it equals SKRIEMELT_VERSION of the header that belongs to it. */
 uint32_t skriemelt_version(void);
 
@@ -141,6 +153,24 @@ uint32_t skriemelt_version(void);
  * SKRIEMELT_MOST_RECORD_BYTES; it need not be cleared. Every input is answered: there is nothing to check beforehand.
  */
 skriemelt_read_answer skriemelt_read(const uint8_t *payload, size_t payload_bytes, uint8_t *records, size_t records_bytes);
+
+/*
+ * Writes the payload of a programme, a timing and 24 * objects * blocks bytes of records: the one form that the tables have. Read back, it gives the same
+ * tables and no unknown element. Every input is answered: there is nothing to check beforehand.
+ *
+ * Records. They lie as a read leaves them. Bytes behind the last record are not looked at, so the buffer of a read can be passed with its whole length.
+ * Without blocks no record is needed, and records may be NULL with length 0.
+ *
+ * Payload. The buffer need not be cleared. One of SKRIEMELT_MOST_PAYLOAD_BYTES suffices for every form that can be written. Many objects with many blocks
+ * need more than that, up to 14,425 bytes: they are refused with SKRIEMELT_NO_FIT, however long the buffer is. With payload NULL and length 0, valid tables
+ * are refused with SKRIEMELT_NO_FIT and their length as the place, so the length can be asked for.
+ *
+ * Valid are the tables of every accepted payload with SKRIEMELT_CONTENT_RESERVED clear, and all others whose programme, timing and records each could stem
+ * from such a payload: what is not carried is 0; the class of each record follows from the programme; all starts leave the same remainder by 32; an inactive
+ * record holds the defaults behind its class (x and y 31, z 64, elevation flag 1, all else 0), a bed or ISF record from x on.
+ */
+skriemelt_write_answer skriemelt_write(skriemelt_programme programme, skriemelt_timing timing, const uint8_t *records, size_t records_bytes,
+                                       uint8_t *payload, size_t payload_bytes);
 
 #ifdef __cplusplus
 }

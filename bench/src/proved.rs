@@ -56,6 +56,15 @@ pub struct ReadAnswer {
     pub timing: Timing,
 }
 
+/// skriemelt_write_answer.
+#[repr(C)]
+#[derive(Clone, Copy, Debug)]
+pub struct WriteAnswer {
+    pub place: u64,
+    pub length: u32,
+    pub refusal: u8,
+}
+
 const _: () = {
     use core::mem::{align_of, offset_of, size_of};
     assert!(size_of::<Bed>() == 8 && align_of::<Bed>() == 4);
@@ -76,6 +85,9 @@ const _: () = {
     assert!(offset_of!(ReadAnswer, place) == 0 && offset_of!(ReadAnswer, refusal) == 8);
     assert!(offset_of!(ReadAnswer, unknown) == 9 && offset_of!(ReadAnswer, programme) == 12);
     assert!(offset_of!(ReadAnswer, timing) == 96);
+    assert!(size_of::<WriteAnswer>() == 16 && align_of::<WriteAnswer>() == 8);
+    assert!(offset_of!(WriteAnswer, place) == 0 && offset_of!(WriteAnswer, length) == 8);
+    assert!(offset_of!(WriteAnswer, refusal) == 12);
 };
 
 #[link(name = "host", kind = "static")]
@@ -87,6 +99,14 @@ extern "C" {
         records: *mut u8,
         records_bytes: usize,
     ) -> ReadAnswer;
+    fn skriemelt_write(
+        programme: Programme,
+        timing: Timing,
+        records: *const u8,
+        records_bytes: usize,
+        payload: *mut u8,
+        payload_bytes: usize,
+    ) -> WriteAnswer;
 }
 
 /// The version of the library.
@@ -106,6 +126,72 @@ pub fn read(payload: &[u8], records: &mut [u8]) -> ReadAnswer {
             records.as_mut_ptr(),
             records.len(),
         )
+    }
+}
+
+/// Writes tables with the proved library.
+#[inline]
+pub fn write(
+    programme: Programme,
+    timing: Timing,
+    records: &[u8],
+    payload: &mut [u8],
+) -> WriteAnswer {
+    // SAFETY: both slices are valid for their lengths and do not overlap.
+    unsafe {
+        skriemelt_write(
+            programme,
+            timing,
+            records.as_ptr(),
+            records.len(),
+            payload.as_mut_ptr(),
+            payload.len(),
+        )
+    }
+}
+
+impl From<&plain::Programme> for Programme {
+    fn from(p: &plain::Programme) -> Self {
+        Self {
+            objects: p.objects,
+            dynonly: p.dynonly,
+            lfe: p.lfe,
+            content: p.content,
+            distribute: p.distribute,
+            multiple: p.multiple,
+            instances: p.instances,
+            bedcount: p.bedcount,
+            isf: p.isf,
+            dynamics: p.dynamics,
+            beds: p.beds.map(|b| Bed {
+                assignment: b.assignment,
+                lfeonly: b.lfeonly,
+                standard: b.standard,
+            }),
+        }
+    }
+}
+
+impl From<&plain::Timing> for Timing {
+    fn from(t: &plain::Timing) -> Self {
+        Self {
+            blocks: t.blocks,
+            updates: t.updates.map(|u| Update {
+                start: u.start,
+                ramp: u.ramp,
+            }),
+        }
+    }
+}
+
+impl WriteAnswer {
+    /// The same answer in the plain writer's types, every field of it.
+    pub fn plain(&self) -> plain::WriteAnswer {
+        plain::WriteAnswer {
+            refusal: self.refusal.into(),
+            place: self.place,
+            length: self.length.into(),
+        }
     }
 }
 

@@ -35,6 +35,24 @@ impl Gen {
         case
     }
 
+    /// Tables with one to three values changed, or with record bytes cut off or
+    /// put behind the others.
+    pub fn damage_tables(&mut self, case: &mut TableCase) {
+        for _ in 0..self.rng.within(1, 3) {
+            match self.rng.below(12) {
+                0..=6 if !case.records.is_empty() => self.change_record(case),
+                7..=8 => self.change_programme(case),
+                9 => self.change_timing(case),
+                10 => case
+                    .records
+                    .truncate(self.rng.below(case.records.len() + 1)),
+                _ => case.records.push(self.rng.byte()),
+            }
+        }
+        case.kind = "damaged tables";
+        (case.valid, case.place) = (None, None);
+    }
+
     /// Tables of arbitrary values, small ones more often.
     fn random_tables(&mut self) -> TableCase {
         let most = self.rng.pick(&[2, 10, 256]);
@@ -203,7 +221,7 @@ impl Gen {
         let mut at = self.rng.below(case.records.len());
         for _ in 0..4 {
             // Rather an active dynamic record.
-            if case.records[at / 24 * 24..][..2] == [1, 2] {
+            if case.records[at / 24 * 24..].starts_with(&[1, 2]) {
                 break;
             }
             at = self.rng.below(case.records.len());

@@ -1,14 +1,18 @@
-// What a C program calls. Numbers and byte slices cross this border, and one answer by value; include/skriemelt.h declares the same for C.
+// What a C program calls. Numbers, byte slices and tables of numbers cross this border, and one answer by value; include/skriemelt.h declares the same for C.
 ghost use mathlib.Core.Path.{_≡_};
 ghost use Rattle.oamd.specs.Answer.{reading};
+ghost use Rattle.written.specs.Answer.{writing};
+use oamd::Programme;
 use oamd::ReadAnswer;
+use oamd::Timing;
+use oamd::WriteAnswer;
 
 // The version of this interface: a thousand times the major number, plus the minor.
-const VERSION: u32 = 1000;
+const VERSION: u32 = 1001;
 
 #[no_mangle]
 pub extern "C" fn skriemelt_version() -> u32
-    ensures { λ r. ⌜ r ≡ 1000 ⌝ }
+    ensures { λ r. ⌜ r ≡ 1001 ⌝ }
 {
     VERSION
 }
@@ -19,4 +23,17 @@ pub extern "C" fn skriemelt_read(payload: &[u8], records: &mut [u8]) -> ReadAnsw
     ensures { λ r. ⌜ (record { answer = r; buffer = now (records .exit) }) ≡ reading (now (payload .entry)) (now (records .entry)) ⌝ }
 {
     reader::read(payload, records)
+}
+
+// Writes tables. Accepted: the payload is the first bytes of the lent buffer, and no other byte of it changes. Refused: none changes.
+#[no_mangle]
+pub extern "C" fn skriemelt_write(
+    programme: Programme,
+    timing: Timing,
+    records: &[u8],
+    payload: &mut [u8],
+) -> WriteAnswer
+    ensures { λ r. ⌜ (record { answer = r; out = now (payload .exit) }) ≡ writing programme timing (now (records .entry)) (now (payload .entry)) ⌝ }
+{
+    writer::write(programme, timing, records, payload)
 }

@@ -1,12 +1,16 @@
-//! The proved library against the plain reader.
+//! The proved library against the plain reader and writer.
 //!
-//! `compare N [SEED]`: N generated payloads, valid, faulty and damaged; answers, places, tables and whole buffers, with canaries around them.
+//! `compare N [SEED]`: N generated payloads, valid, faulty and damaged; answers, places, tables and whole buffers, with canaries around them. The tables
+//! of each accepted payload are written, as they are and damaged, and so are N generated tables.
 //! `compare --damaged N [SEED]`: N random and damaged inputs: the library ends, and touches nothing that it may not.
+
+mod writes;
 
 use skriemelt_bench::gen::rng::Rng;
 use skriemelt_bench::gen::Gen;
 use skriemelt_bench::{plain, proved};
 use std::process::ExitCode;
+use writes::Writer;
 
 /// Canary bytes on each side of a lent buffer.
 const SIDE: usize = 64;
@@ -24,18 +28,36 @@ const KINDS: [&str; 10] = [
 ];
 
 /// What has been seen.
-#[derive(Default)]
 struct Tally {
     refusals: [u64; 10],
     differences: u64,
+    writer: Writer,
 }
 
-/// Reads with both and compares all that both give; `Err` says what differs.
-fn both(payload: &[u8], room: usize, skew: usize, fill: u8) -> Result<u32, String> {
-    let from = SIDE + skew;
-    let fresh: Vec<u8> = (0..from + room + SIDE)
+impl Tally {
+    fn new(seed: u64) -> Self {
+        Self {
+            refusals: [0; 10],
+            differences: 0,
+            writer: Writer::new(seed),
+        }
+    }
+}
+
+/// Bytes that a call is not likely to write by chance.
+fn lent(length: usize, fill: u8) -> Vec<u8> {
+    (0..length)
         .map(|at| (at as u8).wrapping_mul(31) ^ fill)
-        .collect();
+        .collect()
+}
+
+/// An answer that both give, and the records of an accepted payload.
+type Both = (plain::Answer, Vec<u8>);
+
+/// Reads with both and compares all that both give; `Err` says what differs.
+fn both(payload: &[u8], room: usize, skew: usize, fill: u8) -> Result<Both, String> {
+    let from = SIDE + skew;
+    let fresh = lent(from + room + SIDE, fill);
     let (mut a, mut b) = (fresh.clone(), fresh.clone());
     let answer = proved::read(payload, &mut a[from..from + room]).plain();
     let other = plain::read(payload, &mut b[from..from + room]);
@@ -64,35 +86,55 @@ fn both(payload: &[u8], room: usize, skew: usize, fill: u8) -> Result<u32, Strin
     if answer.refusal != 0 && answer != bare {
         return Err(format!("refused, yet more is given: {answer:?}"));
     }
-    Ok(answer.refusal)
+    Ok((answer, a[from..from + used].to_vec()))
 }
 
-fn count(tally: &mut Tally, index: u64, payload: &[u8], room: usize, result: Result<u32, String>) {
-    match result {
-        Ok(refusal) => tally.refusals[refusal as usize] += 1,
-        Err(message) => {
-            tally.differences += 1;
-            if tally.differences <= 5 {
-                let hex: String = payload.iter().map(|b| format!("{b:02x}")).collect();
-                println!("payload {index}, room {room}: {message}\n{hex}");
-            }
+/// Counts what was read, and writes the tables of an accepted payload.
+fn count(tally: &mut Tally, index: u64, payload: &[u8], room: usize, result: Result<Both, String>) {
+    let result = result.and_then(|(answer, records)| {
+        tally.refusals[answer.refusal as usize] += 1;
+        match answer.refusal {
+            0 => tally.writer.rewrite(&answer, &records),
+            _ => Ok(()),
         }
+    });
+    if let Err(message) = result {
+        let hex: String = payload.iter().map(|b| format!("{b:02x}")).collect();
+        differ(
+            tally,
+            format!("payload {index}, room {room}: {message}\n{hex}"),
+        );
+    }
+}
+
+/// Counts a difference; the first five are printed.
+fn differ(tally: &mut Tally, message: String) {
+    tally.differences += 1;
+    if tally.differences <= 5 {
+        println!("{message}");
     }
 }
 
 fn generated(number: u64, seed: u64) -> Tally {
     let mut gen = Gen::new(seed);
-    let mut tally = Tally::default();
+    let mut tally = Tally::new(seed);
     for index in 0..number {
         let case = gen.case();
         let skew = index as usize % 16;
         let mut result = both(&case.payload, case.room, skew, index as u8);
-        if let (Ok(refusal), Some(expect)) = (&result, case.expect) {
-            if *refusal != expect.0 {
-                result = Err(format!("refusal {refusal}, the generator says {expect:?}"));
+        if let (Ok((answer, _)), Some(expect)) = (&result, case.expect) {
+            let got = (answer.refusal, answer.place);
+            if got != expect {
+                result = Err(format!("{got:?}, the generator says {expect:?}"));
             }
         }
         count(&mut tally, index, &case.payload, case.room, result);
+        if let Err(message) = tally.writer.generated() {
+            differ(&mut tally, format!("generated tables {index}: {message}"));
+        }
+    }
+    if let Err(message) = tally.writer.longest() {
+        differ(&mut tally, message);
     }
     tally
 }
@@ -128,7 +170,7 @@ fn damaged(number: u64, seed: u64) -> Tally {
     let mut gen = Gen::new(seed);
     let store: Vec<Vec<u8>> = (0..20_000).map(|_| gen.case().payload).collect();
     let mut rng = Rng::new(seed ^ 0x5EED);
-    let mut tally = Tally::default();
+    let mut tally = Tally::new(seed);
     for index in 0..number {
         let mut payload = store[rng.below(store.len())].clone();
         match rng.below(10) {
@@ -171,8 +213,9 @@ fn main() -> ExitCode {
         generated(number, seed)
     };
     for (refusal, count) in tally.refusals.iter().enumerate() {
-        println!("refusal {refusal} ({}): {count}", KINDS[refusal]);
+        println!("read, refusal {refusal} ({}): {count}", KINDS[refusal]);
     }
+    tally.writer.writes.print();
     let what = if random { "damaged inputs" } else { "payloads" };
     println!("{number} {what}, {} differences", tally.differences);
     ExitCode::from(u8::from(tally.differences != 0))
