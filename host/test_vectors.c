@@ -148,10 +148,21 @@ static void read_back(const skriemelt_read_answer *a, const uint8_t *records, co
     check(memcmp(records, again, bytes) == 0, "the written records are read back");
 }
 
+/* The lines of a form that was written and read back. */
+static void say_form(const uint8_t *form, size_t bytes)
+{
+    size_t i;
+
+    say("written=");
+    for (i = 0; i < bytes; i++)
+        say("%02x", form[i]);
+    say("\nread back=1\n");
+}
+
 /* Writes the tables of a vector into exactly the expected room. Nothing is expected of tables that are refused. */
 static void write_vector(const skriemelt_read_answer *a, const uint8_t *records, const uint8_t *want, size_t want_bytes)
 {
-    uint8_t *form = malloc(want_bytes ? want_bytes : 1);
+    uint8_t *form = calloc(want_bytes ? want_bytes : 1, 1);
     skriemelt_write_answer w;
 
     if (form == NULL)
@@ -161,11 +172,13 @@ static void write_vector(const skriemelt_read_answer *a, const uint8_t *records,
         check(want_bytes == 0 && w.refusal == SKRIEMELT_NOT_VALID && w.place == 0 && w.length == 0, "the reserved content flag is not written");
     } else if (want_bytes == 0) {
         check(w.refusal == SKRIEMELT_NO_FIT && w.place > SKRIEMELT_MOST_PAYLOAD_BYTES && w.length == 0, "a form of more than 4,096 bytes");
+        say("written refusal=%u place=%llu\n", w.refusal, (unsigned long long)w.place);
     } else {
         check(w.refusal == SKRIEMELT_ACCEPTED && w.place == 0 && w.length == want_bytes, "the written form's length");
         check(w.refusal != SKRIEMELT_ACCEPTED || memcmp(form, want, want_bytes) == 0, "the written form");
         if (w.refusal == SKRIEMELT_ACCEPTED)
             read_back(a, records, form, want_bytes);
+        say_form(form, want_bytes);
     }
     free(form);
 }
