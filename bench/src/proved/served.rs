@@ -43,7 +43,10 @@ fn ask(request: &[u8], bytes: usize, buffer: &mut [u8]) -> Answer {
             let asked = server.requests.write_all(request);
             asked.and_then(|()| server.answers.read_exact(&mut all))
         })
-        .expect("the server answers");
+        .unwrap_or_else(|error| {
+            eprintln!("the server does not answer: {error}");
+            std::process::exit(1)
+        });
     buffer.copy_from_slice(&all[bytes..]);
     Answer { bytes: all, at: 0 }
 }
