@@ -1,10 +1,11 @@
-//! With the feature `proved`, links the proved library: target/staticlib/libhost.a, which `rt staticlib host` writes.
+//! With the feature `proved` and without `served`, links the proved library: target/staticlib/libhost.a, which `rt staticlib host` writes.
 
 use std::path::Path;
 
 fn main() {
     println!("cargo:rerun-if-changed=build.rs");
-    if std::env::var_os("CARGO_FEATURE_PROVED").is_none() {
+    let has = |feature| std::env::var_os(feature).is_some();
+    if !has("CARGO_FEATURE_PROVED") || has("CARGO_FEATURE_SERVED") {
         return;
     }
     let folder = Path::new(env!("CARGO_MANIFEST_DIR")).join("../target/staticlib");

@@ -1,5 +1,5 @@
-//! The proved library through its C interface (include/skriemelt.h). The structs mirror the header's; host/test_layout.c holds the header to the
-//! numbers that are asserted here.
+//! The proved library through its C interface (include/skriemelt.h), linked, or served by another process (feature `served`). The structs mirror the
+//! header's; host/test_layout.c holds the header to the numbers that are asserted here.
 
 use crate::plain;
 
@@ -90,65 +90,15 @@ const _: () = {
     assert!(offset_of!(WriteAnswer, refusal) == 12);
 };
 
-#[link(name = "host", kind = "static")]
-extern "C" {
-    fn skriemelt_version() -> u32;
-    fn skriemelt_read(
-        payload: *const u8,
-        payload_bytes: usize,
-        records: *mut u8,
-        records_bytes: usize,
-    ) -> ReadAnswer;
-    fn skriemelt_write(
-        programme: Programme,
-        timing: Timing,
-        records: *const u8,
-        records_bytes: usize,
-        payload: *mut u8,
-        payload_bytes: usize,
-    ) -> WriteAnswer;
-}
+#[cfg(not(feature = "served"))]
+mod linked;
+#[cfg(feature = "served")]
+mod served;
 
-/// The version of the library.
-pub fn version() -> u32 {
-    // SAFETY: it takes nothing and returns a number.
-    unsafe { skriemelt_version() }
-}
-
-/// Reads one payload with the proved library.
-#[inline]
-pub fn read(payload: &[u8], records: &mut [u8]) -> ReadAnswer {
-    // SAFETY: both slices are valid for their lengths and do not overlap.
-    unsafe {
-        skriemelt_read(
-            payload.as_ptr(),
-            payload.len(),
-            records.as_mut_ptr(),
-            records.len(),
-        )
-    }
-}
-
-/// Writes tables with the proved library.
-#[inline]
-pub fn write(
-    programme: Programme,
-    timing: Timing,
-    records: &[u8],
-    payload: &mut [u8],
-) -> WriteAnswer {
-    // SAFETY: both slices are valid for their lengths and do not overlap.
-    unsafe {
-        skriemelt_write(
-            programme,
-            timing,
-            records.as_ptr(),
-            records.len(),
-            payload.as_mut_ptr(),
-            payload.len(),
-        )
-    }
-}
+#[cfg(not(feature = "served"))]
+pub use linked::{read, version, write};
+#[cfg(feature = "served")]
+pub use served::{read, version, write};
 
 impl From<&plain::Programme> for Programme {
     fn from(p: &plain::Programme) -> Self {

@@ -1,0 +1,165 @@
+//! The library's functions, asked of host/serve.c, which says how requests and answers are laid out. The command that runs it is in the variable SERVE.
+
+use super::{Bed, Programme, ReadAnswer, Timing, Update, WriteAnswer};
+use std::cell::RefCell;
+use std::io::{Read, Write};
+use std::process::{ChildStdin, ChildStdout, Command, Stdio};
+
+const READ_ANSWER_BYTES: usize = 8 + 1 + 1 + (10 + 9 * 6) + (1 + 8 * 4);
+const WRITE_ANSWER_BYTES: usize = 8 + 4 + 1;
+
+/// The serving process.
+struct Server {
+    requests: ChildStdin,
+    answers: ChildStdout,
+}
+
+thread_local! {
+    static SERVER: RefCell<Server> = RefCell::new(Server::start());
+}
+
+impl Server {
+    fn start() -> Self {
+        let command = std::env::var("SERVE").expect("SERVE is the command that serves");
+        let mut words = command.split_whitespace();
+        let child = Command::new(words.next().expect("SERVE names a program"))
+            .args(words)
+            .stdin(Stdio::piped())
+            .stdout(Stdio::piped())
+            .spawn()
+            .expect("the server starts");
+        Self {
+            requests: child.stdin.expect("a pipe"),
+            answers: child.stdout.expect("a pipe"),
+        }
+    }
+}
+
+/// Sends a request; takes the fields of its answer, `bytes` long, and the buffer.
+fn ask(request: &[u8], bytes: usize, buffer: &mut [u8]) -> Answer {
+    let mut all = vec![0; bytes + buffer.len()];
+    SERVER
+        .with_borrow_mut(|server| {
+            let asked = server.requests.write_all(request);
+            asked.and_then(|()| server.answers.read_exact(&mut all))
+        })
+        .unwrap_or_else(|error| {
+            eprintln!("the server does not answer: {error}");
+            std::process::exit(1)
+        });
+    buffer.copy_from_slice(&all[bytes..]);
+    Answer { bytes: all, at: 0 }
+}
+
+/// Adds both slices of a call to its request, and how the buffer lies in memory.
+fn add_slices(request: &mut Vec<u8>, given: &[u8], buffer: &[u8]) {
+    let skew = buffer.as_ptr() as usize % 16;
+    for number in [given.len(), buffer.len(), skew] {
+        let number = u32::try_from(number).expect("a length below 2^32");
+        request.extend(number.to_le_bytes());
+    }
+    request.extend(given);
+    request.extend(buffer);
+}
+
+/// The fields of an answer, taken one behind the other.
+struct Answer {
+    bytes: Vec<u8>,
+    at: usize,
+}
+
+impl Answer {
+    fn take<const N: usize>(&mut self) -> [u8; N] {
+        let from = self.at;
+        self.at += N;
+        self.bytes[from..self.at].try_into().expect("N bytes")
+    }
+
+    fn u8(&mut self) -> u8 {
+        u8::from_le_bytes(self.take())
+    }
+
+    fn u16(&mut self) -> u16 {
+        u16::from_le_bytes(self.take())
+    }
+
+    fn u32(&mut self) -> u32 {
+        u32::from_le_bytes(self.take())
+    }
+
+    fn u64(&mut self) -> u64 {
+        u64::from_le_bytes(self.take())
+    }
+
+    fn programme(&mut self) -> Programme {
+        Programme {
+            objects: self.u8(),
+            dynonly: self.u8(),
+            lfe: self.u8(),
+            content: self.u8(),
+            distribute: self.u8(),
+            multiple: self.u8(),
+            instances: self.u8(),
+            bedcount: self.u8(),
+            isf: self.u8(),
+            dynamics: self.u8(),
+            beds: std::array::from_fn(|_| Bed {
+                assignment: self.u32(),
+                lfeonly: self.u8(),
+                standard: self.u8(),
+            }),
+        }
+    }
+
+    fn timing(&mut self) -> Timing {
+        Timing {
+            blocks: self.u8(),
+            updates: std::array::from_fn(|_| Update {
+                start: self.u16(),
+                ramp: self.u16(),
+            }),
+        }
+    }
+}
+
+/// The version of the library.
+pub fn version() -> u32 {
+    ask(b"v", 4, &mut []).u32()
+}
+
+/// Reads one payload with the proved library.
+pub fn read(payload: &[u8], records: &mut [u8]) -> ReadAnswer {
+    let mut request = b"r".to_vec();
+    add_slices(&mut request, payload, records);
+    let mut answer = ask(&request, READ_ANSWER_BYTES, records);
+    ReadAnswer {
+        place: answer.u64(),
+        refusal: answer.u8(),
+        unknown: answer.u8(),
+        programme: answer.programme(),
+        timing: answer.timing(),
+    }
+}
+
+/// Writes tables with the proved library.
+pub fn write(p: Programme, t: Timing, records: &[u8], payload: &mut [u8]) -> WriteAnswer {
+    let mut request = b"w".to_vec();
+    request.extend([p.objects, p.dynonly, p.lfe, p.content, p.distribute]);
+    request.extend([p.multiple, p.instances, p.bedcount, p.isf, p.dynamics]);
+    for bed in p.beds {
+        request.extend(bed.assignment.to_le_bytes());
+        request.extend([bed.lfeonly, bed.standard]);
+    }
+    request.push(t.blocks);
+    for update in t.updates {
+        request.extend(update.start.to_le_bytes());
+        request.extend(update.ramp.to_le_bytes());
+    }
+    add_slices(&mut request, records, payload);
+    let mut answer = ask(&request, WRITE_ANSWER_BYTES, payload);
+    WriteAnswer {
+        place: answer.u64(),
+        length: answer.u32(),
+        refusal: answer.u8(),
+    }
+}
