@@ -35,7 +35,7 @@ pub first-none : (l : List ℕ) → First [] l
 unfolding number
 first-none l = record { fewer = omega arith; smaller = λ e. omega arith }
 
-number-append : (l m : List ℕ) → number (l ++ m) ≡ number l * 2 ^ length m + number m
+pub number-append : (l m : List ℕ) → number (l ++ m) ≡ number l * 2 ^ length m + number m
 unfolding number
 number-append [] m = omega arith
 number-append (x ∷ xs) m =

@@ -13,6 +13,7 @@ use Rattle.bits.specs.Steps.{by-order}
 use Rattle.bits.specs.View.{wordAt}
 use Rattle.bits.specs.Writes.{toBits, bin-toBits, length-toBits}
 use Rattle.bits.specs.Bytes.{getD-toBits}
+use Rattle.coding.proofs.Joins.{low-bits}
 use Rattle.writer.specs.Laying.{lay, Laid, setWord, putWord, Bytes}
 use Rattle.writer.proofs.LayLaws.{ext-bit, length-lay, bytes-lay, lay-before, lay-behind, lay-inside}
 
@@ -38,12 +39,8 @@ module _ (x o w v : ℕ) (ho : o < 8) (h1 : 1 ≤ w) (hw : w ≤ 24) where
       ∙ ap (λ (k : ℕ). x * 2 ^ o / 2 ^ k % 2 ^ w) f
       ∙ ap (λ (y : ℕ). y % 2 ^ w) (sym (shr-shr (x * 2 ^ o) o sh) ∙ ap (λ (y : ℕ). y / 2 ^ sh) (shl-shr x o))
 
-  pub new-is : v * 2 ^ (32 - w) % 2 ^ 32 / 2 ^ (32 - w) ≡ v % 2 ^ w
-  new-is =
-      let e : 32 ≡ w + (32 - w) = omega arith in
-      ap (λ (k : ℕ). v * 2 ^ (32 - w) % 2 ^ k / 2 ^ (32 - w)) e
-      ∙ field (v * 2 ^ (32 - w)) w (32 - w)
-      ∙ ap (λ (y : ℕ). y % 2 ^ w) (shl-shr v (32 - w))
+  new-is : v * 2 ^ (32 - w) % 2 ^ 32 / 2 ^ (32 - w) ≡ v % 2 ^ w
+  new-is = low-bits w v (omega arith)
 
   shifted : (a : ℕ) → a < 2 ^ w → a * 2 ^ sh % 2 ^ 32 ≡ a * 2 ^ sh
   shifted a h = shl-exact w sh 32 h (omega arith)

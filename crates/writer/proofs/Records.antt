@@ -6,15 +6,16 @@ use Prim.Native.Nat.{ℕ, zero, suc, _+_, _-_, _*_, _≤_, _<_}
 use native.Mathlib.Numerals.{add-one}
 use native.Mathlib.Omega.{arith}
 use lib.Dec.{ltb}
-use lib.ListN.{length, take, drop}
-use Rattle.bits.specs.Writes.{only, toBits, eachBits}
+use lib.ListN.{length, take, drop, length-append}
+use Rattle.bits.specs.Writes.{only, toBits, eachBits, length-toBits}
 use Rattle.writer.specs.Laying.{Laid}
 use Rattle.writer.proofs.LayLaws.{laid-bind, laid-is}
 use Rattle.oamd.specs.declared.Precise.{Precise}
 use Rattle.oamd.specs.Record.{Record}
+use Rattle.oamd.specs.Payload.{Tables}
 use Rattle.oamd.specs.Extended.{hasX, hasY, hasZ}
 use Rattle.written.specs.Coded.{asFlag}
-use Rattle.written.specs.Form.{byObject, objectDataBits, preciseBits}
+use Rattle.written.specs.Form.{timingBits, byObject, objectDataBits, objectElementBits, preciseBits}
 use Rattle.written.specs.Answer.{recordAt, recordsAt}
 
 module _ (f : ℕ → Record → List ℕ) (s : List ℕ) (n i k : ℕ) where
@@ -25,6 +26,13 @@ module _ (f : ℕ → Record → List ℕ) (s : List ℕ) (n i k : ℕ) where
   pub records-none : n ≤ i → eachBits f i (recordsAt s (n - i) k) ≡ []
   unfolding eachBits recordsAt
   records-none h = ap (λ (m : ℕ). eachBits f i (recordsAt s m k)) (let e : n - i ≡ 0 = omega arith in e)
+
+-- counted up to an entry, and what is still to come
+pub count-more : (l a m : List ℕ) (total width whole : ℕ) → l ≡ a ++ m → width ≡ length a → total + length l ≡ whole → total + width + length m ≡ whole
+count-more l a m total width whole e f g = let h : length l ≡ length a + length m = ap length e ∙ length-append a m in omega arith
+
+pub count-none : (l : List ℕ) (total whole : ℕ) → l ≡ [] → total + length l ≡ whole → total ≡ whole
+count-none l total whole e g = let h : length l ≡ 0 = ap length e in omega arith
 
 -- the first m records, and those behind them
 take-records : (s : List ℕ) (m r k : ℕ) → take m (recordsAt s (m + r) k) ≡ recordsAt s m k
@@ -44,6 +52,15 @@ drop-records s (suc m) r k =
 
 pub left-more : (n m i : ℕ) → i < n → (n - i) * m ≡ m + (n - (i + 1)) * m
 left-more n m i h = ap (λ (j : ℕ). j * m) (let e : n - i ≡ suc (n - (i + 1)) = omega arith in e) ∙ (let g : suc (n - (i + 1)) * m ≡ m + (n - (i + 1)) * m = omega arith in g)
+
+-- the object element's fields: the timing, a flag, and the objects
+pub element-length : (t : Tables) (timing objects : ℕ) → timing ≡ length (timingBits (t .timing))
+    → objects ≡ length (eachBits (λ j rs. objectDataBits rs) 0 (byObject (t .timing .blocks) (t .programme .objects) (t .records)))
+    → 2 + timing + objects ≡ 1 + length (objectElementBits t)
+unfolding objectElementBits
+element-length t timing objects e f =
+    let rest : List ℕ = eachBits (λ j rs. objectDataBits rs) 0 (byObject (t .timing .blocks) (t .programme .objects) (t .records)) in
+    omega (arith, length-append (timingBits (t .timing)) (toBits 1 1 ++ rest), length-append (toBits 1 1) rest, length-toBits 1 1)
 
 abbrev objectsFrom : List ℕ → ℕ → ℕ → ℕ → ℕ → List ℕ
 objectsFrom s m i n k = eachBits (λ j rs. objectDataBits rs) i (byObject m n (recordsAt s (n * m) k))

@@ -10,12 +10,14 @@ ghost use Rattle.written.specs.Answer.{recordsAt, tablesOf};
 ghost use Rattle.writer.specs.Parts.{Needed};
 use crate::Groups;
 use crate::extended::put_extended_fields;
+use crate::objects::objects_width;
 use crate::objects::put_object_fields;
 use crate::putting::put;
 use crate::putting::put_zeros;
 use crate::sizes::minus;
 use crate::sizes::put_size;
 use crate::sizes::size_for;
+use crate::timing::put_timing;
 use oamd::Programme;
 use oamd::Timing;
 use units::BitPos;
@@ -30,14 +32,15 @@ fn put_front(out: &mut [u8], at: BitPos, id: u32, v: u32) -> BitPos
     put(out, p, 1, 0)
 }
 
-// The bits inside the object element: the discard flag and the fields, laid where there is no room.
+// The bits inside the object element: the discard flag, the timing, laid where there is no room, the flag for reserved data, and the objects.
 pub fn object_inside(q: Programme, t: Timing, records: &[u8]) -> u32
     requires { ⌜ (t .blocks ≤ 8) × (24 * (q .objects * (t .blocks)) ≤ length (now records)) ⌝ }
     ensures { λ r. ⌜ (r ≡ 1 + length (objectElementBits (tablesOf q t (now (records .entry))))) × (r ≤ 206 + 616 * (q .objects)) ⌝ }
 {
     let mut scratch = [0u8; 1];
-    let p = put_object_fields(&mut scratch, BitPos::new(0), q, t, records);
-    1 + p.raw()
+    let p = put_timing(&mut scratch, BitPos::new(0), t);
+    let objects = objects_width(records, q.objects as usize, t.blocks as usize);
+    2 + p.raw() + objects
 }
 
 // And inside the extended object element.

@@ -11,7 +11,6 @@ use oamd::WriteAnswer;
 use units::ByteCount;
 
 mod putting; // putting.rt: a field written
-mod fields; // fields.rt: the parts of a block, as coded
 mod blocks; // blocks.rt: a block
 mod head; // head.rt: what stands before the elements
 mod timing; // timing.rt: the timing

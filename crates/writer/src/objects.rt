@@ -7,6 +7,7 @@ ghost use lib.ListN.{length};
 ghost use Rattle.bits.specs.Writes.{eachBits};
 ghost use Rattle.written.specs.Form.{byObject, objectDataBits, objectElementBits};
 ghost use Rattle.written.specs.Answer.{recordsAt, tablesOf};
+use crate::blocks::block_width;
 use crate::blocks::put_block;
 use crate::putting::put;
 use crate::timing::put_timing;
@@ -51,6 +52,42 @@ fn put_objects(out: &mut [u8], at: BitPos, records: &[u8], objects: usize, block
         i = i + 1;
     }
     p
+}
+
+// How many bits those of one object are.
+fn object_data_width(records: &[u8], from: usize, blocks: usize) -> u32
+    requires { ⌜ (blocks ≤ 8) × (from + 24 * blocks ≤ length (now records)) ⌝ }
+    ensures { λ r. ⌜ (r ≡ length (objectDataBits (recordsAt (now (records .entry)) blocks from))) × (r ≤ 616) ⌝ }
+{
+    let mut total: u32 = 0;
+    let mut k = from;
+    let mut i: usize = 0;
+    while i < blocks {
+        let s = scene_at(records, k);
+        let width = block_width(i == 0, s);
+        total = total + width;
+        k = k + 24;
+        i = i + 1;
+    }
+    total
+}
+
+// And those of all.
+pub fn objects_width(records: &[u8], objects: usize, blocks: usize) -> u32
+    requires { ⌜ (objects ≤ 255) × (blocks ≤ 8) × (24 * (objects * blocks) ≤ length (now records)) ⌝ }
+    ensures { λ r. ⌜ (r ≡ length (eachBits (λ j rs. objectDataBits rs) 0 (byObject blocks objects (recordsAt (now (records .entry)) (objects * blocks) 0)))) × (r ≤ 616 * objects) ⌝ }
+{
+    let step = 24 * blocks;
+    let mut total: u32 = 0;
+    let mut k: usize = 0;
+    let mut i: usize = 0;
+    while i < objects {
+        let width = object_data_width(records, k, blocks);
+        total = total + width;
+        k = k + step;
+        i = i + 1;
+    }
+    total
 }
 
 // The flag says that no reserved data is there.

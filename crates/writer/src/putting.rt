@@ -2,9 +2,11 @@
 ghost use mathlib.Core.Path.{_≡_};
 ghost use Prim.Native.Nat.{_+_, _≤_, _<_};
 ghost use lib.ListN.{set, replicate};
+ghost use Rattle.bits.specs.Language.{both};
 ghost use Rattle.bits.specs.Writes.{toBits, only};
 ghost use Rattle.writer.specs.Laying.{Laid, putWord, setWord};
 use bits::word;
+use coding::Packed;
 use units::BitPos;
 
 // Stores a byte, where the buffer has it.
@@ -82,6 +84,25 @@ pub fn put_if(on: bool, out: &mut [u8], at: BitPos, w: u32, v: u32) -> BitPos
         return put(out, at, w, v);
     }
     at
+}
+
+// A field where two tests hold.
+pub fn put_both(a: bool, b: bool, out: &mut [u8], at: BitPos, w: u32, v: u32) -> BitPos
+    requires { ⌜ (1 ≤ w) × (w ≤ 24) × (at .0 < 4000000000) ⌝ }
+    ensures { λ r. ⌜ Laid (now (out .entry)) (now (out .exit)) (at .0) (r .0) (only (both a b) (toBits w v)) ⌝ }
+    ensures { λ r. ⌜ r .0 ≤ at .0 + w ⌝ }
+{
+    let on = oamd::both(a, b);
+    put_if(on, out, at, w, v)
+}
+
+// Packed bits.
+pub fn put_packed(out: &mut [u8], at: BitPos, p: Packed) -> BitPos
+    requires { ⌜ (1 ≤ p .width) × (p .width ≤ 24) × (at .0 < 4000000000) ⌝ }
+    ensures { λ r. ⌜ Laid (now (out .entry)) (now (out .exit)) (at .0) (r .0) (toBits (p .width) (p .value)) ⌝ }
+    ensures { λ r. ⌜ r .0 ≡ at .0 + p .width ⌝ }
+{
+    put(out, at, p.width, p.value)
 }
 
 // Fewer than 8 zeros.

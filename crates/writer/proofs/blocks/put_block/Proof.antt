@@ -1,18 +1,28 @@
 use borrow.Author.Needs.{needs}
-use Rattle.writer.proofs.Parts.{block-laid}
 use native.Mathlib.Omega.{arith}
+use Rattle.writer.proofs.LayLaws.{laid-bind, laid-is}
+use Rattle.writer.proofs.Parts.{block-parts}
 use Rattle.writer.proofs.blocks.put_block.Statement.{statement}
 use Rattle.writer.proofs.blocks.put_block.Tie as tie
 
 returns : tie.Need-returns
-returns c = (block-laid _ _ _ _ _ _ _ _ _ _ _ _ _ (c .before .before .before .before .before .before .before .before .before .before .before .before .before .before .before .before .before .before .less .ensures) (c .before .before .before .before .before .before .before .before .before .before .before .before .before .before .before .before .put .ensures .0) (c .before .before .before .before .before .before .before .before .before .before .before .put-status .ensures .0) (c .before .before .before .before .before .before .put-basic-if .ensures .0) (c .before .before .put-later .ensures .0), omega (arith, c .before .before .before .before .before .before .before .before .before .before .before .before .before .before .before .before .put .ensures .1, c .before .before .before .before .before .before .before .before .before .before .before .put-status .ensures .1, c .before .before .before .before .before .before .put-basic-if .ensures .1, c .before .before .put-later .ensures .1))
+returns c =
+    let s = c .before .before .before .before .before .before .before .before .before .before .before .before .before .before .before .before .args in
+    let opening = c .before .before .before .before .before .before .before .before .before .before .before .before .before .opening .ensures in
+    let ending = c .before .before .before .before .before .before .before .before .before .before .before .before .ending .ensures in
+    let a = c .before .before .before .before .before .before .before .before .before .before .put-packed .ensures in
+    let b = c .before .before .before .before .before .before .put-middle-if .ensures in
+    let d = c .before .before .put-packed2 .ensures in (
+      laid-is (block-parts (s .first) (s .s) (c .before .before .before .before .before .before .before .before .before .before .before .before .before .before .carries-of .result) (c .before .before .before .before .before .before .before .before .before .before .before .before .before .before .carries-of .ensures)) (laid-bind (laid-is (opening .0 .same) (a .0)) (laid-bind (b .0) (laid-is (ending .0 .same) (d .0)))),
+      omega (arith, a .1, b .1, d .1, opening .1 .1, ending .1 .1),
+    )
 
 pub put-block-spec : {M : Type 1} → statement M
 put-block-spec =
     tie.close
     (tie.spec
     (λ c κs. search needs)
-    (λ c. search needs)
+    (λ c κs. search needs)
     (λ c κs. search needs)
     (λ c κs. search needs)
     (λ c κs. search needs)

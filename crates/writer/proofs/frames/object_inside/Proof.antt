@@ -1,10 +1,19 @@
 use borrow.Author.Needs.{needs}
+use denote.Ref.{now}
 use native.Mathlib.Omega.{arith}
+use Rattle.written.specs.Answer.{tablesOf}
+use Rattle.writer.proofs.Records.{element-length}
 use Rattle.writer.proofs.frames.object_inside.Statement.{statement}
 use Rattle.writer.proofs.frames.object_inside.Tie as tie
 
 returns : tie.Need-returns
-returns c = (omega (arith, c .before .before .put-object-fields .ensures .0 .next, c .before .before .before .new .ensures, c .raw .ensures), omega (arith, c .before .before .put-object-fields .ensures .1, c .before .before .before .new .ensures, c .raw .ensures))
+returns c =
+    let a = c .before .before .before .before .before .before .before .before .before .args in
+    let timing = c .before .before .before .before .before .put-timing .ensures in
+    let start = c .before .before .before .before .before .before .new .ensures in
+    let objects = c .before .objects-width .ensures in
+    let end = c .raw .ensures in
+    (element-length (tablesOf (a .q) (a .t) (now (a .records))) _ _ (omega (arith, timing .0 .next)) (objects .0), omega (arith, timing .1, objects .1))
 
 pub object-inside-spec : {M : Type 1} → statement M
 object-inside-spec =
@@ -13,6 +22,10 @@ object-inside-spec =
     (λ c. search needs)
     (λ c κs. search needs)
     (λ c κs. search needs)
+    (λ c. search needs)
+    (λ c. search needs)
     (λ c κs. search needs)
+    (λ c κs. search needs)
+    (λ c. search needs)
     (λ c. search needs)
     returns)

@@ -1,0 +1,12 @@
+use borrow.Author.Needs.{needs}
+use Rattle.written.specs.Coded.{codedDistance}
+use Rattle.coding.proofs.choices.coded_distance.Statement.{statement}
+use Rattle.coding.proofs.choices.coded_distance.Tie as tie
+
+returns : tie.Need-returns
+unfolding codedDistance
+returns c = cc
+
+pub coded-distance-spec : {M : Type 1} → statement M
+coded-distance-spec =
+    tie.close (tie.spec (λ c κs. search needs) (λ c κs. search needs) (λ c κs. search needs) returns)

@@ -1,0 +1,19 @@
+use borrow.Author.Needs.{needs}
+use Rattle.written.specs.Coded.{codedExtent}
+use Rattle.coding.proofs.choices.coded_extent.Statement.{statement}
+use Rattle.coding.proofs.choices.coded_extent.Tie as tie
+
+returns : tie.Need-returns
+unfolding codedExtent
+returns c = cc
+
+pub coded-extent-spec : {M : Type 1} → statement M
+coded-extent-spec =
+    tie.close
+    (tie.spec
+    (λ c κs. search needs)
+    (λ c κs. search needs)
+    (λ c κs. search needs)
+    (λ c κs. search needs)
+    (λ c κs. search needs)
+    returns)

@@ -1,0 +1,19 @@
+use borrow.Author.Needs.{needs}
+use Rattle.written.specs.Coded.{codedGain}
+use Rattle.coding.proofs.choices.coded_gain.Statement.{statement}
+use Rattle.coding.proofs.choices.coded_gain.Tie as tie
+
+returns : tie.Need-returns
+unfolding codedGain
+returns c = cc
+
+pub coded-gain-spec : {M : Type 1} → statement M
+coded-gain-spec =
+    tie.close
+    (tie.spec
+    (λ c κs. search needs)
+    (λ c κs. search needs)
+    (λ c κs. search needs)
+    (λ c κs. search needs)
+    (λ c κs. search needs)
+    returns)

@@ -1,0 +1,11 @@
+use borrow.Author.Needs.{needs}
+use Rattle.written.specs.Coded.{rampCode}
+use Rattle.coding.proofs.choices.ramp_code.Statement.{statement}
+use Rattle.coding.proofs.choices.ramp_code.Tie as tie
+
+returns : tie.Need-returns
+unfolding rampCode
+returns c = cc
+
+pub ramp-code-spec : {M : Type 1} → statement M
+ramp-code-spec = tie.close (tie.spec (λ c κs. search needs) (λ c κs. search needs) (λ c κs. search needs) returns)

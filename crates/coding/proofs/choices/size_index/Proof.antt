@@ -1,0 +1,11 @@
+use borrow.Author.Needs.{needs}
+use Rattle.written.specs.Coded.{sizeIndex}
+use Rattle.coding.proofs.choices.size_index.Statement.{statement}
+use Rattle.coding.proofs.choices.size_index.Tie as tie
+
+returns : tie.Need-returns
+unfolding sizeIndex
+returns c = cc
+
+pub size-index-spec : {M : Type 1} → statement M
+size-index-spec = tie.close (tie.spec (λ c κs. search needs) (λ c κs. search needs) (λ c κs. search needs) returns)

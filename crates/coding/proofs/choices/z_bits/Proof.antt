@@ -1,0 +1,11 @@
+use borrow.Author.Needs.{needs}
+use Rattle.written.specs.Coded.{zBits}
+use Rattle.coding.proofs.choices.z_bits.Statement.{statement}
+use Rattle.coding.proofs.choices.z_bits.Tie as tie
+
+returns : tie.Need-returns
+unfolding zBits
+returns c = cc
+
+pub z-bits-spec : {M : Type 1} → statement M
+z-bits-spec = tie.close (tie.spec (λ c κs. search needs) (λ c κs. search needs) (λ c κs. search needs) returns)

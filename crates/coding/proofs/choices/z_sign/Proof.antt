@@ -1,0 +1,11 @@
+use borrow.Author.Needs.{needs}
+use Rattle.written.specs.Coded.{zSign}
+use Rattle.coding.proofs.choices.z_sign.Statement.{statement}
+use Rattle.coding.proofs.choices.z_sign.Tie as tie
+
+returns : tie.Need-returns
+unfolding zSign
+returns c = cc
+
+pub z-sign-spec : {M : Type 1} → statement M
+z-sign-spec = tie.close (tie.spec (λ c κs. search needs) returns)
