@@ -1,5 +1,7 @@
 // A block, in five parts of at most 24 bits (5.5.9).
 ghost use mathlib.Core.Path.{_≡_};
+ghost use mathlib.Core.Bool.{false};
+ghost use mathlib.Core.List.{_++_};
 ghost use Prim.Native.Nat.{_≤_};
 ghost use Rattle.coding.specs.Packing.{Packs, openingBits, placingBits, aroundBits, sizedBits, endingBits};
 use crate::Packed;
@@ -69,4 +71,14 @@ pub fn ending(sent: bool, s: Scene) -> Packed
     let kept = kept_if(sent, both);
     let none = field(1, 0);
     joined(kept, none)
+}
+
+// A whole block whose render info is not sent.
+pub fn short(first: bool, s: Scene) -> Packed
+    ensures { λ r. ⌜ Packs r (openingBits first s ++ endingBits false s) ⌝ }
+    ensures { λ r. ⌜ (1 ≤ r .width) × (r .width ≤ 18) ⌝ }
+{
+    let start = opening(first, s);
+    let none = field(1, 0);
+    joined(start, none)
 }

@@ -9,6 +9,7 @@ pub use block::around;
 pub use block::ending;
 pub use block::opening;
 pub use block::placing;
+pub use block::short;
 pub use block::sized;
 pub use choices::as_flag;
 pub use choices::choice;

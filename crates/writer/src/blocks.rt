@@ -1,11 +1,12 @@
 // A block of an object (5.5.9 to 5.5.11), laid in parts of at most 24 bits.
 ghost use mathlib.Core.Path.{_≡_};
+ghost use mathlib.Core.Bool.{true};
 ghost use mathlib.Core.List.{_++_};
 ghost use Prim.Native.Nat.{_+_, _≤_};
 ghost use lib.ListN.{length};
 ghost use Rattle.bits.specs.Writes.{only};
 ghost use Rattle.oamd.specs.Record.{carries};
-ghost use Rattle.coding.specs.Packing.{placingBits, aroundBits, sizedBits};
+ghost use Rattle.coding.specs.Packing.{openingBits, endingBits};
 ghost use Rattle.written.specs.Form.{blockBits};
 ghost use Rattle.writer.specs.Laying.{Laid};
 ghost use Rattle.writer.specs.Parts.{middleBits};
@@ -20,21 +21,31 @@ pub fn carries_of(s: Scene) -> bool
     oamd::both(s.active == 1, s.class == 2)
 }
 
-// Render info up to the size, where it is sent.
-fn put_middle_if(on: bool, first: bool, out: &mut [u8], at: BitPos, s: Scene) -> BitPos
+// Render info up to the size.
+fn put_middle(first: bool, out: &mut [u8], at: BitPos, s: Scene) -> BitPos
     requires { ⌜ at .0 ≤ 1900000 ⌝ }
-    ensures { λ r. ⌜ Laid (now (out .entry)) (now (out .exit)) (at .0) (r .0) (only on (middleBits first s)) ⌝ }
+    ensures { λ r. ⌜ Laid (now (out .entry)) (now (out .exit)) (at .0) (r .0) (middleBits first s) ⌝ }
     ensures { λ r. ⌜ r .0 ≤ at .0 + 52 ⌝ }
 {
-    if on {
-        let place = coding::placing(first, s);
-        let around = coding::around(s);
-        let size = coding::sized(s);
-        let p = put_packed(out, at, place);
-        let p = put_packed(out, p, around);
-        return put_packed(out, p, size);
-    }
-    at
+    let place = coding::placing(first, s);
+    let around = coding::around(s);
+    let size = coding::sized(s);
+    let p = put_packed(out, at, place);
+    let p = put_packed(out, p, around);
+    put_packed(out, p, size)
+}
+
+// A block whose render info is sent.
+fn put_full(first: bool, out: &mut [u8], at: BitPos, s: Scene) -> BitPos
+    requires { ⌜ at .0 ≤ 1800000 ⌝ }
+    ensures { λ r. ⌜ Laid (now (out .entry)) (now (out .exit)) (at .0) (r .0) (openingBits first s ++ (middleBits first s ++ endingBits true s)) ⌝ }
+    ensures { λ r. ⌜ r .0 ≤ at .0 + 77 ⌝ }
+{
+    let opening = coding::opening(first, s);
+    let ending = coding::ending(true, s);
+    let p = put_packed(out, at, opening);
+    let p = put_middle(first, out, p, s);
+    put_packed(out, p, ending)
 }
 
 pub fn put_block(first: bool, out: &mut [u8], at: BitPos, s: Scene) -> BitPos
@@ -42,12 +53,11 @@ pub fn put_block(first: bool, out: &mut [u8], at: BitPos, s: Scene) -> BitPos
     ensures { λ r. ⌜ Laid (now (out .entry)) (now (out .exit)) (at .0) (r .0) (blockBits first s) ⌝ }
     ensures { λ r. ⌜ r .0 ≤ at .0 + 77 ⌝ }
 {
-    let sent = carries_of(s);
-    let opening = coding::opening(first, s);
-    let ending = coding::ending(sent, s);
-    let p = put_packed(out, at, opening);
-    let p = put_middle_if(sent, first, out, p, s);
-    put_packed(out, p, ending)
+    if carries_of(s) {
+        return put_full(first, out, at, s);
+    }
+    let all = coding::short(first, s);
+    put_packed(out, at, all)
 }
 
 // How many bits those are.

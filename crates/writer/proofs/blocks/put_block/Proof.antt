@@ -1,21 +1,24 @@
 use borrow.Author.Needs.{needs}
+use mathlib.Core.Path.{sym, _∙_}
+use mathlib.Core.Bool.{true, false}
 use native.Mathlib.Omega.{arith}
-use Rattle.writer.proofs.LayLaws.{laid-bind, laid-is}
+use Rattle.writer.proofs.LayLaws.{laid-is}
 use Rattle.writer.proofs.Parts.{block-parts}
 use Rattle.writer.proofs.blocks.put_block.Statement.{statement}
 use Rattle.writer.proofs.blocks.put_block.Tie as tie
 
 returns : tie.Need-returns
 returns c =
-    let s = c .before .before .before .before .before .before .before .before .before .before .before .before .before .before .before .before .args in
-    let opening = c .before .before .before .before .before .before .before .before .before .before .before .before .before .opening .ensures in
-    let ending = c .before .before .before .before .before .before .before .before .before .before .before .before .ending .ensures in
-    let a = c .before .before .before .before .before .before .before .before .before .before .put-packed .ensures in
-    let b = c .before .before .before .before .before .before .put-middle-if .ensures in
-    let d = c .before .before .put-packed2 .ensures in (
-      laid-is (block-parts (s .first) (s .s) (c .before .before .before .before .before .before .before .before .before .before .before .before .before .before .carries-of .result) (c .before .before .before .before .before .before .before .before .before .before .before .before .before .before .carries-of .ensures)) (laid-bind (laid-is (opening .0 .same) (a .0)) (laid-bind (b .0) (laid-is (ending .0 .same) (d .0)))),
-      omega (arith, a .1, b .1, d .1, opening .1 .1, ending .1 .1),
-    )
+    let a = c .before .before .before .before .before .before .before .args in
+    let h = c .before .before .put-full .ensures in
+    (laid-is (block-parts (a .first) (a .s) true (sym (c .before .before .before .before .if1 .taken) ∙ c .before .before .before .before .before .carries-of .ensures)) (h .0), h .1)
+
+returns-2 : tie.Need-returns-2
+returns-2 c =
+    let a = c .before .before .before .before .before .before .before .before .args in
+    let all = c .before .before .before .before .short .ensures in
+    let h = c .before .before .put-packed .ensures in
+    (laid-is (all .0 .same ∙ block-parts (a .first) (a .s) false (sym (c .before .before .before .before .before .if1 .left) ∙ c .before .before .before .before .before .before .carries-of .ensures)) (h .0), omega (arith, h .1, all .1 .1))
 
 pub put-block-spec : {M : Type 1} → statement M
 put-block-spec =
@@ -23,9 +26,9 @@ put-block-spec =
     (tie.spec
     (λ c κs. search needs)
     (λ c κs. search needs)
-    (λ c κs. search needs)
-    (λ c κs. search needs)
+    (λ c. search needs)
+    returns
     (λ c κs. search needs)
     (λ c κs. search needs)
     (λ c. search needs)
-    returns)
+    returns-2)
