@@ -82,3 +82,11 @@ if-packs on f h = packs-is (ap (λ (x : List ℕ). only on x) (f .same)) h
 
 pub packs-length : {p : Packed} {l : List ℕ} → Packs p l → p .width ≡ length l
 packs-length {p} h = sym (length-toBits (p .width) (p .value)) ∙ ap length (h .same)
+
+-- two numbers that pack the same bits are the same
+pub one-packed : (p q : Packed) (l : List ℕ) → Packs p l → Packs q l → (p .width ≡ q .width) × (p .value ≡ q .value)
+one-packed p q l f g =
+    let n : p .width ≡ q .width = packs-length f ∙ sym (packs-length g) in
+    let value : (r : Packed) → Packs r l → number l ≡ r .value =
+    λ r h. sym (ap number (h .same)) ∙ number-toBits (r .width) (r .value) ∙ mod-eq-of-lt (h .small) in
+    (n, sym (value p f) ∙ value q g)
