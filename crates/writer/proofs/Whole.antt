@@ -9,13 +9,13 @@ use lib.Dec.{leb}
 use lib.ListN.{length, replicate, length-append, length-replicate}
 use Rattle.bits.specs.Language.{pick}
 use Rattle.bits.specs.Writes.{toBits, only, length-toBits}
-use Rattle.bits.specs.Bytes.{toBytes, length-toBytes}
+use Rattle.bits.specs.Bytes.{length-toBytes}
 use Rattle.oamd.specs.declared.Programme.{Programme}
 use Rattle.oamd.specs.declared.Timing.{Timing}
 use Rattle.oamd.specs.declared.WriteAnswer.{WriteAnswer}
 use Rattle.oamd.specs.Tables.{mostBytes, recordStride}
 use Rattle.oamd.specs.Programme.{shares}
-use Rattle.oamd.specs.Record.{Record, onto}
+use Rattle.oamd.specs.Record.{onto}
 use Rattle.oamd.specs.Payload.{Tables}
 use Rattle.written.specs.Coded.{asFlag}
 use Rattle.written.specs.Form.{headerBits, objectElementBits, extendedElementBits, sizeBits, sizeFor, framedBits, elementBits, hasObject, hasExtended, formBits, form}

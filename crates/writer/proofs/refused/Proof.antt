@@ -1,8 +1,6 @@
 use borrow.Author.Needs.{needs}
 use mathlib.Core.Path.{ap}
 use Prim.Native.Nat.{ℕ}
-use Rattle.written.specs.Answer.{refusedWrite}
-use Rattle.oamd.specs.declared.WriteAnswer.{WriteAnswer}
 use Rattle.writer.proofs.refused.Statement.{statement}
 use Rattle.writer.proofs.refused.Tie as tie
 

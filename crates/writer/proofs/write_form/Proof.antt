@@ -1,12 +1,12 @@
 -- `write_form` meets its contract: the length first, then the room, then the bytes. Assumes nothing.
 use borrow.Author.Needs.{needs}
 use denote.Ref.{now}
-use mathlib.Core.Path.{_≡_, sym, ap, _∙_}
+use mathlib.Core.Path.{ap, _∙_}
 use Prim.Native.Nat.{ℕ, _+_, _-_, _*_, _/_}
 use native.Mathlib.Omega.{arith}
 use Rattle.oamd.specs.declared.WriteAnswer.{WriteAnswer}
 use Rattle.written.specs.Answer.{tablesOf}
-use Rattle.writer.proofs.LayLaws.{laid-bind, laid-length}
+use Rattle.writer.proofs.LayLaws.{laid-bind}
 use Rattle.writer.proofs.Whole.{gives, no-room, too-long, fits}
 use Rattle.writer.proofs.write_form.Statement.{statement}
 use Rattle.writer.proofs.write_form.Tie as tie

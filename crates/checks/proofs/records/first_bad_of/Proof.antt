@@ -1,6 +1,5 @@
 -- `first_bad_of` meets its contract: before record i, the first bad record from there on is the first of all (`Search.antt`). Assumes nothing.
 use Prim.Native.Nat.{_-_}
-use native.Mathlib.Omega.{arith}
 use borrow.Author.Needs.{needs}
 use Rattle.checks.proofs.Search.{SoFar, none, more, stop, whole}
 use Rattle.checks.proofs.records.first_bad_of.Statement.{statement}

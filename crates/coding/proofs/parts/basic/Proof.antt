@@ -1,8 +1,6 @@
 use borrow.Author.Needs.{needs}
 use native.Mathlib.Omega.{arith}
-use mathlib.Core.Bool.{not}
-use lib.Dec.{eqb}
-use Rattle.coding.proofs.Joins.{then-packs, if-packs, packs-is}
+use Rattle.coding.proofs.Joins.{then-packs}
 use Rattle.written.specs.Form.{basicBits}
 use Rattle.coding.proofs.parts.basic.Statement.{statement}
 use Rattle.coding.proofs.parts.basic.Tie as tie

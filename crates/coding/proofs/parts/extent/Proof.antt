@@ -1,6 +1,5 @@
 use borrow.Author.Needs.{needs}
 use native.Mathlib.Omega.{arith}
-use mathlib.Core.Bool.{not}
 use lib.Dec.{eqb}
 use Rattle.coding.proofs.Joins.{then-packs, if-packs, packs-is}
 use mathlib.Core.Path.{ap}

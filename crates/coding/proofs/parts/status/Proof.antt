@@ -1,8 +1,6 @@
 use borrow.Author.Needs.{needs}
 use native.Mathlib.Omega.{arith}
-use mathlib.Core.Bool.{not}
-use lib.Dec.{eqb}
-use Rattle.coding.proofs.Joins.{then-packs, if-packs, packs-is}
+use Rattle.coding.proofs.Joins.{if-packs, packs-is}
 use mathlib.Core.Path.{ap}
 use mathlib.Core.Bool.{Bool}
 use Rattle.bits.specs.Writes.{toBits, only}

@@ -1,12 +1,12 @@
 -- `put_objects` meets its contract: whoever lays what is left from here has laid all from the start. Assumes nothing.
-use mathlib.Core.Path.{_≡_, refl, ap}
-use Prim.Native.Nat.{ℕ, _+_, _-_, _*_, _≤_}
+use mathlib.Core.Path.{_≡_, refl}
+use Prim.Native.Nat.{_+_, _-_, _*_, _≤_}
 use native.Mathlib.Nat.{sub-zero}
 use native.Mathlib.Omega.{arith}
 use borrow.Author.Needs.{needs}
 use lib.ListN.{length}
 use Rattle.bits.specs.Writes.{eachBits}
-use Rattle.writer.proofs.LayLaws.{Rest, rest-start, rest-step, rest-end, laid-is}
+use Rattle.writer.proofs.LayLaws.{Rest, rest-start, rest-step, rest-end}
 use Rattle.written.specs.Answer.{recordsAt}
 use Rattle.written.specs.Form.{byObject, objectDataBits}
 use Rattle.writer.proofs.Records.{objects-more, objects-none, left-more}

@@ -1,6 +1,5 @@
 use borrow.Author.Needs.{needs}
 use denote.Ref.{now}
-use native.Mathlib.Omega.{arith}
 use Rattle.writer.proofs.LayLaws.{laid-past}
 use Rattle.writer.proofs.putting.put.Statement.{statement}
 use Rattle.writer.proofs.putting.put.Tie as tie
