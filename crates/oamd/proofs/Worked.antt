@@ -2,14 +2,16 @@
 use mathlib.Core.Path.{_≡_, refl}
 use mathlib.Core.List.{List, [], _∷_, _++_}
 use Prim.Native.Nat.{ℕ, _+_, _*_}
-use lib.ListN.{length, getD}
+use lib.ListN.{length, getD, replicate}
 use Rattle.bits.specs.Language.{ok, slice, number, run, bit, each, from, pastPayload}
 use Rattle.bits.specs.Size.{sizeFrom, sizeOf, variable-bits-max}
 use Rattle.oamd.specs.declared.ReadAnswer.{ReadAnswer}
+use Rattle.oamd.specs.Tables.{mostTrim}
 use Rattle.oamd.specs.Programme.{bed-assignment, bed-instances, intermediate-spatial-format, num-dynamic-objects, reserved-data, program-assignment, labels, bedObjects, allBeds, named, agrees, shares, classOf}
 use Rattle.oamd.specs.Timing.{startOf}
 use Rattle.oamd.specs.Meaning.{gainOf}
 use Rattle.oamd.specs.Record.{plainRecords, bytesOf, onto}
+use Rattle.oamd.specs.Trim.{trimOf, configsBytesOf, trimBytesOf}
 use Rattle.oamd.specs.Element.{kind, framed, scenes, fields, passOver, readKnown, oa-element, oa-element-md, elements}
 use Rattle.oamd.specs.Payload.{oa-md-version, object-count, oa-element-count, header, object-audio-metadata-payload, timing, records, tables}
 use Rattle.oamd.specs.Answer.{housed, reading}
@@ -31,6 +33,10 @@ groups (g ∷ gs) = slice (bit (g ∷ [])) 0 5 ++ groups gs
 abbrev pub listed : List ℕ → ℕ → ℕ
 listed l i = getD l i 0
 
+-- room for a trim table
+abbrev pub room : List ℕ
+room = replicate mostTrim 0
+
 -- what the listing prints before the blocks
 abbrev pub printed : ReadAnswer → List ℕ
 printed a = a .refusal ∷ a .place ∷ a .programme .objects ∷ shares (a .programme) .bed ∷ shares (a .programme) .isf ∷ shares (a .programme) .dynamic
@@ -40,7 +46,7 @@ abbrev pub Holds : Example → Type 0
 Holds (size gs n) = run variable-bits-max (listed (groups gs)) 0 (length (groups gs)) pastPayload ≡ ok (sizeOf n (length gs)) (5 * length gs)
 Holds (gain bits db) = gainOf (record { index = 2; bits = bits }) 0 ≡ db
 Holds (start offset factor sample) = startOf offset factor ≡ sample
-Holds (payload s numbers) = printed (reading s [] .answer) ≡ numbers
+Holds (payload s numbers) = printed (reading s [] room .answer) ≡ numbers
 
 abbrev pub All : List Example → Type 0
 All [] = Unit {0}
@@ -65,5 +71,5 @@ examples =
     ∷ []
 
 pub worked : All examples
-unfolding sizeFrom slice number run bit each from groups gainOf startOf bed-assignment bed-instances intermediate-spatial-format num-dynamic-objects reserved-data program-assignment labels bedObjects allBeds named agrees shares classOf plainRecords bytesOf onto kind framed scenes fields passOver readKnown oa-element oa-element-md elements oa-md-version object-count oa-element-count header object-audio-metadata-payload timing records tables housed reading
+unfolding sizeFrom slice number run bit each from groups gainOf startOf bed-assignment bed-instances intermediate-spatial-format num-dynamic-objects reserved-data program-assignment labels bedObjects allBeds named agrees shares classOf plainRecords bytesOf onto kind framed scenes fields passOver readKnown oa-element oa-element-md elements oa-md-version object-count oa-element-count header object-audio-metadata-payload timing records tables trimOf configsBytesOf trimBytesOf housed reading
 worked = (refl, (refl, (refl, (refl, (refl, (refl, (refl, (refl, (refl, (refl, (refl, (refl, (refl, (refl, tt))))))))))))))

@@ -4,6 +4,7 @@ pub mod Timing
 pub mod Block
 pub mod ObjectElement
 pub mod Extended
+pub mod Trim
 pub mod Meaning
 pub mod Record
 pub mod Element
