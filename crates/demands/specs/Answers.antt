@@ -28,8 +28,8 @@ pub record Fronts (n : ℕ) (these before after : List ℕ) : Type 0 where
   pub front : take n after ≡ these
   pub rest : drop n after ≡ drop n before
 
--- Accepted: refusal 0 and place 0. The first bytes of the buffer are the records, 24 bytes for each object and block; those of the trim buffer are a trim
--- table with nine configurations and a flag for each object, 94 bytes and one for each object.
+-- Accepted: refusal 0 and place 0. The first bytes of the buffer are the records, 24 bytes for each object and block. Those of the trim buffer are the trim
+-- table, 94 bytes and one for each object: it has nine configurations, and a flag for each object.
 pub record Accepts (buffer trim : List ℕ) (o : Outcome) : Type 0 where
   pub refusal : o .answer .refusal ≡ 0
   pub place : o .answer .place ≡ 0

@@ -9,7 +9,8 @@ use Rattle.oamd.specs.Answer.{reading}
 use Rattle.demands.specs.Lemmas.Reading.{read-of, reading-ok, parsed-append}
 
 -- With any bytes behind it, up to the length limit, an accepted payload has the same answer (the count of unknown elements too) and the same buffers.
-pub appended : (s t buffer trim : List ℕ) → reading s buffer trim .answer .refusal ≡ 0 → length (s ++ t) ≤ mostBytes → reading (s ++ t) buffer trim ≡ reading s buffer trim
+pub appended : (s t buffer trim : List ℕ) → reading s buffer trim .answer .refusal ≡ 0 → length (s ++ t) ≤ mostBytes
+    → reading (s ++ t) buffer trim ≡ reading s buffer trim
 appended s t buffer trim accepted short =
     let r = read-of s buffer trim accepted in
     reading-ok (s ++ t) buffer trim (omega arith) (parsed-append s t (r .ran)) ∙ sym (reading-ok s buffer trim (r .short) (r .ran))

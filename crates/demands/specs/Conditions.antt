@@ -1,4 +1,4 @@
--- When a refusal is given, in the words of document 01: the conditions of 3, 4, 6, 7 and 9, over the bytes of a payload.
+-- When a refusal is given, in the words of documents 01 and 02: the conditions of 3, 4, 6, 7 and 9, over the bytes of a payload.
 use mathlib.Core.Path.{_≡_}
 use mathlib.Core.Bool.{true, false}
 use mathlib.Core.List.{List}

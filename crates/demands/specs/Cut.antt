@@ -16,7 +16,8 @@ use Rattle.demands.specs.Lemmas.Reading.{reading-ok, reading-no, read-of
 
 -- Cut off behind any byte, an accepted payload has the same answer and the same buffers, or is refused as ending early: nothing else.
 pub cut-short : (s buffer trim : List ℕ) (n : ℕ) → reading s buffer trim .answer .refusal ≡ 0
-    → (reading (take n s) buffer trim ≡ reading s buffer trim) ⊎ ((place : ℕ) × (reading (take n s) buffer trim ≡ refused buffer trim (numberOf EndsEarly) place))
+    → (reading (take n s) buffer trim ≡ reading s buffer trim)
+    ⊎ ((place : ℕ) × (reading (take n s) buffer trim ≡ refused buffer trim (numberOf EndsEarly) place))
 cut-short s buffer trim n accepted =
     let r = read-of s buffer trim accepted in
     let p = object-audio-metadata-payload in

@@ -11,8 +11,8 @@ use Rattle.oamd.specs.Answer.{reading}
 use Rattle.demands.specs.Lemmas.Reading.{Case, long, stopped, full, read, case, reading-ok, reading-no, parsed-append, parsed-stays, refusal-of}
 
 -- A refusal from 3 to 9 is the same, place and all, with any bytes behind the payload, up to the length limit.
-pub refused-still : (s t buffer trim : List ℕ) → numberOf Version ≤ reading s buffer trim .answer .refusal → reading s buffer trim .answer .refusal ≤ numberOf Room
-    → length (s ++ t) ≤ mostBytes → reading (s ++ t) buffer trim ≡ reading s buffer trim
+pub refused-still : (s t buffer trim : List ℕ) → numberOf Version ≤ reading s buffer trim .answer .refusal
+    → reading s buffer trim .answer .refusal ≤ numberOf Room → length (s ++ t) ≤ mostBytes → reading (s ++ t) buffer trim ≡ reading s buffer trim
 refused-still s t buffer trim low high short = go (case s buffer trim)
   where
     go : Case s buffer trim → reading (s ++ t) buffer trim ≡ reading s buffer trim

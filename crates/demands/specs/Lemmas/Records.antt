@@ -120,7 +120,8 @@ extended-long carries b at e o {x} h =
 Flagged : Programme → TrimTable → Type 0
 Flagged p t = (length (t .configs) ≡ trimConfigs) × (length (t .disabled) ≡ p .objects)
 
-trim-flagged : (p : Programme) (n : ℕ) (b : Bits) (at e o : ℕ) {x : TrimTable} {to : ℕ} → p .objects ≡ n → run (trim-element n) b at e o ≡ ok x to → Flagged p x
+trim-flagged : (p : Programme) (n : ℕ) (b : Bits) (at e o : ℕ) {x : TrimTable} {to : ℕ} → p .objects ≡ n
+    → run (trim-element n) b at e o ≡ ok x to → Flagged p x
 unfolding trim-element Flagged
 trim-flagged p n b at e o same h =
     bind-ok _ _ b at e o h λ warp p1 h1 h.
@@ -275,7 +276,8 @@ unfolding tables Sized Flagged
 trim-sized b at e o h = payload-sized b at e o h .1
 
 -- so its bytes are as many as are needed
-pub length-trim : (t : TrimTable) (objects : ℕ) → length (t .configs) ≡ trimConfigs → length (t .disabled) ≡ objects → length (trimBytesOf t) ≡ trimNeeded objects
+pub length-trim : (t : TrimTable) (objects : ℕ) → length (t .configs) ≡ trimConfigs → length (t .disabled) ≡ objects
+    → length (trimBytesOf t) ≡ trimNeeded objects
 unfolding trimBytesOf
 length-trim t objects nine flags =
     let n = length-configs (t .configs) in
