@@ -186,8 +186,8 @@ early-when s buffer trim place = (
   (λ h. reading-no s buffer trim (h .0) (early-is s (h .1))),
 )
 
--- 9: with some other buffers the payload is accepted, and of these one is too short: the buffer for the records, or, where that is long enough, the trim
--- buffer. The place is the bytes that it would need.
+-- 9: with some other buffers the payload is accepted, and one of the two lent is too short: the buffer for the records, or, where that is long enough,
+-- the trim buffer. The place is the bytes that it would need.
 pub room-when : (s buffer trim : List ℕ) (place : ℕ) → (reading s buffer trim ≡ refused buffer trim (numberOf Room) place) ↔ Lacks s buffer trim place
 room-when s buffer trim place = (go (case s buffer trim), back)
   where

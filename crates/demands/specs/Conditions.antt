@@ -83,7 +83,7 @@ pub data Short (buffer trim : List ℕ) (records table place : ℕ) : Type 0 whe
   records-short : length buffer < records → place ≡ records → Short buffer trim records table place
   trim-short : records ≤ length buffer → length trim < table → place ≡ table → Short buffer trim records table place
 
--- 9: with some other buffers the payload is accepted, and of these one is too short: that for the records is looked at first
+-- 9: with some other buffers the payload is accepted, and one of the two lent is too short: that for the records is looked at first
 pub record Lacks (s buffer trim : List ℕ) (place : ℕ) : Type 0 where
   pub other : List ℕ
   pub other-trim : List ℕ
