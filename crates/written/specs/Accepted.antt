@@ -107,7 +107,7 @@ elements-ensure p alternate (suc n) st h =
 
 -- ---- the tables
 
-no-timing-valid : timingValid noTiming ≡ true
+pub no-timing-valid : timingValid noTiming ≡ true
 unfolding timingValid ranged sampleOffset entriesValid updateValid
 no-timing-valid = refl
 

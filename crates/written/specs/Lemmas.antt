@@ -9,6 +9,7 @@ pub mod BlockBack
 pub mod ObjectsBack
 pub mod ExtendedBack
 pub mod TrimBack
+pub mod TableBytes
 pub mod ElementBack
 pub mod AcceptedProgramme
 pub mod AcceptedTiming

@@ -8,7 +8,7 @@ use native.Mathlib.Omega.{arith}
 use native.Mathlib.Nat.{zero-mul, mul-zero, mul-le-mul}
 use lib.ListN.{length}
 use borrow.Author.Tests.{ne-eqb, le-leb, ltb-true, ltb-false}
-use Rattle.bits.specs.Language.{ok, bits, run, bit, from, for, pastPayload}
+use Rattle.bits.specs.Language.{ok, run, bit, from, for, pastPayload}
 use Rattle.bits.specs.Writes.{toBits, only, eachBits, Writes, w-give, w-bits, w-bind, w-end, w-is, w-each}
 use Rattle.bits.specs.Bytes.{from-bytes}
 use Rattle.oamd.specs.declared.Scene.{Scene}
@@ -78,11 +78,19 @@ module _ (t : Tables) (v : Valid t) where
 
   -- ---- 5.5.4
 
+  -- the elements before the trim element
+  abbrev untrimmed : Option ObjectElement → Option Extension → Known
+  untrimmed o x = record { object = o; trim = none; extended = x }
+
   abbrev plain : Known
-  plain = record { object = some (codedElement t); trim = none; extended = none }
+  plain = untrimmed (some (codedElement t)) none
 
   abbrev whole : Known
-  whole = record { object = some (codedElement t); trim = none; extended = some (codedExtension (t .records)) }
+  whole = untrimmed (some (codedElement t)) (some (codedExtension (t .records)))
+
+  -- and the trim element, if there is one
+  abbrev complete : Known → Known
+  complete known = record { object = known .object; trim = carriedTrim (t .trim); extended = known .extended }
 
   -- what has been read, with no unknown element among it
   abbrev so-far : Known → State
@@ -133,20 +141,18 @@ module _ (t : Tables) (v : Valid t) where
 
   -- the trim element, if there is one, behind whatever other elements
   third-written : (o : Option ObjectElement) (x : Option Extension)
-      → Writes (elements (t .programme) 0 (asFlag (hasTrim (t .trim))) (so-far (record { object = o; trim = none; extended = x })))
-      (only (hasTrim (t .trim)) (elementBits 2 (trimElementBits (t .trim))))
-      (so-far (record { object = o; trim = carriedTrim (t .trim); extended = x }))
+      → Writes (elements (t .programme) 0 (asFlag (hasTrim (t .trim))) (so-far (untrimmed o x)))
+      (only (hasTrim (t .trim)) (elementBits 2 (trimElementBits (t .trim)))) (so-far (complete (untrimmed o x)))
   unfolding elements oa-element-md oa-element readKnown fields kind
   third-written o x = by-test (hasTrim (t .trim))
       (λ q.
-      let before : Known = record { object = o; trim = none; extended = x } in
-      let after : Known = record { object = o; trim = some (t .trim); extended = x } in
-      let one : Writes (oa-element-md (t .programme) 0 (so-far before)) (elementBits 2 (trimElementBits (t .trim))) (so-far after) =
-      element-writes (λ k size. oa-element (t .programme) _ (so-far before) k) 2 (trimElementBits (t .trim)) (so-far after) (omega arith) third-fits
+      let after : State = so-far (record { object = o; trim = some (t .trim); extended = x }) in
+      let one : Writes (oa-element-md (t .programme) 0 (so-far (untrimmed o x))) (elementBits 2 (trimElementBits (t .trim))) after =
+      element-writes (λ k size. oa-element (t .programme) _ (so-far (untrimmed o x)) k) 2 (trimElementBits (t .trim)) after (omega arith) third-fits
       (λ size. w-bind (w-give Trim) (w-bind (w-give Trim)
       (w-end (w-end (trim-writes (t .programme .objects) (t .trim) x-facts q) (w-give _)) (w-give _)))) in
-      rw q (w-end one (w-give (so-far after))))
-      (λ q. rw q (w-give (so-far (record { object = o; trim = none; extended = x }))))
+      rw q (w-end one (w-give after)))
+      (λ q. rw q (w-give (so-far (untrimmed o x))))
 
   -- ---- 5.5.2
 
@@ -191,7 +197,7 @@ module _ (t : Tables) (v : Valid t) where
       (λ x.
       let e : 1 + 1 + last ≡ suc (suc last) = omega arith in
       record {
-        known = record { object = some (codedElement t); trim = carriedTrim (t .trim); extended = some (codedExtension (t .records)) };
+        known = complete whole;
         writes = rw (o, x) (w-bind head (w-bind (count-written (1 + 1 + last) (omega arith))
             (w-end (rw e (w-bind first (w-bind second-written (third-written _ _)))) (w-give _))));
         same = λ i. record {
@@ -205,7 +211,7 @@ module _ (t : Tables) (v : Valid t) where
       (λ x.
       let e : 1 + 0 + last ≡ suc last = omega arith in
       record {
-        known = record { object = some (codedElement t); trim = carriedTrim (t .trim); extended = none };
+        known = complete plain;
         writes = rw (o, x) (w-bind head (w-bind (count-written (1 + 0 + last) (omega arith))
             (w-end (rw e (w-bind first (third-written _ _))) (w-give _))));
         same = λ i. record {
@@ -221,7 +227,7 @@ module _ (t : Tables) (v : Valid t) where
       let b : t .timing .blocks ≡ 0 = (let z = ltb-false 0 (t .timing .blocks) o in omega arith) in
       let e : 0 + 0 + last ≡ last = omega arith in
       record {
-        known = record { object = none; trim = carriedTrim (t .trim); extended = none };
+        known = complete nothing;
         writes = rw (o, x) (w-bind head (w-bind (count-written (0 + 0 + last) (omega arith)) (w-end (rw e (third-written none none)) (w-give _))));
         same = λ i. record {
           programme = t .programme;
