@@ -1,6 +1,6 @@
 -- A trim table is bad exactly when no accepted payload with that programme gives it (document 02, item 1): a valid one is given by the payload of
 -- that programme and that trim table alone, and whatever trim table is given is valid.
-use mathlib.Core.Path.{_≡_, sym, ap, _∙_, subst}
+use mathlib.Core.Path.{_≡_, refl, sym, ap, _∙_, subst}
 use mathlib.Core.Bool.{true, false, false≢true}
 use mathlib.Core.List.{List, [], _++_}
 use mathlib.Core.Logic.{_↔_}
@@ -58,8 +58,9 @@ module _ (p : Programme) (v : programmeValid p ≡ true) where
     trim = h;
   }
 
-  given : (x : Trim) → trimValid (p .objects) x ≡ true → TrimGivenBy p x
-  given x h =
+  -- a valid one is given
+  given : (Q : Trim → Type 0) (x : Trim) → trimValid (p .objects) x ≡ true → Q x → TrimGiven p Q
+  given Q x h q =
       let r = round-trip (bare x) (bare-valid x h) in
       record {
         bytes = form (bare x);
@@ -68,10 +69,10 @@ module _ (p : Programme) (v : programmeValid p ≡ true) where
         end = r .end;
         reads = r .reads;
         programme = ap (λ (t : Tables). t .programme) (r .same);
-        trim = ap (λ (t : Tables). t .trim) (r .same);
+        trim = subst (λ (t : Tables). Q (t .trim)) (sym (r .same)) q;
       }
 
-  -- what is given is valid
+  -- and what is given is valid
   given-valid : (Q : Trim → Type 0) (g : TrimGiven p Q)
       → trimValid (p .objects) (tables (g .payload .programme) (g .payload .known) .trim) ≡ true
   unfolding tables
@@ -84,7 +85,7 @@ module _ (p : Programme) (v : programmeValid p ≡ true) where
   -- ---- the statements
 
   pub trim-given : (x : Trim) → (trimValid (p .objects) x ≡ true) ↔ TrimGivenBy p x
-  trim-given x = (given x, λ g. subst (λ (t : Trim). trimValid (p .objects) t ≡ true) (g .trim) (given-valid _ g))
+  trim-given x = (λ h. given _ x h refl, λ g. subst (λ (t : Trim). trimValid (p .objects) t ≡ true) (g .trim) (given-valid _ g))
 
   -- in the words of the document
   pub trim-bad : (x : Trim) → (trimValid (p .objects) x ≡ false) ↔ (TrimGivenBy p x → ⊥)
@@ -97,17 +98,7 @@ module _ (p : Programme) (v : programmeValid p ≡ true) where
   pub trim-bytes-given : (s : List ℕ) → trimNeeded (p .objects) ≤ length s
       → (trimValid (p .objects) (trimAt (p .objects) s) ≡ true) ↔ TrimBytesGivenBy p s
   trim-bytes-given s enough = (
-    (λ h.
-        let g = given (trimAt (p .objects) s) h in
-        record {
-          bytes = g .bytes;
-          short = g .short;
-          payload = g .payload;
-          end = g .end;
-          reads = g .reads;
-          programme = g .programme;
-          trim = ap trimBytesOf (g .trim) ∙ trim-bytes (p .objects) s enough;
-        }),
+    (λ h. given _ (trimAt (p .objects) s) h (trim-bytes (p .objects) s enough)),
     (λ g.
         let t : Trim = tables (g .payload .programme) (g .payload .known) .trim in
         let h : trimValid (p .objects) t ≡ true = given-valid _ g in

@@ -117,7 +117,7 @@ array-writes valid empty p l f g on n xs e h =
     (along (λ a. valid true a ≡ true) (λ x i a. Writes p (l a) a) (λ i a v. f a v) 0 xs used))))
     (λ q. subst (λ (k : ℕ). replicate k empty ≡ xs) e (entries-unused valid empty g xs (rw q at h)))
 
--- of so many objects
+-- the trim table of so many objects, its tests as facts
 pub record TrimFacts (objects : ℕ) (t : Trim) : Type 0 where
   pub present : Ranged true 0 1 0 (t .present)
   pub warp : Ranged (set? (t .present)) 0 1 0 (t .warp)
