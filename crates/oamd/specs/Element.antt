@@ -23,8 +23,8 @@ use Rattle.oamd.specs.Record.{allCarry}
 -- Table 26, as far as it is known here. An element with an alternate id other than 0 is unknown
 unfoldable pub kind : ℕ → ℕ → Kind
 kind oa-element-id-idx alternate =
-    pick (eqb alternate 0)
-    (pick (eqb oa-element-id-idx 1) Object (pick (eqb oa-element-id-idx 2) Trim (pick (eqb oa-element-id-idx 5) Extended Unknown))) Unknown
+    pick (not (eqb alternate 0)) Unknown
+    (pick (eqb oa-element-id-idx 1) Object (pick (eqb oa-element-id-idx 2) Trim (pick (eqb oa-element-id-idx 5) Extended Unknown)))
 
 -- oa_element_size in bits: bytes that begin at any bit, counted from the alternate id, or else from the discard flag (5.6.4.3)
 abbrev pub elementBits : Size → ℕ
