@@ -123,13 +123,13 @@ pub fn trim(table: &[u8]) -> bool {
     let configs = configs.as_chunks::<CONFIG_BYTES>().0;
     let flags = &rest[1..];
     match table[PRESENT] {
-        0 => table.iter().all(|byte| *byte == 0),
+        0 => table.iter().fold(0, |all, byte| all | byte) == 0,
         1 => {
             table[WARP] < WARP_RESERVED
                 && table[GLOBAL] < GLOBAL_RESERVED
                 && match table[GLOBAL] {
                     GLOBAL_CUSTOM => configs.iter().all(trim_config),
-                    _ => configs.iter().all(|config| *config == Config::default()),
+                    _ => *configs == [Config::default(); CONFIGS],
                 }
                 && rest[0] <= 1
                 && flags.iter().all(|flag| *flag <= rest[0])
