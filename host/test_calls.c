@@ -136,7 +136,7 @@ static void rooms(const sample *s)
         one_room(s, 0, room, s->trim_need);
     for (room = 0; room <= s->trim_need + 40; room++)
         one_room(s, 0, s->need, room);
-    one_room(s, 0, s->need, SKRIEMELT_TRIM_MOST);
+    one_room(s, 0, s->need, SKRIEMELT_MOST_TRIM_BYTES);
     one_room(s, 0, 0, 0);
     for (skew = 0; skew < 9; skew++) {
         for (less = 0; less < 9; less++)
@@ -165,7 +165,7 @@ static void cuts(const sample *s)
 /* The payload's records are taken as they are read, its trim table is given. */
 static void one_sample(const uint8_t *payload, size_t n, const uint8_t *trim)
 {
-    static uint8_t records[SKRIEMELT_MOST_RECORD_BYTES], read_trim[SKRIEMELT_TRIM_MOST];
+    static uint8_t records[SKRIEMELT_MOST_RECORD_BYTES], read_trim[SKRIEMELT_MOST_TRIM_BYTES];
     skriemelt_read_answer a = skriemelt_read(payload, n, records, sizeof records, read_trim, sizeof read_trim);
     sample s = {payload, n, records, trim, 144, 97};
 

@@ -54,6 +54,6 @@ int main(void)
     check(SKRIEMELT_TRIM_CONFIG_STRIDE == SKRIEMELT_TRIM_CONFIG_AMOUNT_LIS + 1, "a configuration ends with the amount of the listener plane");
     check(SKRIEMELT_TRIM_PER_OBJECT == SKRIEMELT_TRIM_CONFIG + SKRIEMELT_TRIM_CONFIG_STRIDE * SKRIEMELT_TRIM_CONFIGS, "nine configurations");
     check(SKRIEMELT_TRIM_FIXED == SKRIEMELT_TRIM_PER_OBJECT + 1, "the flags of the objects are last");
-    check(SKRIEMELT_TRIM_MOST == SKRIEMELT_TRIM_FIXED + SKRIEMELT_MOST_OBJECTS, "the longest trim table");
+    check(SKRIEMELT_MOST_TRIM_BYTES == SKRIEMELT_TRIM_FIXED + SKRIEMELT_MOST_OBJECTS, "the longest trim table");
     return finish("test_layout");
 }

@@ -153,7 +153,7 @@ static int same_timing(const skriemelt_timing *a, const skriemelt_timing *b)
 /* What a read leaves: its answer, and the lent buffers. */
 typedef struct tables {
     skriemelt_read_answer answer;
-    uint8_t records[SKRIEMELT_MOST_RECORD_BYTES], trim[SKRIEMELT_TRIM_MOST];
+    uint8_t records[SKRIEMELT_MOST_RECORD_BYTES], trim[SKRIEMELT_MOST_TRIM_BYTES];
 } tables;
 
 static size_t trim_bytes(const tables *t)
@@ -164,7 +164,7 @@ static size_t trim_bytes(const tables *t)
 /* The written form, read, gives the tables that it was written from, and no unknown element. */
 static void read_back(const tables *t, const uint8_t *form, size_t length)
 {
-    static uint8_t again[SKRIEMELT_MOST_RECORD_BYTES], again_trim[SKRIEMELT_TRIM_MOST];
+    static uint8_t again[SKRIEMELT_MOST_RECORD_BYTES], again_trim[SKRIEMELT_MOST_TRIM_BYTES];
     const skriemelt_read_answer *a = &t->answer;
     size_t bytes = (size_t)SKRIEMELT_RECORD_STRIDE * a->programme.objects * a->timing.blocks;
     skriemelt_read_answer b = skriemelt_read(form, length, again, sizeof again, again_trim, sizeof again_trim);

@@ -11,7 +11,7 @@
 typedef struct tables {
     skriemelt_programme programme;
     skriemelt_timing timing;
-    uint8_t records[SKRIEMELT_MOST_RECORD_BYTES], trim[SKRIEMELT_TRIM_MOST];
+    uint8_t records[SKRIEMELT_MOST_RECORD_BYTES], trim[SKRIEMELT_MOST_TRIM_BYTES];
     size_t record_bytes, trim_bytes;
 } tables;
 
@@ -82,7 +82,7 @@ static void accepted(const uint8_t *form, size_t length, size_t skew, size_t roo
 /* Every room about the needed one, and unaligned pointers to the payload, the records and the trim table. */
 static void all_rooms(const uint8_t *form, size_t length, const char *what)
 {
-    static uint8_t shifted[SKRIEMELT_MOST_RECORD_BYTES + 16], shifted_trim[SKRIEMELT_TRIM_MOST + 16];
+    static uint8_t shifted[SKRIEMELT_MOST_RECORD_BYTES + 16], shifted_trim[SKRIEMELT_MOST_TRIM_BYTES + 16];
     size_t room, skew, trim_skew;
 
     for (room = 0; room < length; room++)
@@ -229,7 +229,7 @@ static void every_trim_field(void)
     all_rooms(form, length, "every field of a trim element");
     exact(form, length);
     memset(given.trim + 97, 0xEE, 100);
-    given.trim_bytes = SKRIEMELT_TRIM_MOST;
+    given.trim_bytes = SKRIEMELT_MOST_TRIM_BYTES;
     accepted(form, length, 0, MOST_ROOM, "bytes behind the trim table are not looked at");
     given.trim_bytes = 96;
     refused(SKRIEMELT_NOT_VALID, 1, MOST_ROOM, "one trim byte too few");
@@ -455,7 +455,7 @@ static void give_many(size_t firsts, size_t others)
 /* 71 + 2 * 1,272 + 65 * 12 + 70 * 419 = 32,725 bits are 4,091 bytes; 65 * 11 + 70 * 420 give 5 bits more: 4,092. */
 static void limit(void)
 {
-    static uint8_t records[SKRIEMELT_MOST_RECORD_BYTES], trim[SKRIEMELT_TRIM_MOST];
+    static uint8_t records[SKRIEMELT_MOST_RECORD_BYTES], trim[SKRIEMELT_MOST_TRIM_BYTES];
     uint8_t *payload = lent(lent_bytes, 0, 4096);
     skriemelt_write_answer a;
     skriemelt_read_answer back;
@@ -505,7 +505,7 @@ static void longest(void)
     record_at(1271)[SKRIEMELT_RECORD_ZONE] = 6;
     refused(SKRIEMELT_NOT_VALID, 1272, MOST_ROOM, "the last of the most records");
     record_at(1271)[SKRIEMELT_RECORD_ZONE] = 5;
-    given.trim[SKRIEMELT_TRIM_MOST - 1] = 2;
+    given.trim[SKRIEMELT_MOST_TRIM_BYTES - 1] = 2;
     refused(SKRIEMELT_NOT_VALID, 1273, MOST_ROOM, "the last byte of the longest trim table");
 }
 

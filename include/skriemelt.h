@@ -36,6 +36,7 @@ extern "C" {
 /* Limits. */
 #define SKRIEMELT_MOST_PAYLOAD_BYTES 4096 /* a longer payload is refused with 1, a longer written form with 11 */
 #define SKRIEMELT_MOST_RECORD_BYTES 30720 /* a buffer of this length holds the records of every payload */
+#define SKRIEMELT_MOST_TRIM_BYTES 253     /* the trim table of every payload fits */
 #define SKRIEMELT_MOST_OBJECTS 159
 #define SKRIEMELT_MOST_BLOCKS 8
 #define SKRIEMELT_MOST_BEDS 9
@@ -101,7 +102,6 @@ extern "C" {
 #define SKRIEMELT_TRIM_CONFIG 3      /* the first of SKRIEMELT_TRIM_CONFIGS configurations, all 0 unless the mode is SKRIEMELT_TRIM_MODE_CUSTOM */
 #define SKRIEMELT_TRIM_PER_OBJECT 93 /* b_disable_trim_per_obj: whether the objects' flags are carried */
 #define SKRIEMELT_TRIM_FIXED 94      /* b_disable_trim of object 0, and so on: the bytes before do not depend on the objects */
-#define SKRIEMELT_TRIM_MOST 253      /* a buffer of this length holds the trim table of every payload */
 
 /* Configuration c begins at byte SKRIEMELT_TRIM_CONFIG + SKRIEMELT_TRIM_CONFIG_STRIDE * c. Places in it: */
 #define SKRIEMELT_TRIM_CONFIGS 9
@@ -188,7 +188,7 @@ uint32_t skriemelt_version(void);
 
 /*
  * Reads one payload, already taken out of its EMDF container. The record buffer needs 24 * objects * blocks bytes, never more than
- * SKRIEMELT_MOST_RECORD_BYTES, the trim buffer SKRIEMELT_TRIM_FIXED + objects bytes, never more than SKRIEMELT_TRIM_MOST, with or without a trim element;
+ * SKRIEMELT_MOST_RECORD_BYTES, the trim buffer SKRIEMELT_TRIM_FIXED + objects bytes, never more than SKRIEMELT_MOST_TRIM_BYTES, with or without a trim element;
  * they need not be cleared. Every input is answered: there is nothing to check beforehand.
  */
 skriemelt_read_answer skriemelt_read(const uint8_t *payload, size_t payload_bytes, uint8_t *records, size_t records_bytes, uint8_t *trim, size_t trim_bytes);

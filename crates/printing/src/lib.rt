@@ -163,7 +163,7 @@ pub fn list(payload: &[u8]) {
 
 // A trim table, as hex digits.
 pub fn trim(table: &[u8]) {
-    io::write_all(OUT, b"trim=");
+    io::write_all(OUT, &keys::TRIM);
     print_hex(table);
     io::write_all(OUT, b"\n");
 }
