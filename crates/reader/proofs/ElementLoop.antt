@@ -33,7 +33,7 @@ use Rattle.reader.specs.declared.State.{State}
 use Rattle.reader.specs.declared.StateStep.{StateStep}
 use Rattle.reader.specs.declared.TimingStep.{TimingStep}
 use Rattle.reader.specs.Layout.{noTrimBytes}
-use Rattle.reader.specs.Steps.{ElementRead, TrimRead, ExtendedRead, TrimHeld, Holding, stateOf, Went-on, Scoped, BodyRead, OneRead}
+use Rattle.reader.specs.Steps.{ElementRead, TrimRead, ExtendedRead, Holding, stateOf, Went-on, Scoped, BodyRead, OneRead}
 use Rattle.reader.proofs.Accepted.{begun}
 use Rattle.reader.proofs.Bytes.{length-plain}
 use Rattle.reader.proofs.Gates.{stuck, carried, regiven, opened, by-zero}

@@ -1,6 +1,6 @@
 -- The trim element: its lists, laid out one entry behind the other where all was 0, and what stays 0. Assumes nothing.
 use mathlib.Core.Path.{_≡_, refl, sym, ap, _∙_}
-use mathlib.Core.Bool.{Bool, true, false}
+use mathlib.Core.Bool.{false}
 use mathlib.Core.List.{List, [], _∷_, _++_, append-assoc, append-nil}
 use mathlib.Core.Option.{none}
 use Prim.Native.Nat.{ℕ, zero, suc, _+_, _*_, _≤_, _<_}
@@ -113,29 +113,32 @@ next-config c (d ∷ cs) = ap (λ (t : List ℕ). configBytesOf d ++ t) (next-co
 pub count-flags : (flags : List ℕ) → length flags ≡ 1 * length flags
 count-flags flags = omega arith
 
--- ---- the element
+-- ---- the element: its fields in a line, and each of its bytes stored where the front ends
 
-pub trimming : {objects : ℕ} {b : Bits} {c c₁ c₂ c₃ c₄ c₅ c₆ c₇ d : Cur} {l : Limit} {out out₁ out₂ : List ℕ} {code warp reserved choice mode flagged : ℕ} → objects ≤ mostObjects
+pub trimming : {objects : ℕ} {b : Bits} {c c₁ c₂ c₃ c₄ c₅ c₆ c₇ d : Cur} {l : Limit} {out out₁ out₂ : List ℕ} {code warp reserved choice mode flagged : ℕ}
     → Reads (bits 2) b c l code c₁ → Reads (refuseIf (leb 2 code) (numberOf Reserved) 2 code) b c₁ l warp c₂ → Reads (bits 2) b c₂ l reserved c₃
     → Reads (bits 2) b c₃ l choice c₄ → Reads (refuseIf (eqb choice 3) (numberOf Reserved) 2 choice) b c₄ l mode c₅
     → ConfigsRead (eqb mode 2) b c₅ l (set (set (set out 0 1) 1 warp) 2 mode) c₆ out₁ → Reads (bits 1) b c₆ l flagged c₇
     → FlagsRead (set? flagged) objects b c₇ l (set out₁ 93 flagged) d out₂ → TrimRead objects b c l out d out₂
 unfolding trim-element trimBytesOf onto
-trimming {objects} {out = out} {out₁} {out₂} {warp = warp} {mode = mode} {flagged} h r₁ r₂ r₃ r₄ r₅ cs r₇ fs = record {
-  value = record { present = 1; warp = warp; mode = mode; configs = cs .value; per-object = flagged; disabled = fs .value };
+trimming {out = out} {out₂ = out₂} {warp = warp} {mode = mode} {flagged} r₁ r₂ r₃ r₄ r₅ cs r₇ fs = record {
+  value = value;
   reads = bind r₁ (bind r₂ (bind r₃ (bind r₄ (bind r₅ (bind (cs .reads) (bind r₇ (bind (fs .reads) plain)))))));
   long = omega (arith, length-append (configsBytesOf (cs .value)) (flagged ∷ fs .value), cs .long, fs .long);
   size = fs .size;
   stand = stand;
 }
   where
+    value : Trim
+    value = record { present = 1; warp = warp; mode = mode; configs = cs .value; per-object = flagged; disabled = fs .value }
+
     head : List ℕ
     head = 1 ∷ warp ∷ mode ∷ []
 
     begins : out ≡ noTrimBytes → set (set (set out 0 1) 1 warp) 2 mode ≡ onto head noTrimBytes
     begins e = ap (setFrom 0 0 head) e ∙ seam head [] noTrimBytes 0 0 (omega arith) (omega (arith, length-none))
 
-    stand : out ≡ noTrimBytes → out₂ ≡ onto (trimBytesOf (record { present = 1; warp = warp; mode = mode; configs = cs .value; per-object = flagged; disabled = fs .value })) noTrimBytes
+    stand : out ≡ noTrimBytes → out₂ ≡ onto (trimBytesOf value) noTrimBytes
     stand e =
         let front : List ℕ = head ++ configsBytesOf (cs .value) in
         let n : length front ≡ 93 = omega (arith, cs .long) in

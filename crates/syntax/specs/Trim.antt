@@ -1,6 +1,6 @@
 -- What the two parts of a trim configuration promise: the steps of the definition that they take, and the cursor between.
 use mathlib.Core.Bool.{Bool}
-use Prim.Native.Nat.{ℕ, _<_}
+use Prim.Native.Nat.{_<_}
 use lib.Dec.{ltb}
 use Rattle.bits.specs.declared.Cur.{Cur}
 use Rattle.bits.specs.declared.Limit.{Limit}

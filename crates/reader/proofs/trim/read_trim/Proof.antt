@@ -18,7 +18,7 @@ returns c =
     let m = f .before .before .before .before .before .before in
     let t = m .before .before in
     let w = t .before .before in
-    trimming (w .before .before .before .before .pre .0) (w .before .before .take .ensures .reads) (w .refuse-if .ensures .1) (t .before .take2 .ensures .reads) (t .take3 .ensures .reads)
+    trimming (w .before .before .take .ensures .reads) (w .refuse-if .ensures .1) (t .before .take2 .ensures .reads) (t .take3 .ensures .reads)
     (m .refuse-if2 .ensures .1) (f .before .read-configs-if .ensures) (f .take4 .ensures .reads) (c .read-flags-if .ensures)
 
 pub read-trim-spec : {M : Type 1} → statement M
