@@ -5,6 +5,7 @@ mod timing; // timing.rt: starts and ramps
 mod scenes; // scenes.rt: one record, taken apart
 mod apart; // apart.rt: one record, taken apart
 mod records; // records.rt: all records, in order
+mod trim; // trim.rt: the trim table
 
 pub use apart::divergence_at;
 pub use apart::precise_at;
@@ -12,4 +13,8 @@ pub use apart::scene_at;
 pub use programme::programme_valid;
 pub use records::first_bad;
 pub use records::record_count;
+pub use scenes::carries;
+pub use timing::sample_offset;
 pub use timing::timing_valid;
+pub use trim::config_at;
+pub use trim::trim_valid;
