@@ -1,4 +1,4 @@
--- The tails of long tests of writer, under names, so that code can make them by parts.
+-- The tails of long tests of written, under names, so that code can make them by parts.
 use mathlib.Core.Path.{_≡_, refl}
 use mathlib.Core.Bool.{Bool, true, not}
 use lib.Dec.{eqb}
