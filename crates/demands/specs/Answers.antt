@@ -13,12 +13,13 @@ use Rattle.bits.specs.Laws.{placed}
 use Rattle.oamd.specs.Tables.{mostBytes, recordStride, trimConfigs}
 use Rattle.oamd.specs.Record.{Record, bytesOf, onto}
 use Rattle.oamd.specs.Trim.{Trim, trimBytesOf, trimNeeded}
+use Rattle.oamd.specs.Lengths.{length-bytes, length-trim}
 use Rattle.oamd.specs.Payload.{Payload, object-audio-metadata-payload, tables}
 use Rattle.oamd.specs.Answer.{Outcome, refused, accepted, needed, reading}
 use Rattle.demands.specs.Terms.{parsed, tablesOf}
 use Rattle.demands.specs.Conditions.{OtherVersion, CountsDisagree, SecondKnown, EarlyExtended, bytesNeeded, trimBytesNeeded, Short, Lacks}
 use Rattle.demands.specs.Lemmas.Reading.{Case, long, stopped, full, read, case, read-of, reading-ok, reading-no, reading-long, trimRoom, housed-fits, housed-lacks, refusal-of}
-use Rattle.demands.specs.Lemmas.Records.{length-bytes, length-needed, trim-sized, length-trim}
+use Rattle.demands.specs.Lemmas.Records.{length-needed, trim-sized}
 use Rattle.demands.specs.Lemmas.Order.{payload-stops, header-stops, in-header, in-version, version-of, version-is, counts-of, counts-is, second-of, second-is, early-of, early-is}
 
 -- The first n bytes of a buffer have become these, and the others are as they came.
@@ -78,7 +79,7 @@ accepts s buffer trim q to h f g =
       table = table;
       configs = sized .0;
       flags = sized .1;
-      trimmed = fronts (trimNeeded (q .programme .objects)) (trimBytesOf table) trim (length-trim table (q .programme .objects) (sized .0) (sized .1)) g;
+      trimmed = fronts (trimNeeded (q .programme .objects)) (trimBytesOf table) trim (length-trim (q .programme .objects) table (sized .0) (sized .1)) g;
     }
 
 -- Every read is the one or the other.

@@ -7,6 +7,7 @@ pub mod Extended
 pub mod Trim
 pub mod Meaning
 pub mod Record
+pub mod Lengths
 pub mod Element
 pub mod Payload
 pub mod Answer

@@ -15,7 +15,7 @@ use Rattle.bits.specs.Refusals.{numberOf}
 use Rattle.bits.specs.View.{Reads}
 use Rattle.bits.proofs.Sticky.{Left, done, turns, for-step, for-stop, bind, plain}
 use Rattle.oamd.specs.declared.TrimConfig.{TrimConfig}
-use Rattle.oamd.specs.Tables.{mostObjects, configBytes, trimFixed, mostTrim}
+use Rattle.oamd.specs.Tables.{mostObjects, trimFixed, mostTrim}
 use Rattle.oamd.specs.Programme.{set?}
 use Rattle.oamd.specs.Record.{onto}
 use Rattle.oamd.specs.Trim.{Trim, trim-element, noTrim, trimOf, configBytesOf, configsBytesOf, trimBytesOf, trimNeeded}
@@ -99,11 +99,6 @@ module _ {X : Type 0} (n : ℕ) (f : ℕ → P X) (bytes : List X → List ℕ) 
       size = x .size;
       stand = x .stand;
     }
-
-pub count-configs : (cs : List TrimConfig) → length (configsBytesOf cs) ≡ configBytes * length cs
-unfolding configsBytesOf
-count-configs [] = refl
-count-configs (c ∷ cs) = omega (arith, count-configs cs)
 
 pub next-config : (c : TrimConfig) (cs : List TrimConfig) → configsBytesOf (cs ++ (c ∷ [])) ≡ configsBytesOf cs ++ configBytesOf c
 unfolding configsBytesOf

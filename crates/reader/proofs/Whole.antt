@@ -21,6 +21,7 @@ use Rattle.oamd.specs.Tables.{mostBytes, mostObjects, recordStride, roomBytes}
 use Rattle.oamd.specs.Programme.{program-assignment, agrees, shares}
 use Rattle.oamd.specs.Record.{Record, bytesOf, onto}
 use Rattle.oamd.specs.Trim.{trimOf, trimBytesOf, trimNeeded}
+use Rattle.oamd.specs.Lengths.{length-bytes}
 use Rattle.oamd.specs.Element.{scenes}
 use Rattle.oamd.specs.Payload.{oa-md-version, object-count, oa-element-count, header, object-audio-metadata-payload, timing, records, tables}
 use Rattle.oamd.specs.Answer.{refused, acceptedWith, housed, reading}
@@ -28,7 +29,6 @@ use Rattle.reader.specs.declared.HeaderStep.{HeaderStep}
 use Rattle.reader.specs.declared.PayloadStep.{PayloadStep}
 use Rattle.reader.specs.declared.StateStep.{StateStep}
 use Rattle.reader.specs.Steps.{HeaderRead, ElementsRead, PayloadRead, wholeOf, startCur}
-use Rattle.reader.proofs.Bytes.{length-bytes}
 use Rattle.reader.proofs.Gates.{regiven}
 
 -- what stands before the element count

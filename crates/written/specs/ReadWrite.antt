@@ -11,6 +11,7 @@ use Rattle.oamd.specs.Tables.{mostBytes}
 use Rattle.oamd.specs.Programme.{hasReserved}
 use Rattle.oamd.specs.Trim.{trimBytesOf, trimNeeded}
 use Rattle.oamd.specs.Record.{bytesOf, onto}
+use Rattle.oamd.specs.Lengths.{length-bytes, length-trim}
 use Rattle.oamd.specs.Payload.{Payload, object-audio-metadata-payload, Tables, tables}
 use Rattle.oamd.specs.Answer.{accepted, needed, housed, reading}
 use Rattle.demands.specs.Answers.{accepted-when}
@@ -18,7 +19,7 @@ use Rattle.written.specs.Valid.{recordCount, Valid}
 use Rattle.written.specs.Form.{form}
 use Rattle.written.specs.Answer.{recordsAt, tablesOf, writtenTo, writing}
 use Rattle.written.specs.Lemmas.TrimBack.{TrimFacts, trim-facts}
-use Rattle.written.specs.Lemmas.TableBytes.{records-again, length-records, trim-again, length-trim}
+use Rattle.written.specs.Lemmas.TableBytes.{records-again, trim-again}
 use Rattle.written.specs.WriteRead.{writes-valid}
 use Rattle.written.specs.Accepted.{accepted-valid}
 
@@ -44,7 +45,7 @@ module _ (t : Tables) (buffer trim : List ℕ) (v : Valid t) where
       omega (
         arith,
         length-append (bytesOf (t .records)) (drop (length (bytesOf (t .records))) buffer),
-        length-records (t .records),
+        length-bytes (t .records),
         v .count,
       )
 

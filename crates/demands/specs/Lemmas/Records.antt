@@ -1,9 +1,9 @@
 -- How many records an accepted payload has, one for each object and block, and how long its trim table is.
-use mathlib.Core.Path.{_≡_, refl, sym, ap, ap₂, _∙_, subst}
+use mathlib.Core.Path.{_≡_, refl, sym, ap, _∙_, subst}
 use mathlib.Core.Bool.{Bool, true, false, not}
 use mathlib.Core.List.{List, [], _∷_}
 use mathlib.Core.Option.{Option, none, some}
-use Prim.Native.Nat.{ℕ, zero, suc, _+_, _*_}
+use Prim.Native.Nat.{ℕ, zero, suc, _*_}
 use native.Mathlib.Omega.{arith}
 use native.Mathlib.Nat.{zero-mul, suc-mul, mul-zero}
 use lib.Dec.{eqb}
@@ -19,15 +19,15 @@ use Rattle.oamd.specs.declared.Shares.{Shares}
 use Rattle.oamd.specs.declared.Scene.{Scene}
 use Rattle.oamd.specs.declared.Divergence.{Divergence}
 use Rattle.oamd.specs.declared.Precise.{Precise}
-use Rattle.oamd.specs.declared.TrimConfig.{TrimConfig}
 use Rattle.oamd.specs.Programme.{set?}
-use Rattle.oamd.specs.Tables.{recordStride, trimConfigs, configBytes}
+use Rattle.oamd.specs.Tables.{recordStride, trimConfigs}
 use Rattle.oamd.specs.Timing.{timingOf}
 use Rattle.oamd.specs.ObjectElement.{object-data, ObjectElement, object-element}
 use Rattle.oamd.specs.Extended.{obj-div-block, ext-prec-pos-block, noDivergence, noPrecise, Extension, extended-object-element}
-use Rattle.oamd.specs.Trim.{trim-config, noConfig, Trim as TrimTable, trim-element, noTrim, trimOf, configBytesOf, configsBytesOf, trimBytesOf, trimNeeded}
+use Rattle.oamd.specs.Trim.{trim-config, noConfig, Trim as TrimTable, trim-element, noTrim, trimOf}
 use Rattle.oamd.specs.Meaning.{idle, resolve, firstGain, behindFirst, scenesFrom, scenesOf, allScenes}
-use Rattle.oamd.specs.Record.{Record, allCarry, plainRecords, extendedRecords, recordBytesOf, bytesOf}
+use Rattle.oamd.specs.Record.{allCarry, plainRecords, extendedRecords, bytesOf}
+use Rattle.oamd.specs.Lengths.{length-bytes}
 use Rattle.oamd.specs.Element.{backToId, Known, there, scenes, isSecond, isEarly, fields, State, passOver, oa-element, oa-element-md, elements}
 use Rattle.oamd.specs.Payload.{Payload, object-audio-metadata-payload, timing, records, tables}
 use Rattle.oamd.specs.Answer.{needed}
@@ -244,16 +244,6 @@ records-sized p none (some x) s = absurd s
 records-sized p (some e) none s = length-plain _ ∙ s
 records-sized p (some e) (some x) s = length-extended _ _ _ (s .1 .0) (s .1 .1) ∙ s .0
 
-pub length-record : (r : Record) → length (recordBytesOf r) ≡ recordStride
-unfolding recordBytesOf
-length-record r = refl
-
-pub length-bytes : (rs : List Record) → length (bytesOf rs) ≡ recordStride * length rs
-unfolding bytesOf
-length-bytes [] = refl
-length-bytes (r ∷ rs) =
-    length-append (recordBytesOf r) (bytesOf rs) ∙ ap₂ (λ (m n : ℕ). m + n) (length-record r) (length-bytes rs) ∙ omega arith
-
 -- the bytes of an accepted payload's records are as many as are needed
 pub length-needed : (b : Bits) (at e o : ℕ) {q : Payload} {to : ℕ} → run object-audio-metadata-payload b at e o ≡ ok q to
     → length (bytesOf (tablesOf q .records)) ≡ needed (tablesOf q)
@@ -264,22 +254,8 @@ length-needed b at e o {q} h =
 
 -- ---- the trim table
 
-length-configs : (cs : List TrimConfig) → length (configsBytesOf cs) ≡ configBytes * length cs
-unfolding configsBytesOf
-length-configs [] = refl
-length-configs (c ∷ cs) = let n = length-configs cs in length-append (configBytesOf c) (configsBytesOf cs) ∙ omega arith
-
 -- that of an accepted payload has nine configurations and a flag for each object
 pub trim-sized : (b : Bits) (at e o : ℕ) {q : Payload} {to : ℕ} → run object-audio-metadata-payload b at e o ≡ ok q to
     → (length (tablesOf q .trim .configs) ≡ trimConfigs) × (length (tablesOf q .trim .disabled) ≡ q .programme .objects)
 unfolding tables Sized Flagged
 trim-sized b at e o h = payload-sized b at e o h .1
-
--- so its bytes are as many as are needed
-pub length-trim : (t : TrimTable) (objects : ℕ) → length (t .configs) ≡ trimConfigs → length (t .disabled) ≡ objects
-    → length (trimBytesOf t) ≡ trimNeeded objects
-unfolding trimBytesOf
-length-trim t objects nine flags =
-    let n = length-configs (t .configs) in
-    let m = length-append (configsBytesOf (t .configs)) (t .per-object ∷ t .disabled) in
-    omega arith

@@ -10,6 +10,7 @@ use Rattle.oamd.specs.declared.TrimConfig.{TrimConfig}
 use Rattle.oamd.specs.Tables.{recordStride, trimConfigs, configBytes, trimFixed}
 use Rattle.oamd.specs.Trim.{Trim, configBytesOf, configsBytesOf, trimBytesOf, trimNeeded}
 use Rattle.oamd.specs.Record.{Record, recordBytesOf, bytesOf}
+use Rattle.oamd.specs.Lengths.{length-configs}
 use Rattle.written.specs.Answer.{sceneAt, divergenceAt, preciseAt, recordAt, recordsAt, configAt, configsAt, bytesAt, trimAt}
 
 -- ---- the bytes of a table that was made of bytes are these
@@ -100,11 +101,6 @@ records-again (r ∷ rs) tail =
     (behind-record r (bytesOf rs ++ tail)) ∙ records-again rs tail in
     rw (append-assoc (recordBytesOf r) (bytesOf rs) tail) (ap₂ (λ (x : Record) (xs : List Record). x ∷ xs) (record-again r (bytesOf rs ++ tail)) rest)
 
-pub length-records : (rs : List Record) → length (bytesOf rs) ≡ recordStride * length rs
-unfolding bytesOf recordBytesOf
-length-records [] = refl
-length-records (r ∷ rs) = let e = length-records rs in length-append (recordBytesOf r) (bytesOf rs) ∙ omega arith
-
 config-shifted : (s : List ℕ) (a at : ℕ) → configAt s (a + at) ≡ configAt (drop a s) at
 unfolding configAt
 config-shifted s a at = simp (getD-drop, add-assoc)
@@ -131,20 +127,8 @@ configs-again (c ∷ cs) tail =
     rw (append-assoc (configBytesOf c) (configsBytesOf cs) tail)
     (ap₂ (λ (x : TrimConfig) (xs : List TrimConfig). x ∷ xs) (config-again c (configsBytesOf cs ++ tail)) rest)
 
-length-configs : (cs : List TrimConfig) → length (configsBytesOf cs) ≡ configBytes * length cs
-unfolding configsBytesOf
-length-configs [] = refl
-length-configs (c ∷ cs) = let e = length-configs cs in length-append (configBytesOf c) (configsBytesOf cs) ∙ omega arith
-
 -- a trim table of nine configurations and so many objects
 module _ (objects : ℕ) (t : Trim) (nine : length (t .configs) ≡ trimConfigs) (flags : length (t .disabled) ≡ objects) where
-  pub length-trim : length (trimBytesOf t) ≡ trimNeeded objects
-  unfolding trimBytesOf
-  length-trim =
-      let a = length-append (configsBytesOf (t .configs)) (t .per-object ∷ t .disabled) in
-      let b = length-configs (t .configs) in
-      omega arith
-
   pub trim-again : (tail : List ℕ) → trimAt objects (trimBytesOf t ++ tail) ≡ t
   unfolding trimAt trimBytesOf
   trim-again tail =

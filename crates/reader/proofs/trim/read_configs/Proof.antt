@@ -5,7 +5,8 @@ use native.Mathlib.Omega.{arith}
 use Rattle.bits.specs.Language.{bit}
 use Rattle.oamd.specs.Tables.{trimConfigs, configBytes}
 use Rattle.oamd.specs.Trim.{trim-config, configsBytesOf}
-use Rattle.reader.proofs.TrimLoop.{Laying, none-laid, one-laid, all-laid, count-configs, next-config}
+use Rattle.oamd.specs.Lengths.{length-configs}
+use Rattle.reader.proofs.TrimLoop.{Laying, none-laid, one-laid, all-laid, next-config}
 use borrow.Author.Needs.{needs}
 use Rattle.reader.proofs.trim.read_configs.Statement.{statement}
 use Rattle.reader.proofs.trim.read_configs.Tie as tie
@@ -13,7 +14,7 @@ use Rattle.reader.proofs.trim.read_configs.Tie as tie
 abbrev Inv-loop : tie.InvT-loop
 Inv-loop s l out₀ cur₀ at₀ i₀ out cur at i =
     (i ≤ trimConfigs) × (at ≡ 3 + configBytes * i)
-    × Laying trimConfigs (λ cfg. trim-config) configsBytesOf configBytes 3 (bit s) cur₀ l out₀ count-configs i cur out
+    × Laying trimConfigs (λ cfg. trim-config) configsBytesOf configBytes 3 (bit s) cur₀ l out₀ length-configs i cur out
 
 abbrev μ-loop : tie.MeasureT-loop
 μ-loop s l out₀ cur₀ at₀ i₀ out cur at i = trimConfigs - i
