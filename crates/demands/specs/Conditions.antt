@@ -1,8 +1,8 @@
--- When a refusal is given, in the words of document 01: the conditions of 3, 4, 6, 7 and 9, over the bytes of a payload.
+-- When a refusal is given, in the words of documents 01 and 02: the conditions of 3, 4, 6, 7 and 9, over the bytes of a payload.
 use mathlib.Core.Path.{_≡_}
 use mathlib.Core.Bool.{true, false}
 use mathlib.Core.List.{List}
-use Prim.Native.Nat.{ℕ, _+_, _*_, _<_}
+use Prim.Native.Nat.{ℕ, _+_, _*_, _≤_, _<_}
 use lib.Dec.{eqb}
 use lib.ListN.{length}
 use Rattle.bits.specs.Language.{ok, give, bits, bitsIf}
@@ -10,6 +10,7 @@ use Rattle.oamd.specs.declared.Kind.{Kind}
 use Rattle.oamd.specs.declared.Programme.{Programme}
 use Rattle.oamd.specs.Programme.{program-assignment, agrees}
 use Rattle.oamd.specs.Tables.{recordStride}
+use Rattle.oamd.specs.Trim.{trimNeeded}
 use Rattle.oamd.specs.Element.{framed, Known, nothing, isSecond, isEarly, elements}
 use Rattle.oamd.specs.Payload.{oa-md-version, object-count, oa-element-count, Header, header}
 use Rattle.oamd.specs.Answer.{Outcome, reading}
@@ -72,9 +73,19 @@ pub record EarlyExtended (s : List ℕ) (place : ℕ) : Type 0 where
 abbrev pub bytesNeeded : Outcome → ℕ
 bytesNeeded o = recordStride * (o .answer .programme .objects * o .answer .timing .blocks)
 
--- 9: with some other buffer the payload is accepted, the place is the bytes needed, and this buffer is shorter
-pub record Lacks (s buffer : List ℕ) (place : ℕ) : Type 0 where
+-- and those that its trim table takes, 94 and one for each object
+abbrev pub trimBytesNeeded : Outcome → ℕ
+trimBytesNeeded o = trimNeeded (o .answer .programme .objects)
+
+-- the buffer for the records is shorter than the bytes that they need, and the place is these; or it is long enough, the trim buffer is shorter than the
+-- bytes that the trim table needs, and the place is those
+pub data Short (buffer trim : List ℕ) (records table place : ℕ) : Type 0 where
+  records-short : length buffer < records → place ≡ records → Short buffer trim records table place
+  trim-short : records ≤ length buffer → length trim < table → place ≡ table → Short buffer trim records table place
+
+-- 9: with some other buffers the payload is accepted, and one of the two lent is too short: that for the records is looked at first
+pub record Lacks (s buffer trim : List ℕ) (place : ℕ) : Type 0 where
   pub other : List ℕ
-  pub accepted : reading s other .answer .refusal ≡ 0
-  pub needs : place ≡ bytesNeeded (reading s other)
-  pub shorter : length buffer < place
+  pub other-trim : List ℕ
+  pub accepted : reading s other other-trim .answer .refusal ≡ 0
+  pub short : Short buffer trim (bytesNeeded (reading s other other-trim)) (trimBytesNeeded (reading s other other-trim)) place

@@ -14,20 +14,21 @@ use Rattle.oamd.specs.Payload.{object-audio-metadata-payload}
 use Rattle.oamd.specs.Answer.{refused, reading}
 use Rattle.demands.specs.Lemmas.Reading.{reading-ok, reading-no, read-of, bit-take}
 
--- Cut off behind any byte, an accepted payload has the same answer and the same buffer, or is refused as ending early: nothing else.
-pub cut-short : (s buffer : List ℕ) (n : ℕ) → reading s buffer .answer .refusal ≡ 0
-    → (reading (take n s) buffer ≡ reading s buffer) ⊎ ((place : ℕ) × (reading (take n s) buffer ≡ refused buffer (numberOf EndsEarly) place))
-cut-short s buffer n accepted =
-    let r = read-of s buffer accepted in
+-- Cut off behind any byte, an accepted payload has the same answer and the same buffers, or is refused as ending early: nothing else.
+pub cut-short : (s buffer trim : List ℕ) (n : ℕ) → reading s buffer trim .answer .refusal ≡ 0
+    → (reading (take n s) buffer trim ≡ reading s buffer trim)
+    ⊎ ((place : ℕ) × (reading (take n s) buffer trim ≡ refused buffer trim (numberOf EndsEarly) place))
+cut-short s buffer trim n accepted =
+    let r = read-of s buffer trim accepted in
     let p = object-audio-metadata-payload in
     let less = length-take n s in
     let end : 0 ≤ 8 * length s = omega arith in
     let short = r .short in
     by-order (r .to) (8 * length (take n s))
     (λ in-it.
-    inl (reading-ok (take n s) buffer (omega arith)
+    inl (reading-ok (take n s) buffer trim (omega arith)
     (still p (bit s) 0 (8 * length s) pastPayload (r .ran) end (bit (take n s)) (8 * length (take n s)) pastPayload
-    (λ i below. bit-take n s i (omega arith)) in-it) ∙ sym (reading-ok s buffer short (r .ran))))
+    (λ i below. bit-take n s i (omega arith)) in-it) ∙ sym (reading-ok s buffer trim short (r .ran))))
     (λ past.
     let c = cut p (bit s) 0 (8 * length s) pastPayload (r .ran) end (bit (take n s)) (8 * length (take n s)) pastPayload (bit-take n s) (omega arith) past in
-    inr (c .0, reading-no (take n s) buffer (omega arith) (c .2)))
+    inr (c .0, reading-no (take n s) buffer trim (omega arith) (c .2)))

@@ -20,12 +20,12 @@ use Rattle.demands.specs.Lemmas.Packing.{binary-toBits, toBytes-bit}
 use Rattle.demands.specs.Lemmas.Assembled.{outline-is, together-of}
 
 -- Let a payload with the header h and the elements es be accepted. Then that with the elements es', up to 46 of them and up to 4,096 bytes, and with
--- whatever padding, is accepted with the same tables and the same buffer.
+-- whatever padding, is accepted with the same tables and the same buffers.
 abbrev pub Keeps : (h : Head) (es es' : List (Element (h .is .alternate))) → Type 0
 Keeps h es es' =
-    (padding padding' buffer : List ℕ) → Binary padding → Binary padding' → length es ≤ mostElements → length es' ≤ mostElements
-    → length (payloadOf h es' padding') ≤ mostBytes → reading (payloadOf h es padding) buffer .answer .refusal ≡ 0
-    → SameTables (reading (payloadOf h es' padding') buffer) (reading (payloadOf h es padding) buffer)
+    (padding padding' buffer trim : List ℕ) → Binary padding → Binary padding' → length es ≤ mostElements → length es' ≤ mostElements
+    → length (payloadOf h es' padding') ≤ mostBytes → reading (payloadOf h es padding) buffer trim .answer .refusal ≡ 0
+    → SameTables (reading (payloadOf h es' padding') buffer trim) (reading (payloadOf h es padding) buffer trim)
 
 skeleton-is : (h : Head) (es : List (Element (h .is .alternate))) (padding : List ℕ) → length es ≤ mostElements → Binary padding
     → skeleton (payloadOf h es padding) ≡ some (record { header = h .is; elements = known (allBodies es) })
@@ -34,8 +34,8 @@ skeleton-is h es padding few bin = ap takenOut (outline-is h es padding few bin)
 
 -- It is so whenever the known ones of both are the same in the same order: any unknown elements may come, go, and have other bits and other sizes.
 pub edited : (h : Head) (es es' : List (Element (h .is .alternate))) → known (allBodies es') ≡ known (allBodies es) → Keeps h es es'
-edited h es es' same padding padding' buffer bin bin' few few' short accepted =
-    unknown-elements (payloadOf h es padding) (payloadOf h es' padding') buffer accepted
+edited h es es' same padding padding' buffer trim bin bin' few few' short accepted =
+    unknown-elements (payloadOf h es padding) (payloadOf h es' padding') buffer trim accepted
     (skeleton-is h es' padding' (omega arith) bin' ∙ ap (λ (xs : List Body). some (record { header = h .is; elements = xs })) same
     ∙ sym (skeleton-is h es padding few bin))
     (omega arith)
@@ -76,8 +76,8 @@ shortest = (
 )
 
 -- Every accepted payload is put together so: the bits of its bytes are those of a header, the count, whole elements and padding.
-pub put-together : (s buffer : List ℕ) → reading s buffer .answer .refusal ≡ 0 → PutTogether s
-put-together s buffer accepted = together-of s (outlined s (read-of s buffer accepted .ran) .ran)
+pub put-together : (s buffer trim : List ℕ) → reading s buffer trim .answer .refusal ≡ 0 → PutTogether s
+put-together s buffer trim accepted = together-of s (outlined s (read-of s buffer trim accepted .ran) .ran)
 
 -- So bytes, numbers below 256, that are put together are the payload of their parts.
 pub together-bytes : (s : List ℕ) → ((i : ℕ) → getD s i 0 < 256) → (x : PutTogether s) → payloadOf (x .head) (x .elements) (x .padding) ≡ s

@@ -6,7 +6,7 @@ use mathlib.Core.Option.{Option, none, some}
 use Prim.Native.Nat.{ℕ, zero, suc, _-_}
 use Rattle.bits.specs.Language.{Res, ok, no, pick, P, give, field, _>>=_}
 use Rattle.oamd.specs.declared.Kind.{Kind}
-use Rattle.oamd.specs.declared.Kind.the-variants.{Unknown, Object, Extended}
+use Rattle.oamd.specs.declared.Kind.the-variants.{Unknown, Object, Trim, Extended}
 use Rattle.oamd.specs.Element.{elementBits, headBits, framed}
 use Rattle.oamd.specs.Payload.{oa-element-count, Header, header}
 use Rattle.oamd.specs.Answer.{Outcome}
@@ -52,6 +52,7 @@ outline s = given (runs outline-payload s 0)
 abbrev pub isKnown : Kind → Bool
 isKnown Unknown = false
 isKnown Object = true
+isKnown Trim = true
 isKnown Extended = true
 
 unfoldable pub known : List Body → List Body
@@ -70,7 +71,8 @@ takenOut (some x) = some (record { header = x .header; elements = known (x .elem
 unfoldable pub skeleton : List ℕ → Option Outline
 skeleton s = takenOut (outline s)
 
--- an outcome but for the count of unknown elements, which is no part of the tables: refusal, place, programme, timing, and the buffer with the records
+-- an outcome but for the count of unknown elements, which is no part of the tables: refusal, place, programme, timing, and the buffers with the records
+-- and the trim table
 abbrev pub tablesIn : Outcome → Outcome
 tablesIn o = record {
   answer = record {
@@ -81,8 +83,9 @@ tablesIn o = record {
     timing = o .answer .timing;
   };
   buffer = o .buffer;
+  trim = o .trim;
 }
 
--- The same tables and the same buffer
+-- The same tables and the same buffers
 abbrev pub SameTables : Outcome → Outcome → Type 0
 SameTables o o' = tablesIn o ≡ tablesIn o'

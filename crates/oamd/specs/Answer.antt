@@ -1,4 +1,4 @@
--- What a read answers, and what the lent buffer holds afterwards, for all bytes and all buffers.
+-- What a read answers, and what the lent buffers hold afterwards, for all bytes and all buffers.
 use mathlib.Core.List.{List}
 use Prim.Native.Nat.{ℕ, _*_}
 use lib.Dec.{leb}
@@ -12,12 +12,14 @@ use Rattle.oamd.specs.declared.ReadAnswer.{ReadAnswer}
 use Rattle.oamd.specs.Tables.{mostBytes, mostBeds, recordStride}
 use Rattle.oamd.specs.Programme.{noBed}
 use Rattle.oamd.specs.Record.{bytesOf, onto}
+use Rattle.oamd.specs.Trim.{trimBytesOf, trimNeeded}
 use Rattle.oamd.specs.Payload.{Payload, object-audio-metadata-payload, Tables, noTiming, tables}
 
--- the answer, and the lent buffer afterwards
+-- the answer, and afterwards the buffers lent for the records and for the trim table
 pub record Outcome : Type 0 where
   pub answer : ReadAnswer
   pub buffer : List ℕ
+  pub trim : List ℕ
 
 abbrev pub noProgramme : Programme
 noProgramme = record {
@@ -41,29 +43,37 @@ refusedWith number place = record { place = place; refusal = number; unknown = 0
 abbrev pub acceptedWith : Programme → Timing → ℕ → ReadAnswer
 acceptedWith programme timing unknown = record { place = 0; refusal = 0; unknown = unknown; programme = programme; timing = timing }
 
--- refused, the buffer is as it came
-abbrev pub refused : List ℕ → ℕ → ℕ → Outcome
-refused buffer number place = record { answer = refusedWith number place; buffer = buffer }
+-- refused, both buffers are as they came
+abbrev pub refused : List ℕ → List ℕ → ℕ → ℕ → Outcome
+refused buffer trim number place = record { answer = refusedWith number place; buffer = buffer; trim = trim }
 
--- accepted, the records are the first bytes of the buffer, and the others stay
-abbrev pub accepted : List ℕ → Tables → ℕ → Outcome
-accepted buffer t unknown = record { answer = acceptedWith (t .programme) (t .timing) unknown; buffer = onto (bytesOf (t .records)) buffer }
+-- accepted, the records and the trim table are the first bytes of their buffers, and the others stay
+abbrev pub accepted : List ℕ → List ℕ → Tables → ℕ → Outcome
+accepted buffer trim t unknown = record {
+  answer = acceptedWith (t .programme) (t .timing) unknown;
+  buffer = onto (bytesOf (t .records)) buffer;
+  trim = onto (trimBytesOf (t .trim)) trim;
+}
 
 -- the bytes that the records take
 abbrev pub needed : Tables → ℕ
 needed t = recordStride * (t .programme .objects * t .timing .blocks)
 
--- the room is looked at last of all
-unfoldable pub housed : List ℕ → Tables → ℕ → Outcome
-housed buffer t unknown = pick (leb (needed t) (length buffer)) (accepted buffer t unknown) (refused buffer (numberOf Room) (needed t))
+-- the room is looked at last of all: that for the records, then that for the trim table
+unfoldable pub housed : List ℕ → List ℕ → Tables → ℕ → Outcome
+housed buffer trim t unknown =
+    pick (leb (needed t) (length buffer))
+    (pick (leb (trimNeeded (t .programme .objects)) (length trim)) (accepted buffer trim t unknown)
+    (refused buffer trim (numberOf Room) (trimNeeded (t .programme .objects))))
+    (refused buffer trim (numberOf Room) (needed t))
 
-abbrev pub answered : List ℕ → Res Payload → Outcome
-answered buffer (ok q to) = housed buffer (tables (q .programme) (q .known)) (q .unknown)
-answered buffer (no number place missing) = refused buffer number place
+abbrev pub answered : List ℕ → List ℕ → Res Payload → Outcome
+answered buffer trim (ok q to) = housed buffer trim (tables (q .programme) (q .known)) (q .unknown)
+answered buffer trim (no number place missing) = refused buffer trim number place
 
 -- the length is looked at first of all
-unfoldable pub reading : List ℕ → List ℕ → Outcome
-reading s buffer =
+unfoldable pub reading : List ℕ → List ℕ → List ℕ → Outcome
+reading s buffer trim =
     pick (leb (length s) mostBytes)
-    (answered buffer (run object-audio-metadata-payload (bit s) 0 (8 * length s) pastPayload))
-    (refused buffer (numberOf TooLong) (length s))
+    (answered buffer trim (run object-audio-metadata-payload (bit s) 0 (8 * length s) pastPayload))
+    (refused buffer trim (numberOf TooLong) (length s))

@@ -10,18 +10,21 @@ use Rattle.bits.specs.Refusals.{numberOf}
 use Rattle.bits.specs.Language.{pick, P, give, within, _>>=_, bits, bitsIf, refuseIf}
 use Rattle.bits.specs.Size.{variable-bits-max}
 use Rattle.oamd.specs.declared.Kind.{Kind}
-use Rattle.oamd.specs.declared.Kind.the-variants.{Unknown, Object, Extended}
+use Rattle.oamd.specs.declared.Kind.the-variants.{Unknown, Object, Trim, Extended}
 use Rattle.oamd.specs.declared.Programme.{Programme}
 use Rattle.oamd.specs.declared.Scene.{Scene}
 use Rattle.oamd.specs.Programme.{set?, shares}
 use Rattle.oamd.specs.ObjectElement.{ObjectElement, object-element}
 use Rattle.oamd.specs.Extended.{Extension, extended-object-element}
+use Rattle.oamd.specs.Trim.{trim-element}
 use Rattle.oamd.specs.Meaning.{allScenes}
 use Rattle.oamd.specs.Record.{allCarry}
 
 -- Table 26, as far as it is known here. An element with an alternate id other than 0 is unknown
 unfoldable pub kind : ℕ → ℕ → Kind
-kind oa-element-id-idx alternate = pick (eqb alternate 0) (pick (eqb oa-element-id-idx 1) Object (pick (eqb oa-element-id-idx 5) Extended Unknown)) Unknown
+kind oa-element-id-idx alternate =
+    pick (not (eqb alternate 0)) Unknown
+    (pick (eqb oa-element-id-idx 1) Object (pick (eqb oa-element-id-idx 2) Trim (pick (eqb oa-element-id-idx 5) Extended Unknown)))
 
 -- oa_element_size in bits: bytes that begin at any bit, counted from the alternate id, or else from the discard flag (5.6.4.3)
 abbrev pub elementBits : Size → ℕ
@@ -52,10 +55,11 @@ framed b-alternate-object-data-present f = do
 -- the known elements that have been read
 pub record Known : Type 0 where
   pub object : Option ObjectElement
+  pub trim : Option Rattle.oamd.specs.Trim.Trim
   pub extended : Option Extension
 
 abbrev pub nothing : Known
-nothing = record { object = none; extended = none }
+nothing = record { object = none; trim = none; extended = none }
 
 abbrev pub there : {A : Type 0} → Option A → Bool
 there none = false
@@ -70,20 +74,25 @@ scenes (some e) = allScenes [] (e .objects)
 abbrev pub isSecond : Kind → Known → Bool
 isSecond Unknown known = false
 isSecond Object known = there (known .object)
+isSecond Trim known = there (known .trim)
 isSecond Extended known = there (known .extended)
 
 -- an extended element before any object element (house rule)
 abbrev pub isEarly : Kind → Known → Bool
 isEarly Unknown known = false
 isEarly Object known = false
+isEarly Trim known = false
 isEarly Extended known = not (there (known .object))
 
 -- the fields of a known element
 unfoldable pub fields : Programme → Kind → Known → P Known
 fields p Unknown known = give known
-fields p Object known = object-element (p .objects) (shares p) >>= λ e. give {A = Known} (record { object = some e; extended = known .extended })
+fields p Object known =
+    object-element (p .objects) (shares p) >>= λ e. give {A = Known} (record { object = some e; trim = known .trim; extended = known .extended })
+fields p Trim known = trim-element (p .objects) >>= λ t. give {A = Known} (record { object = known .object; trim = some t; extended = known .extended })
 fields p Extended known =
-    extended-object-element (allCarry (scenes (known .object))) >>= λ e. give {A = Known} (record { object = known .object; extended = some e })
+    extended-object-element (allCarry (scenes (known .object))) >>= λ e.
+    give {A = Known} (record { object = known .object; trim = known .trim; extended = some e })
 
 -- what has been read, and how many unknown elements were among it
 pub record State : Type 0 where
@@ -105,6 +114,7 @@ readKnown p back st k = do
 unfoldable pub oa-element : Programme → ℕ → State → Kind → P State
 oa-element p back st Unknown = passOver st
 oa-element p back st Object = readKnown p back st Object
+oa-element p back st Trim = readKnown p back st Trim
 oa-element p back st Extended = readKnown p back st Extended
 
 unfoldable pub oa-element-md : Programme → ℕ → State → P State

@@ -4,8 +4,10 @@ pub mod Timing
 pub mod Block
 pub mod ObjectElement
 pub mod Extended
+pub mod Trim
 pub mod Meaning
 pub mod Record
+pub mod Lengths
 pub mod Element
 pub mod Payload
 pub mod Answer

@@ -16,6 +16,7 @@ use Rattle.oamd.specs.Tables.{mostBlocks}
 use Rattle.oamd.specs.Timing.{timingOf, noUpdate}
 use Rattle.oamd.specs.ObjectElement.{ObjectElement}
 use Rattle.oamd.specs.Extended.{Extension}
+use Rattle.oamd.specs.Trim.{Trim, trimOf}
 use Rattle.oamd.specs.Record.{Record, plainRecords, extendedRecords}
 use Rattle.oamd.specs.Element.{Known, nothing, scenes, elements}
 
@@ -75,6 +76,7 @@ pub record Tables : Type 0 where
   pub programme : Programme
   pub timing : Timing
   pub records : List Record
+  pub trim : Trim
 
 -- no update without an object element
 abbrev pub noTiming : Timing
@@ -89,4 +91,9 @@ records ss none = plainRecords ss
 records ss (some e) = extendedRecords ss (e .divergence) (e .precise)
 
 unfoldable pub tables : Programme → Known → Tables
-tables p known = record { programme = p; timing = timing (known .object); records = records (scenes (known .object)) (known .extended) }
+tables p known = record {
+  programme = p;
+  timing = timing (known .object);
+  records = records (scenes (known .object)) (known .extended);
+  trim = trimOf (p .objects) (known .trim);
+}

@@ -34,6 +34,22 @@ recordStride = 24
 abbrev pub roomBytes : ℕ
 roomBytes = 30720
 
+-- NUM_TRIM_CONFIGS (000, 6.3.9.10.4)
+abbrev pub trimConfigs : ℕ
+trimConfigs = 9
+
+-- the bytes of a trim configuration in the trim table
+abbrev pub configBytes : ℕ
+configBytes = 10
+
+-- the bytes of the trim table before the flags of the objects
+abbrev pub trimFixed : ℕ
+trimFixed = 94
+
+-- the bytes of the trim table, at the most
+abbrev pub mostTrim : ℕ
+mostTrim = 253
+
 -- Table 11b, number of objects by intermediate_spatial_format_idx; 6 and 7 are reserved
 abbrev pub isfObjects : List ℕ
 isfObjects = 4 ∷ 8 ∷ 10 ∷ 14 ∷ 15 ∷ 30 ∷ []

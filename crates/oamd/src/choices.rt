@@ -23,7 +23,7 @@ pub fn both(a: bool, b: bool) -> bool
     if a { b } else { false }
 }
 
-// Known are the object element (id 1) and the extended object element (id 5), each with no alternate id or with alternate id 0.
+// Known are the object element (id 1), the trim element (id 2) and the extended object element (id 5), each with no alternate id or with alternate id 0.
 pub fn kind_of(id: u32, alternate: u32) -> Kind
     ensures { λ r. ⌜ r ≡ kind id alternate ⌝ }
 {
@@ -32,6 +32,7 @@ pub fn kind_of(id: u32, alternate: u32) -> Kind
     }
     match id {
         1 => Kind::Object,
+        2 => Kind::Trim,
         5 => Kind::Extended,
         _ => Kind::Unknown,
     }

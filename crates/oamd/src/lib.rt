@@ -201,10 +201,25 @@ pub struct Scene {
     pub snap: u8,
 }
 
+// One trim configuration, as carried; what is not carried is 0 (5.5.12).
+pub struct TrimConfig {
+    pub bydefault: u8,
+    pub disabled: u8,
+    pub presence: u8,
+    pub centre: u8,
+    pub surround: u8,
+    pub height: u8,
+    pub tbsign: u8,
+    pub tbamount: u8,
+    pub lissign: u8,
+    pub lisamount: u8,
+}
+
 // What an element is to this reader.
 pub enum Kind {
     Unknown,
     Object,
+    Trim,
     Extended,
 }
 

@@ -13,18 +13,10 @@ use Rattle.oamd.specs.declared.Scene.{Scene}
 use Rattle.oamd.specs.Tables.{recordStride}
 use Rattle.oamd.specs.Meaning.{idle, zeroDb}
 use Rattle.oamd.specs.Record.{Record, recordOf, plainRecords, recordBytesOf, bytesOf, onto}
+use Rattle.oamd.specs.Lengths.{length-record, length-bytes}
 use Rattle.oamd.specs.Extended.{noDivergence, noPrecise}
 use Rattle.reader.specs.Layout.{setFrom}
 use Rattle.reader.specs.Running.{gainAbove}
-
-pub length-record : (r : Record) → length (recordBytesOf r) ≡ recordStride
-unfolding recordBytesOf
-length-record r = refl
-
-pub length-bytes : (rs : List Record) → length (bytesOf rs) ≡ recordStride * length rs
-unfolding bytesOf
-length-bytes [] = refl
-length-bytes (r ∷ rs) = length-append (recordBytesOf r) (bytesOf rs) ∙ omega (arith, length-bytes rs, length-record r)
 
 pub bytes-append : (xs ys : List Record) → bytesOf (xs ++ ys) ≡ bytesOf xs ++ bytesOf ys
 unfolding bytesOf

@@ -16,9 +16,10 @@ use Rattle.bits.specs.View.{Reads}
 use Rattle.bits.proofs.Sticky.{Left, start, done, turned, broken, each-step, each-stop, plain}
 use Rattle.oamd.specs.Tables.{recordStride, roomBytes}
 use Rattle.oamd.specs.Record.{Record, carries, recordBytesOf, bytesOf, onto}
+use Rattle.oamd.specs.Lengths.{length-bytes}
 use Rattle.reader.specs.Layout.{setFrom}
 use Rattle.reader.specs.Steps.{put, carriers, Went, Passed, PassedIf}
-use Rattle.reader.proofs.Bytes.{length-bytes, bytes-append, byte-front}
+use Rattle.reader.proofs.Bytes.{bytes-append, byte-front}
 use Rattle.reader.proofs.ObjectLoop.{unit, length-setFrom}
 
 set-behind : (front ys : List ℕ) (k x : ℕ) → set (front ++ ys) (length front + k) x ≡ front ++ set ys k x

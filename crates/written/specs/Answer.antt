@@ -1,4 +1,5 @@
--- What a write answers, and what the lent buffer holds afterwards, for all tables, all record bytes and all buffers.
+-- What a write answers, and what the lent buffer holds afterwards, for all tables, all record bytes, all bytes of a trim table and all buffers.
+use mathlib.Core.Bool.{Bool}
 use mathlib.Core.List.{List, [], _∷_}
 use Prim.Native.Nat.{ℕ, zero, suc, _+_}
 use lib.Dec.{leb, ltb}
@@ -11,16 +12,18 @@ use Rattle.oamd.specs.declared.Timing.{Timing}
 use Rattle.oamd.specs.declared.Scene.{Scene}
 use Rattle.oamd.specs.declared.Divergence.{Divergence}
 use Rattle.oamd.specs.declared.Precise.{Precise}
+use Rattle.oamd.specs.declared.TrimConfig.{TrimConfig}
 use Rattle.oamd.specs.declared.WriteAnswer.{WriteAnswer}
-use Rattle.oamd.specs.Tables.{mostBytes, recordStride}
+use Rattle.oamd.specs.Tables.{mostBytes, recordStride, trimConfigs, configBytes, trimFixed}
 use Rattle.oamd.specs.Programme.{shares}
+use Rattle.oamd.specs.Trim.{Trim, trimNeeded}
 use Rattle.oamd.specs.Record.{Record, recordOf, onto}
 use Rattle.oamd.specs.Payload.{Tables}
 use Rattle.oamd.specs.Answer.{needed}
-use Rattle.written.specs.Valid.{_and_, programmeValid, timingValid, firstBad, recordCount}
+use Rattle.written.specs.Valid.{_and_, programmeValid, timingValid, firstBad, trimValid, recordCount}
 use Rattle.written.specs.Form.{form}
 
--- ---- the tables of a programme, a timing and record bytes
+-- ---- the tables of a programme, a timing, record bytes and the bytes of a trim table
 
 -- bytes 0 to 16 of the record that begins at a byte
 unfoldable pub sceneAt : List ℕ → ℕ → Scene
@@ -52,8 +55,44 @@ unfoldable pub recordsAt : List ℕ → ℕ → ℕ → List Record
 recordsAt s zero at = []
 recordsAt s (suc n) at = recordAt s at ∷ recordsAt s n (at + recordStride)
 
-abbrev pub tablesOf : Programme → Timing → List ℕ → Tables
-tablesOf p t s = record { programme = p; timing = t; records = recordsAt s (recordCount p t) 0 }
+-- the trim configuration that begins at a byte
+unfoldable pub configAt : List ℕ → ℕ → TrimConfig
+configAt s at = record {
+  bydefault = getD s at 0;
+  disabled = getD s (at + 1) 0;
+  presence = getD s (at + 2) 0;
+  centre = getD s (at + 3) 0;
+  surround = getD s (at + 4) 0;
+  height = getD s (at + 5) 0;
+  tbsign = getD s (at + 6) 0;
+  tbamount = getD s (at + 7) 0;
+  lissign = getD s (at + 8) 0;
+  lisamount = getD s (at + 9) 0;
+}
+
+-- n of them
+unfoldable pub configsAt : List ℕ → ℕ → ℕ → List TrimConfig
+configsAt s zero at = []
+configsAt s (suc n) at = configAt s at ∷ configsAt s n (at + configBytes)
+
+-- n bytes, from a byte on
+unfoldable pub bytesAt : List ℕ → ℕ → ℕ → List ℕ
+bytesAt s zero at = []
+bytesAt s (suc n) at = getD s at 0 ∷ bytesAt s n (at + 1)
+
+-- the trim table of so many objects
+unfoldable pub trimAt : ℕ → List ℕ → Trim
+trimAt objects s = record {
+  present = getD s 0 0;
+  warp = getD s 1 0;
+  mode = getD s 2 0;
+  configs = configsAt s trimConfigs 3;
+  per-object = getD s 93 0;
+  disabled = bytesAt s objects trimFixed;
+}
+
+abbrev pub tablesOf : Programme → Timing → List ℕ → List ℕ → Tables
+tablesOf p t s x = record { programme = p; timing = t; records = recordsAt s (recordCount p t) 0; trim = trimAt (p .objects) x }
 
 -- ---- the answer
 
@@ -78,13 +117,20 @@ unfoldable pub fitted : List ℕ → List ℕ → Written
 fitted out payload =
     pick (leb (length payload) (length out) and leb (length payload) mostBytes) (writtenTo out payload) (refusedTo out (numberOf NoFit) (length payload))
 
--- the records, before the room
-unfoldable pub judged : List ℕ → Tables → ℕ → Written
-judged out t bad = pick (ltb bad (recordCount (t .programme) (t .timing))) (refusedTo out (numberOf NotValid) (1 + bad)) (fitted out (form t))
+-- the trim table, before the room: there is all of it, and it is valid
+unfoldable pub trimmed : List ℕ → Tables → Bool → Written
+trimmed out t whole =
+    pick (whole and trimValid (t .programme .objects) (t .trim)) (fitted out (form t))
+    (refusedTo out (numberOf NotValid) (1 + recordCount (t .programme) (t .timing)))
 
--- programme, timing and how many record bytes there are, first of all
-unfoldable pub writing : Programme → Timing → List ℕ → List ℕ → Written
-writing p t s out =
-    pick (programmeValid p and timingValid t and leb (needed (tablesOf p t s)) (length s))
-    (judged out (tablesOf p t s) (firstBad (shares p) (t .blocks) 0 (recordsAt s (recordCount p t) 0)))
+-- the records, before the trim table
+unfoldable pub judged : List ℕ → Tables → ℕ → Bool → Written
+judged out t bad whole =
+    pick (ltb bad (recordCount (t .programme) (t .timing))) (refusedTo out (numberOf NotValid) (1 + bad)) (trimmed out t whole)
+
+-- programme, timing and how many record bytes there are, first of all; s are the record bytes, x those of the trim table
+unfoldable pub writing : Programme → Timing → List ℕ → List ℕ → List ℕ → Written
+writing p t s x out =
+    pick (programmeValid p and timingValid t and leb (needed (tablesOf p t s x)) (length s))
+    (judged out (tablesOf p t s x) (firstBad (shares p) (t .blocks) 0 (recordsAt s (recordCount p t) 0)) (leb (trimNeeded (p .objects)) (length x)))
     (refusedTo out (numberOf NotValid) 0)

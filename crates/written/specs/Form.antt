@@ -22,8 +22,10 @@ use Rattle.oamd.specs.declared.Screen.{Screen}
 use Rattle.oamd.specs.declared.Scene.{Scene}
 use Rattle.oamd.specs.declared.Divergence.{Divergence}
 use Rattle.oamd.specs.declared.Precise.{Precise}
+use Rattle.oamd.specs.declared.TrimConfig.{TrimConfig}
 use Rattle.oamd.specs.Programme.{set?, clear?, hasBeds, hasIsf, hasDynamic}
 use Rattle.oamd.specs.Extended.{hasX, hasY, hasZ}
+use Rattle.oamd.specs.Trim.{hasCentre, hasSurround, hasHeight, hasTb, hasLis, Trim}
 use Rattle.oamd.specs.Record.{Record, carries}
 use Rattle.oamd.specs.Payload.{Tables}
 use Rattle.written.specs.Valid.{sampleOffset}
@@ -185,6 +187,29 @@ extendedElementBits rs =
     ++ (toBits 1 (asFlag (any refines rs))
     ++ only (any refines rs) (eachBits (λ i r. preciseBits (carries (r .scene)) (r .precise)) 0 rs)))
 
+-- ---- 5.5.12: the trim element
+
+unfoldable pub configBits : TrimConfig → List ℕ
+configBits c =
+    toBits 1 (c .bydefault)
+    ++ (only (clear? (c .bydefault)) (toBits 1 (c .disabled))
+    ++ (only (both (clear? (c .bydefault)) (clear? (c .disabled))) (toBits 5 (c .presence))
+    ++ (only (hasCentre (c .presence)) (toBits 4 (c .centre))
+    ++ (only (hasSurround (c .presence)) (toBits 4 (c .surround))
+    ++ (only (hasHeight (c .presence)) (toBits 4 (c .height))
+    ++ (only (hasTb (c .presence)) (toBits 1 (c .tbsign))
+    ++ (only (hasTb (c .presence)) (toBits 4 (c .tbamount))
+    ++ (only (hasLis (c .presence)) (toBits 1 (c .lissign)) ++ only (hasLis (c .presence)) (toBits 4 (c .lisamount))))))))))
+
+-- the two reserved bits are 0
+unfoldable pub trimElementBits : Trim → List ℕ
+trimElementBits t =
+    toBits 2 (t .warp)
+    ++ (toBits 2 0
+    ++ (toBits 2 (t .mode)
+    ++ (only (eqb (t .mode) 2) (eachBits (λ cfg c. configBits c) 0 (t .configs))
+    ++ (toBits 1 (t .per-object) ++ only (set? (t .per-object)) (eachBits (λ obj x. toBits 1 x) 0 (t .disabled))))))
+
 -- ---- 5.5.1 and 5.5.4: elements
 
 unfoldable pub groupBits : ℕ → ℕ → List ℕ
@@ -218,12 +243,17 @@ hasObject t = ltb 0 (t .timing .blocks)
 unfoldable pub hasExtended : List Record → Bool
 hasExtended rs = pick (any diverges rs) true (any refines rs)
 
+-- a trim element if the trim table has it
+abbrev pub hasTrim : Trim → Bool
+hasTrim t = set? (t .present)
+
 unfoldable pub formBits : Tables → List ℕ
 formBits t =
     headerBits (t .programme)
-    ++ (toBits 4 (asFlag (hasObject t) + asFlag (hasExtended (t .records)))
+    ++ (toBits 4 (asFlag (hasObject t) + asFlag (hasExtended (t .records)) + asFlag (hasTrim (t .trim)))
     ++ (only (hasObject t) (elementBits 1 (objectElementBits t))
-    ++ only (hasExtended (t .records)) (elementBits 5 (extendedElementBits (t .records)))))
+    ++ (only (hasExtended (t .records)) (elementBits 5 (extendedElementBits (t .records)))
+    ++ only (hasTrim (t .trim)) (elementBits 2 (trimElementBits (t .trim))))))
 
 unfoldable pub form : Tables → List ℕ
 form t = toBytes (formBits t)

@@ -1,5 +1,5 @@
--- Every valid programme and timing are given by some accepted payload: that of the same programme and timing with no object active in any block,
--- which is always short enough.
+-- Every valid programme and timing are given by some accepted payload: that of the same programme and timing with no object active in any block
+-- and no trim element, which is always short enough.
 use mathlib.Core.Path.{_≡_, refl, ap}
 use mathlib.Core.Bool.{true, false}
 use mathlib.Core.List.{List, [], _∷_}
@@ -17,6 +17,7 @@ use Rattle.oamd.specs.declared.Shares.{Shares}
 use Rattle.oamd.specs.Tables.{mostBytes, mostObjects, mostBlocks}
 use Rattle.oamd.specs.Programme.{shares, classOf}
 use Rattle.oamd.specs.Extended.{noDivergence, noPrecise}
+use Rattle.oamd.specs.Trim.{noTrim}
 use Rattle.oamd.specs.Meaning.{idle}
 use Rattle.oamd.specs.Record.{Record, recordOf}
 use Rattle.oamd.specs.Payload.{Payload, object-audio-metadata-payload, Tables, tables}
@@ -28,6 +29,7 @@ use Rattle.written.specs.Lemmas.ProgrammeBack.{programme-facts, beds-le}
 use Rattle.written.specs.Lemmas.TimingBack.{timing-facts, sent-long}
 use Rattle.written.specs.Lemmas.ObjectsBack.{ValidFrom}
 use Rattle.written.specs.Lemmas.AcceptedRecords.{no-bad}
+use Rattle.written.specs.Lemmas.AcceptedTrim.{no-trim-valid}
 use Rattle.written.specs.Lemmas.Lengths.{Short, also, bits-short, if-sent, at-most, header-short, timing-short, Small, objects-short, element-short}
 use Rattle.written.specs.RoundTrip.{round-trip}
 
@@ -39,7 +41,7 @@ idleRecords s blocks i zero = []
 idleRecords s blocks i (suc n) = recordOf (idle (classOf s (i / blocks))) noDivergence noPrecise ∷ idleRecords s blocks (suc i) n
 
 abbrev idleTables : Programme → Timing → Tables
-idleTables p t = record { programme = p; timing = t; records = idleRecords (shares p) (t .blocks) 0 (recordCount p t) }
+idleTables p t = record { programme = p; timing = t; records = idleRecords (shares p) (t .blocks) 0 (recordCount p t); trim = noTrim (p .objects) }
 
 idle-valid : (class : ℕ) → recordValid class (recordOf (idle class) noDivergence noPrecise) ≡ true
 unfolding recordValid sceneValid placeValid volumeValid zoneValid screenValid divergenceValid preciseValid ranged
@@ -60,7 +62,7 @@ tables-valid p t v w =
     let n : ℕ = recordCount p t in
     let c = idle-count (shares p) (t .blocks) 0 n in
     let b = no-bad (shares p) (t .blocks) 0 (idleRecords (shares p) (t .blocks) 0 n) (all-idle (shares p) (t .blocks) 0 n) in
-    record { programme = v; timing = w; count = c; records = omega arith }
+    record { programme = v; timing = w; count = c; records = omega arith; trim = no-trim-valid (p .objects) }
 
 -- ---- their form is short
 
@@ -109,7 +111,7 @@ module _ (p : Programme) (t : Timing) (v : programmeValid p ≡ true) (w : timin
       let all : Short (formBits (idleTables p t)) 3300 =
       rw (no-extension (shares p) (t .blocks) 0 (recordCount p t))
       (at-most 3300 (also (header-short p) (also (bits-short 4 _) (also (if-sent (hasObject (idleTables p t)) (element-short 1 _ 2800 object-short))
-      (none-short)))) (omega arith)) in
+      (also none-short none-short)))) (omega arith)) in
       let n = length-toBytes (formBits (idleTables p t)) in
       let m = all .most in
       omega arith

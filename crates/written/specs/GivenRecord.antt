@@ -13,32 +13,40 @@ use Rattle.oamd.specs.declared.Timing.{Timing}
 use Rattle.oamd.specs.Tables.{mostBytes, mostBeds, mostBlocks}
 use Rattle.oamd.specs.Programme.{noBed, labels, bedObjects, allBeds, named, agrees, shares, classOf}
 use Rattle.oamd.specs.Timing.{noUpdate}
+use Rattle.oamd.specs.Trim.{noTrim}
 use Rattle.oamd.specs.Record.{Record}
 use Rattle.oamd.specs.Payload.{Payload, object-audio-metadata-payload, Tables, tables}
 use Rattle.written.specs.Valid.{ranged, bedValid, entriesValid, programmeValid, sampleOffset, updateValid, timingValid, recordValid, Valid}
-use Rattle.written.specs.Form.{hasObject, hasExtended, formBits, form}
+use Rattle.written.specs.Form.{hasObject, hasExtended, hasTrim, formBits, form}
 use Rattle.written.specs.Lemmas.Facts.{by-eq}
 use Rattle.written.specs.Lemmas.ProgrammeBack.{programme-facts, beds-le}
 use Rattle.written.specs.Lemmas.TimingBack.{timing-facts, sent-long}
+use Rattle.written.specs.Lemmas.TrimBack.{trim-facts}
 use Rattle.written.specs.Lemmas.AcceptedRecords.{no-bad}
-use Rattle.written.specs.Lemmas.Lengths.{Short, also, bits-short, if-sent, at-most, header-short, object-element-short, extended-element-short, element-short}
+use Rattle.written.specs.Lemmas.AcceptedTrim.{no-trim-valid}
+use Rattle.written.specs.Lemmas.Lengths.{Short, also, bits-short, if-sent, at-most, header-short, object-element-short, extended-element-short, trim-element-short, element-short}
 use Rattle.written.specs.RoundTrip.{round-trip}
 use Rattle.written.specs.Given.{idleRecords, all-idle, idle-count}
 
--- the form of up to 328 records is always short enough
-pub few-fit : (t : Tables) → Valid t → length (t .records) ≤ 328 → length (form t) ≤ mostBytes
+-- the form of up to 323 records, with any trim element, is always short enough
+pub few-fit : (t : Tables) → Valid t → length (t .records) ≤ 323 → length (form t) ≤ mostBytes
 unfolding form formBits
 few-fit t v few =
     let pf = programme-facts (t .programme) (v .programme) in
     let tf = timing-facts (t .timing) (v .timing) in
+    let xf = trim-facts (t .programme .objects) (t .trim) (v .trim) in
     let nine = pf .nine in
+    let objects = pf .objects .on refl .1 in
+    let configs = xf .nine in
+    let flags = xf .flags in
     let blocks = tf .blocks in
     let a = length-take-le (t .programme .bedcount) (t .programme .beds) (beds-le (t .programme) pf) in
     let b = beds-le (t .programme) pf in
     let c = sent-long (t .timing) tf in
     let all : Short (formBits t) 32768 =
     at-most 32768 (also (header-short (t .programme)) (also (bits-short 4 _) (also (if-sent (hasObject t) (element-short 1 _ _ (object-element-short t)))
-    (if-sent (hasExtended (t .records)) (element-short 5 _ _ (extended-element-short (t .records))))))) (omega arith) in
+    (also (if-sent (hasExtended (t .records)) (element-short 5 _ _ (extended-element-short (t .records))))
+    (if-sent (hasTrim (t .trim)) (element-short 2 _ _ (trim-element-short (t .trim)))))))) (omega arith) in
     let n = length-toBytes (formBits t) in
     let m = all .most in
     omega arith
@@ -113,7 +121,7 @@ pub record RecordGivenBy (r : Record) : Type 0 where
   pub records : tables (payload .programme) (payload .known) .records ≡ r ∷ others
 
 -- valid tables of few records are given
-from-tables : (t : Tables) (r : Record) (others : List Record) → Valid t → length (t .records) ≤ 328 → t .records ≡ r ∷ others → RecordGivenBy r
+from-tables : (t : Tables) (r : Record) (others : List Record) → Valid t → length (t .records) ≤ 323 → t .records ≡ r ∷ others → RecordGivenBy r
 from-tables t r others v few e =
     let a = round-trip t v in
     record {
@@ -136,5 +144,5 @@ record-given class r low good =
     let n : length (r ∷ others) ≡ p .objects * 1 = (let c = idle-count (shares p) 1 1 (p .objects - 1) in omega arith) in
     let g : recordValid (classOf (shares p) (0 / 1)) r ≡ true = rw (f .first) good in
     let b = no-bad (shares p) 1 0 (r ∷ others) (g, all-idle (shares p) 1 1 (p .objects - 1)) in
-    from-tables (record { programme = p; timing = oneBlock; records = r ∷ others }) r others
-    (record { programme = f .valid; timing = one-block-valid; count = n; records = omega arith }) (omega arith) refl
+    from-tables (record { programme = p; timing = oneBlock; records = r ∷ others; trim = noTrim (p .objects) }) r others
+    (record { programme = f .valid; timing = one-block-valid; count = n; records = omega arith; trim = no-trim-valid (p .objects) }) (omega arith) refl

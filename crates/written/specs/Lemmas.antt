@@ -8,11 +8,14 @@ pub mod TimingBack
 pub mod BlockBack
 pub mod ObjectsBack
 pub mod ExtendedBack
+pub mod TrimBack
+pub mod TableBytes
 pub mod ElementBack
 pub mod AcceptedProgramme
 pub mod AcceptedTiming
 pub mod AcceptedBlock
 pub mod AcceptedScenes
 pub mod AcceptedRecords
+pub mod AcceptedTrim
 pub mod Lengths
 pub mod FewestCodes

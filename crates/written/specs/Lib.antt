@@ -9,7 +9,9 @@ pub mod Accepted
 pub mod ReadWrite
 pub mod Given
 pub mod GivenRecord
+pub mod GivenTrim
 pub mod Fewest
 pub mod FewestFrames
 pub mod FewestExtended
+pub mod FewestTrim
 pub mod Unique

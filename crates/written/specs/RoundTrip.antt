@@ -2,33 +2,37 @@
 use mathlib.Core.Path.{_≡_, refl, sym, ap, _∙_, subst}
 use mathlib.Core.Bool.{false}
 use mathlib.Core.List.{List, [], _∷_, map}
-use mathlib.Core.Option.{none, some}
-use Prim.Native.Nat.{ℕ, _*_, _≤_, _<_}
+use mathlib.Core.Option.{Option, none, some}
+use Prim.Native.Nat.{ℕ, suc, _+_, _*_, _≤_, _<_}
 use native.Mathlib.Omega.{arith}
 use native.Mathlib.Nat.{zero-mul, mul-zero, mul-le-mul}
 use lib.ListN.{length}
-use borrow.Author.Tests.{le-leb, ltb-true, ltb-false}
-use Rattle.bits.specs.Language.{ok, bits, run, bit, from, for, pastPayload}
-use Rattle.bits.specs.Writes.{eachBits, Writes, w-give, w-bits, w-bind, w-end, w-each}
+use borrow.Author.Tests.{ne-eqb, le-leb, ltb-true, ltb-false}
+use Rattle.bits.specs.Language.{ok, run, bit, from, for, pastPayload}
+use Rattle.bits.specs.Writes.{toBits, only, eachBits, Writes, w-give, w-bits, w-bind, w-end, w-is, w-each}
 use Rattle.bits.specs.Bytes.{from-bytes}
 use Rattle.oamd.specs.declared.Scene.{Scene}
-use Rattle.oamd.specs.declared.Kind.the-variants.{Object, Extended}
+use Rattle.oamd.specs.declared.Kind.the-variants.{Object, Trim, Extended}
 use Rattle.oamd.specs.Tables.{mostBytes, mostObjects, mostBlocks}
 use Rattle.oamd.specs.Programme.{shares, classOf}
 use Rattle.oamd.specs.ObjectElement.{object-data, ObjectElement, object-element}
+use Rattle.oamd.specs.Extended.{Extension}
+use Rattle.oamd.specs.Trim.{trimNeeded}
 use Rattle.oamd.specs.Record.{Record, plainRecords, extendedRecords}
 use Rattle.oamd.specs.Element.{kind, Known, nothing, scenes, fields, State, readKnown, oa-element, oa-element-md, elements}
 use Rattle.oamd.specs.Payload.{oa-element-count, Payload, object-audio-metadata-payload, Tables, timing, records, tables}
 use Rattle.oamd.specs.Answer.{accepted, needed, housed, reading}
 use Rattle.written.specs.Valid.{recordCount, Valid}
-use Rattle.written.specs.Form.{byObject, objectDataBits, objectElementBits, extendedElementBits, elementBits, any, hasObject, hasExtended, formBits, form}
+use Rattle.written.specs.Coded.{asFlag}
+use Rattle.written.specs.Form.{byObject, objectDataBits, objectElementBits, extendedElementBits, trimElementBits, elementBits, any, hasObject, hasExtended, hasTrim, formBits, form}
 use Rattle.written.specs.Lemmas.Facts.{by-test}
 use Rattle.written.specs.Lemmas.ProgrammeBack.{ProgrammeFacts, programme-facts, header-written}
 use Rattle.written.specs.Lemmas.TimingBack.{TimingFacts, timing-facts, codedTiming, sent-long, coded-long, timing-written, timing-means, no-blocks-mean}
 use Rattle.written.specs.Lemmas.ObjectsBack.{ValidFrom, none-bad, codedObject, objects-write, objects-mean}
-use Rattle.written.specs.Lemmas.ExtendedBack.{all-carried, codedExtension, extended-writes, extended-means, plain-means}
+use Rattle.written.specs.Lemmas.ExtendedBack.{flag-lt, all-carried, codedExtension, extended-writes, extended-means, plain-means}
+use Rattle.written.specs.Lemmas.TrimBack.{TrimFacts, trim-facts, trim-writes, carriedTrim, trim-means}
 use Rattle.written.specs.Lemmas.ElementBack.{element-writes}
-use Rattle.written.specs.Lemmas.Lengths.{object-element-short, extended-element-short}
+use Rattle.written.specs.Lemmas.Lengths.{object-element-short, extended-element-short, trim-element-short}
 
 -- what is read of an object element
 abbrev pub codedElement : Tables → ObjectElement
@@ -40,6 +44,9 @@ module _ (t : Tables) (v : Valid t) where
 
   t-facts : TimingFacts (t .timing)
   t-facts = timing-facts (t .timing) (v .timing)
+
+  x-facts : TrimFacts (t .programme .objects) (t .trim)
+  x-facts = trim-facts (t .programme .objects) (t .trim) (v .trim)
 
   all-good : ValidFrom (shares (t .programme)) (t .timing .blocks) 0 (t .records)
   all-good =
@@ -71,11 +78,19 @@ module _ (t : Tables) (v : Valid t) where
 
   -- ---- 5.5.4
 
+  -- the elements before the trim element
+  abbrev untrimmed : Option ObjectElement → Option Extension → Known
+  untrimmed o x = record { object = o; trim = none; extended = x }
+
   abbrev plain : Known
-  plain = record { object = some (codedElement t); extended = none }
+  plain = untrimmed (some (codedElement t)) none
 
   abbrev whole : Known
-  whole = record { object = some (codedElement t); extended = some (codedExtension (t .records)) }
+  whole = untrimmed (some (codedElement t)) (some (codedExtension (t .records)))
+
+  -- and the trim element, if there is one
+  abbrev complete : Known → Known
+  complete known = record { object = known .object; trim = carriedTrim (t .trim); extended = known .extended }
 
   -- what has been read, with no unknown element among it
   abbrev so-far : Known → State
@@ -102,6 +117,14 @@ module _ (t : Tables) (v : Valid t) where
       let n = few-records in
       omega arith
 
+  third-fits : length (trimElementBits (t .trim)) < 559231
+  third-fits =
+      let s = trim-element-short (t .trim) .most in
+      let c = x-facts .nine in
+      let d = x-facts .flags in
+      let o = p-facts .objects .on refl .1 in
+      omega arith
+
   first-written : 1 ≤ t .timing .blocks
       → Writes (oa-element-md (t .programme) 0 (so-far nothing)) (elementBits 1 (objectElementBits t)) (so-far plain)
   unfolding oa-element-md oa-element readKnown fields kind
@@ -115,6 +138,21 @@ module _ (t : Tables) (v : Valid t) where
       let x = extended-writes (t .records) (all-carried (shares (t .programme)) (t .timing .blocks) 0 (t .records) all-good) in
       element-writes (λ k size. oa-element (t .programme) _ (so-far plain) k) 5 (extendedElementBits (t .records)) (so-far whole) (omega arith) second-fits
       (λ size. w-bind (w-give Extended) (w-bind (w-give Extended) (w-end (w-end (rw scenes-back x) (w-give _)) (w-give _))))
+
+  -- the trim element, if there is one, behind whatever other elements
+  third-written : (o : Option ObjectElement) (x : Option Extension)
+      → Writes (elements (t .programme) 0 (asFlag (hasTrim (t .trim))) (so-far (untrimmed o x)))
+      (only (hasTrim (t .trim)) (elementBits 2 (trimElementBits (t .trim)))) (so-far (complete (untrimmed o x)))
+  unfolding elements oa-element-md oa-element readKnown fields kind
+  third-written o x = by-test (hasTrim (t .trim))
+      (λ q.
+      let after : State = so-far (record { object = o; trim = some (t .trim); extended = x }) in
+      let one : Writes (oa-element-md (t .programme) 0 (so-far (untrimmed o x))) (elementBits 2 (trimElementBits (t .trim))) after =
+      element-writes (λ k size. oa-element (t .programme) _ (so-far (untrimmed o x)) k) 2 (trimElementBits (t .trim)) after (omega arith) third-fits
+      (λ size. w-bind (w-give Trim) (w-bind (w-give Trim)
+      (w-end (w-end (trim-writes (t .programme .objects) (t .trim) x-facts q) (w-give _)) (w-give _)))) in
+      rw q (w-end one (w-give after)))
+      (λ q. rw q (w-give (so-far (untrimmed o x))))
 
   -- ---- 5.5.2
 
@@ -135,46 +173,68 @@ module _ (t : Tables) (v : Valid t) where
       empty [] h = refl
       empty (r ∷ rs) h = absurd (omega arith)
 
+  -- a count of elements that needs no more than 4 bits
+  count-written : (n : ℕ) → n < 15 → Writes oa-element-count (toBits 4 n) n
+  unfolding oa-element-count
+  count-written n l =
+      let e : n + 0 ≡ n = omega arith in
+      w-is e (w-end (w-bits 4 n (omega arith)) (rw (ne-eqb n 15 (λ q. omega arith)) (w-bind (w-give 0) (w-give _))))
+
   payload-written : Written
-  unfolding formBits object-audio-metadata-payload oa-element-count elements tables records scenes timing plainRecords hasExtended any
+  unfolding formBits object-audio-metadata-payload elements tables records scenes timing plainRecords hasExtended any
   payload-written =
       let head = header-written (t .programme) p-facts in
       let time = timing-means (t .timing) t-facts in
+      let trim = trim-means (t .programme .objects) (t .trim) x-facts in
+      let last : ℕ = asFlag (hasTrim (t .trim)) in
+      let few : last < 2 = flag-lt (hasTrim (t .trim)) in
       let held = all-carried (shares (t .programme)) (t .timing .blocks) 0 (t .records) all-good in
       by-test (hasObject t)
       (λ o.
       let some-block = ltb-true 0 (t .timing .blocks) o in
       let first = first-written some-block in
       by-test (hasExtended (t .records))
-      (λ x. record {
-        known = whole;
-        writes = rw (o, x) (w-bind head (w-bind (w-end (w-bits 4 2 (omega arith)) (w-bind (w-give 0) (w-give _)))
-            (w-end (w-bind first (w-end second-written (w-give _))) (w-give _))));
+      (λ x.
+      let e : 1 + 1 + last ≡ suc (suc last) = omega arith in
+      record {
+        known = complete whole;
+        writes = rw (o, x) (w-bind head (w-bind (count-written (1 + 1 + last) (omega arith))
+            (w-end (rw e (w-bind first (w-bind second-written (third-written _ _)))) (w-give _))));
         same = λ i. record {
           programme = t .programme;
           timing = time i;
           records = (ap (λ (ss : List Scene). extendedRecords ss (codedExtension (t .records) .divergence)
               (codedExtension (t .records) .precise)) scenes-back ∙ extended-means (t .records)) i;
+          trim = trim i;
         };
       })
-      (λ x. record {
-        known = plain;
-        writes = rw (o, x) (w-bind head (w-bind (w-end (w-bits 4 1 (omega arith)) (w-bind (w-give 0) (w-give _)))
-            (w-end (w-bind first (w-give _)) (w-give _))));
+      (λ x.
+      let e : 1 + 0 + last ≡ suc last = omega arith in
+      record {
+        known = complete plain;
+        writes = rw (o, x) (w-bind head (w-bind (count-written (1 + 0 + last) (omega arith))
+            (w-end (rw e (w-bind first (third-written _ _))) (w-give _))));
         same = λ i. record {
           programme = t .programme;
           timing = time i;
           records = (ap plainRecords scenes-back ∙ plain-means (t .records) held x) i;
+          trim = trim i;
         };
       }))
       (λ o.
       let none-left = no-records o in
       let x : hasExtended (t .records) ≡ false = ap hasExtended none-left in
       let b : t .timing .blocks ≡ 0 = (let z = ltb-false 0 (t .timing .blocks) o in omega arith) in
+      let e : 0 + 0 + last ≡ last = omega arith in
       record {
-        known = nothing;
-        writes = rw (o, x) (w-bind head (w-bind (w-end (w-bits 4 0 (omega arith)) (w-bind (w-give 0) (w-give _))) (w-end (w-give (so-far nothing)) (w-give _))));
-        same = λ i. record { programme = t .programme; timing = no-blocks-mean (t .timing) t-facts b i; records = sym none-left i };
+        known = complete nothing;
+        writes = rw (o, x) (w-bind head (w-bind (count-written (0 + 0 + last) (omega arith)) (w-end (rw e (third-written none none)) (w-give _))));
+        same = λ i. record {
+          programme = t .programme;
+          timing = no-blocks-mean (t .timing) t-facts b i;
+          records = sym none-left i;
+          trim = trim i;
+        };
       })
 
 -- ---- the statements
@@ -200,11 +260,18 @@ round-trip t v =
       unknown = refl;
     }
 
--- and a read is accepted with these tables, where a payload can have that length and the buffer has the room for their records
-pub reads-back : (t : Tables) (buffer : List ℕ) → Valid t → length (form t) ≤ mostBytes → needed t ≤ length buffer
-    → reading (form t) buffer ≡ accepted buffer t 0
+-- and a read is accepted with these tables, where a payload can have that length and the buffers have the room for their records and their trim table
+pub reads-back : (t : Tables) (buffer trim : List ℕ) → Valid t → length (form t) ≤ mostBytes → needed t ≤ length buffer
+    → trimNeeded (t .programme .objects) ≤ length trim → reading (form t) buffer trim ≡ accepted buffer trim t 0
 unfolding reading housed
-reads-back t buffer v l room =
+reads-back t buffer trim v l room trim-room =
     let r = round-trip t v in
     let e = r .same in
-    rw (le-leb (length (form t)) mostBytes l, r .reads, r .unknown, e, le-leb (needed t) (length buffer) room) refl
+    rw (
+      le-leb (length (form t)) mostBytes l,
+      r .reads,
+      r .unknown,
+      e,
+      le-leb (needed t) (length buffer) room,
+      le-leb (trimNeeded (t .programme .objects)) (length trim) trim-room,
+    ) refl

@@ -7,8 +7,8 @@ use Rattle.oamd.specs.declared.Timing.{Timing}
 use Rattle.oamd.specs.declared.WriteAnswer.{WriteAnswer}
 use Rattle.written.specs.Answer.{Written, writing}
 
--- What `write` ensures is `record { answer = r; out = b } ≡ writing p t s out`: two answers, each with the buffer behind it, that both meet it are equal.
-pub one-write : (p : Programme) (t : Timing) (s out : List ℕ) (r r' : WriteAnswer) (b b' : List ℕ)
-    → _≡_ {A = Written} (record { answer = r; out = b }) (writing p t s out) → _≡_ {A = Written} (record { answer = r'; out = b' }) (writing p t s out)
+-- What `write` ensures is `record { answer = r; out = b } ≡ writing p t s x out`: two answers, each with the buffer behind it, that both meet it are equal.
+pub one-write : (p : Programme) (t : Timing) (s x out : List ℕ) (r r' : WriteAnswer) (b b' : List ℕ)
+    → _≡_ {A = Written} (record { answer = r; out = b }) (writing p t s x out) → _≡_ {A = Written} (record { answer = r'; out = b' }) (writing p t s x out)
     → (r ≡ r') × (b ≡ b')
-one-write p t s out r r' b b' h h' = (ap (λ (w : Written). w .answer) (h ∙ sym h'), ap (λ (w : Written). w .out) (h ∙ sym h'))
+one-write p t s x out r r' b b' h h' = (ap (λ (w : Written). w .answer) (h ∙ sym h'), ap (λ (w : Written). w .out) (h ∙ sym h'))

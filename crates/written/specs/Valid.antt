@@ -1,5 +1,6 @@
--- Valid tables (document 01, "The written form"): programme and timing such as some accepted payload gives, the reserved content flag clear; and
--- each record, by its own bytes and its class, such as some payload gives it. What is not carried, and an entry that is not used, is 0.
+-- Valid tables (document 01, "The written form"): programme and timing such as some accepted payload gives, the reserved content flag clear; each
+-- record, by its own bytes and its class, such as some payload gives it; and the trim table (document 02, item 1) such as some payload with that
+-- programme gives it. What is not carried, and an entry that is not used, is 0.
 use mathlib.Core.Path.{_≡_}
 use mathlib.Core.Bool.{Bool, true, not}
 use mathlib.Core.List.{List, [], _∷_}
@@ -19,10 +20,12 @@ use Rattle.oamd.specs.declared.Screen.{Screen}
 use Rattle.oamd.specs.declared.Scene.{Scene}
 use Rattle.oamd.specs.declared.Divergence.{Divergence}
 use Rattle.oamd.specs.declared.Precise.{Precise}
-use Rattle.oamd.specs.Tables.{mostObjects, mostBlocks, mostBeds}
+use Rattle.oamd.specs.declared.TrimConfig.{TrimConfig}
+use Rattle.oamd.specs.Tables.{mostObjects, mostBlocks, mostBeds, trimConfigs}
 use Rattle.oamd.specs.Programme.{set?, clear?, hasBeds, hasIsf, hasDynamic, hasReserved, bedInstances, agrees, shares, classOf}
 use Rattle.oamd.specs.Meaning.{zeroDb, zeroZ}
 use Rattle.oamd.specs.Extended.{hasX, hasY, hasZ}
+use Rattle.oamd.specs.Trim.{hasCentre, hasSurround, hasHeight, hasTb, hasLis, Trim}
 use Rattle.oamd.specs.Record.{Record, carries}
 use Rattle.oamd.specs.Payload.{Tables}
 
@@ -153,6 +156,34 @@ unfoldable pub firstBad : Shares → ℕ → ℕ → List Record → ℕ
 firstBad s blocks i [] = i
 firstBad s blocks i (r ∷ rs) = pick (recordValid (classOf s (i / blocks)) r) (firstBad s blocks (suc i) rs) i
 
+-- ---- the trim table (5.5.12)
+
+-- a configuration, by whether it is sent
+unfoldable pub configValid : Bool → TrimConfig → Bool
+configValid sent c =
+    ranged sent 0 1 0 (c .bydefault)
+    and ranged (sent and clear? (c .bydefault)) 0 1 0 (c .disabled)
+    and ranged (sent and clear? (c .bydefault) and clear? (c .disabled)) 0 31 0 (c .presence)
+    and ranged (hasCentre (c .presence)) 0 15 0 (c .centre)
+    and ranged (hasSurround (c .presence)) 4 15 0 (c .surround)
+    and ranged (hasHeight (c .presence)) 4 15 0 (c .height)
+    and ranged (hasTb (c .presence)) 0 1 0 (c .tbsign)
+    and ranged (hasTb (c .presence)) 0 15 0 (c .tbamount)
+    and ranged (hasLis (c .presence)) 0 1 0 (c .lissign)
+    and ranged (hasLis (c .presence)) 0 15 0 (c .lisamount)
+
+-- of so many objects
+unfoldable pub trimValid : ℕ → Trim → Bool
+trimValid objects t =
+    ranged true 0 1 0 (t .present)
+    and ranged (set? (t .present)) 0 1 0 (t .warp)
+    and ranged (set? (t .present)) 0 2 0 (t .mode)
+    and eqb (length (t .configs)) trimConfigs
+    and entriesValid configValid (pick (eqb (t .mode) 2) trimConfigs 0) (t .configs)
+    and ranged (set? (t .present)) 0 1 0 (t .per-object)
+    and eqb (length (t .disabled)) objects
+    and entriesValid (λ used x. ranged used 0 1 0 x) (pick (set? (t .per-object)) objects 0) (t .disabled)
+
 -- ---- the tables
 
 -- the records that a programme and a timing ask for
@@ -164,3 +195,4 @@ pub record Valid (t : Tables) : Type 0 where
   pub timing : timingValid (t .timing) ≡ true
   pub count : length (t .records) ≡ recordCount (t .programme) (t .timing)
   pub records : firstBad (shares (t .programme)) (t .timing .blocks) 0 (t .records) ≡ recordCount (t .programme) (t .timing)
+  pub trim : trimValid (t .programme .objects) (t .trim) ≡ true

@@ -2,11 +2,13 @@
 use mathlib.Core.Path.{_≡_, refl, sym, ap, _∙_}
 use mathlib.Core.Bool.{Bool, true, false}
 use Prim.Native.Nat.{ℕ}
-use Rattle.bits.specs.Language.{ok, Bits, run, refuseIf}
+use Rattle.bits.specs.Language.{ok, Bits, P, run, refuseIf}
 use Rattle.bits.specs.Steps.{no-ok, bind-ok, give-ok, bind-is, give-is}
 use Rattle.oamd.specs.declared.Kind.{Kind}
+use Rattle.oamd.specs.declared.Kind.the-variants.{Unknown, Object, Trim, Extended}
 use Rattle.oamd.specs.declared.Programme.{Programme}
-use Rattle.oamd.specs.Element.{Known, isSecond, isEarly, fields, State, readKnown}
+use Rattle.oamd.specs.Element.{Known, isSecond, isEarly, fields, State, passOver, readKnown, oa-element}
+use Rattle.demands.specs.Skeleton.{isKnown}
 
 pub refuseIf-ok : {A : Type 0} (t : Bool) (r back : ℕ) (v : A) (b : Bits) (at e o : ℕ) {w : A} {to : ℕ} → run (refuseIf t r back v) b at e o ≡ ok w to
     → (t ≡ false) × (to ≡ at)
@@ -16,6 +18,15 @@ refuseIf-ok false r back v b at e o h = (refl, give-ok v b at e o h .1)
 
 pub refuseIf-is : {A : Type 0} (t : Bool) (r back : ℕ) (v : A) (b : Bits) (at e o : ℕ) → t ≡ false → run (refuseIf t r back v) b at e o ≡ ok v at
 refuseIf-is t r back v b at e o h = rw h (give-is v b at e o)
+
+-- what holds of an unknown element, which is passed over, and of every known one, read as such, holds of every element
+pub by-kind : (p : Programme) (back : ℕ) (st : State) (Q : Kind → P State → Type 0) → Q Unknown (passOver st)
+    → ((k : Kind) → isKnown k ≡ true → Q k (readKnown p back st k)) → (k : Kind) → Q k (oa-element p back st k)
+unfolding oa-element
+by-kind p back st Q over read Unknown = over
+by-kind p back st Q over read Object = read Object refl
+by-kind p back st Q over read Trim = read Trim refl
+by-kind p back st Q over read Extended = read Extended refl
 
 -- a known element is no second one and not early, and its fields are read
 pub record Fields (p : Programme) (st : State) (k : Kind) (b : Bits) (at e o : ℕ) (st' : State) (to : ℕ) : Type 0 where

@@ -5,7 +5,7 @@ use Prim.Native.Nat.{ℕ, zero, suc}
 use Rattle.bits.specs.Laws.{Says, saying}
 use Rattle.bits.specs.Size.{sizeFrom}
 use Rattle.oamd.specs.declared.Kind.{Kind}
-use Rattle.oamd.specs.declared.Kind.the-variants.{Unknown, Object, Extended}
+use Rattle.oamd.specs.declared.Kind.the-variants.{Unknown, Object, Trim, Extended}
 use Rattle.oamd.specs.declared.Programme.{Programme}
 use Rattle.oamd.specs.declared.Shares.{Shares}
 use Rattle.oamd.specs.declared.Status.{Status}
@@ -15,8 +15,10 @@ use Rattle.oamd.specs.Timing.{sample-offset, block-update-info, md-update-info}
 use Rattle.oamd.specs.Block.{status-idx, parts-of, object-basic-info, differences, coordinates, position, distance, zone, extent, screen, object-render-info, additional-table-data, object-info-block}
 use Rattle.oamd.specs.ObjectElement.{object-data, object-element}
 use Rattle.oamd.specs.Extended.{obj-div-block, ext-prec-pos-block, extended-object-element}
+use Rattle.oamd.specs.Trim.{trim-config, trim-element}
 use Rattle.oamd.specs.Element.{framed, Known, fields, State, passOver, readKnown, oa-element, oa-element-md, elements}
 use Rattle.oamd.specs.Payload.{oa-md-version, object-count, oa-element-count, header, object-audio-metadata-payload}
+use Rattle.demands.specs.Lemmas.Elements.{by-kind}
 
 nothing-said : Unit {0}
 nothing-said = tt
@@ -123,6 +125,17 @@ module _ (Q : ℕ → Type 0) (reserved : Q 5) where
   unfolding Says object-element
   objects-say objects shares = search (saying, nothing-said, timing-says, object-says) depth 12
 
+  config-says : Says trim-config Q
+  unfolding Says trim-config
+  config-says = (
+    tt,
+    λ bydefault. (search (saying, nothing-said), λ disabled. (search (saying, nothing-said), λ presence. search (saying, nothing-said) depth 12)),
+  )
+
+  trim-says : (objects : ℕ) → Says (trim-element objects) Q
+  unfolding Says trim-element
+  trim-says objects = search (saying, nothing-said, config-says) depth 12
+
   divergence-says : (carries : Bool) → Says (obj-div-block carries) Q
   unfolding Says obj-div-block
   divergence-says carries = search (saying, nothing-said) depth 12
@@ -139,6 +152,7 @@ module _ (Q : ℕ → Type 0) (reserved : Q 5) where
   unfolding Says fields
   fields-say p Unknown known = tt
   fields-say p Object known = (objects-say _ _, λ e. tt)
+  fields-say p Trim known = (trim-says _, λ t. tt)
   fields-say p Extended known = (extended-says _, λ e. tt)
 
 pub size-says : (Q : ℕ → Type 0) (k value g : ℕ) → Says (sizeFrom k value g) Q
@@ -156,10 +170,8 @@ module _ (Q : ℕ → Type 0) (reserved : Q 5) (second : Q 6) (early : Q 7) wher
   known-says p back st k = search (saying, nothing-said, fields-say Q reserved) depth 12
 
   inside-says : (p : Programme) (back : ℕ) (st : State) (k : Kind) → Says (oa-element p back st k) Q
-  unfolding Says oa-element passOver
-  inside-says p back st Unknown = tt
-  inside-says p back st Object = known-says p back st Object
-  inside-says p back st Extended = known-says p back st Extended
+  unfolding Says passOver
+  inside-says p back st = by-kind p back st (λ k x. Says x Q) tt (λ k known. known-says p back st k)
 
   element-says : (p : Programme) (alternate : ℕ) (st : State) → Says (oa-element-md p alternate st) Q
   unfolding Says oa-element-md framed

@@ -12,7 +12,6 @@ use Rattle.bits.specs.Language.{Res, ok, no, pick, Bits, P, give, andThen, run,
 use Rattle.bits.specs.Steps.{no-ok, value, place, andThen-ok, bind-ok, bind-no, bind-is, bind-stops, field-ok, field-no, give-ok, give-no, give-is, refuse-no}
 use Rattle.bits.specs.Laws.{Says, says-pick, saying, numbered}
 use Rattle.oamd.specs.declared.Kind.{Kind}
-use Rattle.oamd.specs.declared.Kind.the-variants.{Unknown, Object, Extended}
 use Rattle.oamd.specs.declared.Programme.{Programme}
 use Rattle.oamd.specs.Programme.{agrees}
 use Rattle.oamd.specs.Element.{backToId, framed, Known, isSecond, isEarly, State, passOver, readKnown, oa-element, oa-element-md, elements}
@@ -21,7 +20,7 @@ use Rattle.demands.specs.Terms.{runs, parsed}
 use Rattle.demands.specs.Conditions.{OtherVersion, CountsDisagree, Meets, SecondKnown, EarlyExtended}
 use Rattle.demands.specs.Lemmas.Numbers.{version-says, count-says, many-say, assignment-says, header-says, fields-say, elements-say}
 use Rattle.demands.specs.Lemmas.Frame.{Frame, Broken, frame, frame-of, bodyAt, endAt}
-use Rattle.demands.specs.Lemmas.Elements.{refuseIf-ok, refuseIf-is}
+use Rattle.demands.specs.Lemmas.Elements.{refuseIf-ok, refuseIf-is, by-kind}
 
 -- a refusal of a number that the reader does not say, and that is not for passing an end, does not come
 never : {A : Type 0} (p : P A) (b : Bits) (at e o : ℕ) {r pl m : ℕ} → Says p (λ n. n ≡ r → ⊥) → (o ≡ r → ⊥) → (pastDeclared ≡ r → ⊥)
@@ -233,10 +232,10 @@ known-no p back st k b at e {r} {pl} {m} h =
 inside-no : (p : Programme) (back : ℕ) (st : State) (k : Kind) (b : Bits) (at e : ℕ) {r pl m : ℕ}
     → run (oa-element p back st k) b at e pastDeclared ≡ no r pl m
     → Gate k (st .known) (at - back) r pl
-unfolding oa-element passOver
-inside-no p back st Unknown b at e h = absurd (give-no _ b at e pastDeclared h)
-inside-no p back st Object b at e h = known-no p back st Object b at e h
-inside-no p back st Extended b at e h = known-no p back st Extended b at e h
+unfolding passOver
+inside-no p back st k b at e {r} {pl} {m} h =
+    by-kind p back st (λ k x. run x b at e pastDeclared ≡ no r pl m → Gate k (st .known) (at - back) r pl) (λ h. absurd (give-no _ b at e pastDeclared h))
+    (λ k known h. known-no p back st k b at e h) k h
 
 known-second : (p : Programme) (back : ℕ) (st : State) (k : Kind) (b : Bits) (at e o : ℕ) → isSecond k (st .known) ≡ true
     → run (readKnown p back st k) b at e o ≡ no 6 (at - back) 0
@@ -251,17 +250,15 @@ known-early p back st k b at e o h i =
 
 inside-second : (p : Programme) (back : ℕ) (st : State) (k : Kind) (b : Bits) (at e o : ℕ) → isSecond k (st .known) ≡ true
     → run (oa-element p back st k) b at e o ≡ no 6 (at - back) 0
-unfolding oa-element
-inside-second p back st Unknown b at e o h = let z : _≡_ {A = ℕ} 0 1 = cc in absurd (omega arith)
-inside-second p back st Object b at e o h = known-second p back st Object b at e o h
-inside-second p back st Extended b at e o h = known-second p back st Extended b at e o h
+inside-second p back st k b at e o h =
+    by-kind p back st (λ k x. isSecond k (st .known) ≡ true → run x b at e o ≡ no 6 (at - back) 0) (λ h. let z : _≡_ {A = ℕ} 0 1 = cc in absurd (omega arith))
+    (λ k known h. known-second p back st k b at e o h) k h
 
 inside-early : (p : Programme) (back : ℕ) (st : State) (k : Kind) (b : Bits) (at e o : ℕ) → isSecond k (st .known) ≡ false → isEarly k (st .known) ≡ true
     → run (oa-element p back st k) b at e o ≡ no 7 (at - back) 0
-unfolding oa-element
-inside-early p back st Unknown b at e o h i = let z : _≡_ {A = ℕ} 0 1 = cc in absurd (omega arith)
-inside-early p back st Object b at e o h i = known-early p back st Object b at e o h i
-inside-early p back st Extended b at e o h i = known-early p back st Extended b at e o h i
+inside-early p back st k b at e o h i =
+    by-kind p back st (λ k x. isSecond k (st .known) ≡ false → isEarly k (st .known) ≡ true → run x b at e o ≡ no 7 (at - back) 0)
+    (λ h i. let z : _≡_ {A = ℕ} 0 1 = cc in absurd (omega arith)) (λ k known h i. known-early p back st k b at e o h i) k h i
 
 then-no : {A B : Type 0} (x : Res A) (f : A → B) (end : ℕ) {r pl m : ℕ} → andThen x (λ a mid. ok (f a) end) ≡ no r pl m → x ≡ no r pl m
 then-no (ok a mid) f end h = absurd (no-ok (sym h))

@@ -13,45 +13,55 @@ use Rattle.bits.specs.Refusals.{numberOf}
 use Rattle.bits.specs.Language.{Res, ok, no, bit, pastPayload}
 use Rattle.bits.specs.Laws.{Same, local, still, stays, numbered}
 use Rattle.oamd.specs.Tables.{mostBytes}
+use Rattle.oamd.specs.Trim.{trimNeeded}
 use Rattle.oamd.specs.Payload.{Payload, object-audio-metadata-payload, Tables}
 use Rattle.oamd.specs.Answer.{Outcome, refused, accepted, needed, housed, answered, reading}
 use Rattle.demands.specs.Terms.{parsed, tablesOf}
+use Rattle.demands.specs.Conditions.{Short, records-short, trim-short}
 use Rattle.demands.specs.Lemmas.Numbers.{payload-says}
 
 -- ---- from the reader's answer
 
-pub reading-short : (s buffer : List ℕ) → length s ≤ mostBytes → reading s buffer ≡ answered buffer (parsed s)
+pub reading-short : (s buffer trim : List ℕ) → length s ≤ mostBytes → reading s buffer trim ≡ answered buffer trim (parsed s)
 unfolding reading
-reading-short s buffer l = rw (le-leb (length s) mostBytes l)
+reading-short s buffer trim l = rw (le-leb (length s) mostBytes l)
 
-pub reading-long : (s buffer : List ℕ) → mostBytes < length s → reading s buffer ≡ refused buffer (numberOf TooLong) (length s)
+pub reading-long : (s buffer trim : List ℕ) → mostBytes < length s → reading s buffer trim ≡ refused buffer trim (numberOf TooLong) (length s)
 unfolding reading
-reading-long s buffer l = rw (lt-leb (length s) mostBytes l)
+reading-long s buffer trim l = rw (lt-leb (length s) mostBytes l)
 
-pub reading-ok : (s buffer : List ℕ) {q : Payload} {to : ℕ} → length s ≤ mostBytes → parsed s ≡ ok q to
-    → reading s buffer ≡ housed buffer (tablesOf q) (q .unknown)
-reading-ok s buffer l h = reading-short s buffer l ∙ ap (answered buffer) h
+pub reading-ok : (s buffer trim : List ℕ) {q : Payload} {to : ℕ} → length s ≤ mostBytes → parsed s ≡ ok q to
+    → reading s buffer trim ≡ housed buffer trim (tablesOf q) (q .unknown)
+reading-ok s buffer trim l h = reading-short s buffer trim l ∙ ap (answered buffer trim) h
 
-pub reading-no : (s buffer : List ℕ) {r pl m : ℕ} → length s ≤ mostBytes → parsed s ≡ no r pl m → reading s buffer ≡ refused buffer r pl
-reading-no s buffer l h = reading-short s buffer l ∙ ap (answered buffer) h
+pub reading-no : (s buffer trim : List ℕ) {r pl m : ℕ} → length s ≤ mostBytes → parsed s ≡ no r pl m → reading s buffer trim ≡ refused buffer trim r pl
+reading-no s buffer trim l h = reading-short s buffer trim l ∙ ap (answered buffer trim) h
 
-pub housed-fits : (buffer : List ℕ) (t : Tables) (u : ℕ) → needed t ≤ length buffer → housed buffer t u ≡ accepted buffer t u
+-- the bytes that the trim table needs
+abbrev pub trimRoom : Tables → ℕ
+trimRoom t = trimNeeded (t .programme .objects)
+
+pub housed-fits : (buffer trim : List ℕ) (t : Tables) (u : ℕ) → needed t ≤ length buffer → trimRoom t ≤ length trim
+    → housed buffer trim t u ≡ accepted buffer trim t u
 unfolding housed
-housed-fits buffer t u l = rw (le-leb (needed t) (length buffer) l)
+housed-fits buffer trim t u l m = rw (le-leb (needed t) (length buffer) l, le-leb (trimRoom t) (length trim) m)
 
-pub housed-lacks : (buffer : List ℕ) (t : Tables) (u : ℕ) → length buffer < needed t → housed buffer t u ≡ refused buffer (numberOf Room) (needed t)
+pub housed-lacks : (buffer trim : List ℕ) (t : Tables) (u place : ℕ) → Short buffer trim (needed t) (trimRoom t) place
+    → housed buffer trim t u ≡ refused buffer trim (numberOf Room) place
 unfolding housed
-housed-lacks buffer t u l = rw (lt-leb (needed t) (length buffer) l)
+housed-lacks buffer trim t u place (records-short l e) = rw (lt-leb (needed t) (length buffer) l, e)
+housed-lacks buffer trim t u place (trim-short l m e) = rw (le-leb (needed t) (length buffer) l, lt-leb (trimRoom t) (length trim) m, e)
 
 -- ---- to the reader's answer: every reading is one of four
 
-pub data Case (s buffer : List ℕ) : Type 0 where
-  long : mostBytes < length s → reading s buffer ≡ refused buffer (numberOf TooLong) (length s) → Case s buffer
-  stopped : (r pl m : ℕ) → length s ≤ mostBytes → parsed s ≡ no r pl m → 2 ≤ r → r ≤ 8 → reading s buffer ≡ refused buffer r pl → Case s buffer
-  full : (q : Payload) (to : ℕ) → length s ≤ mostBytes → parsed s ≡ ok q to → length buffer < needed (tablesOf q)
-      → reading s buffer ≡ refused buffer (numberOf Room) (needed (tablesOf q)) → Case s buffer
-  read : (q : Payload) (to : ℕ) → length s ≤ mostBytes → parsed s ≡ ok q to → needed (tablesOf q) ≤ length buffer
-      → reading s buffer ≡ accepted buffer (tablesOf q) (q .unknown) → Case s buffer
+pub data Case (s buffer trim : List ℕ) : Type 0 where
+  long : mostBytes < length s → reading s buffer trim ≡ refused buffer trim (numberOf TooLong) (length s) → Case s buffer trim
+  stopped : (r pl m : ℕ) → length s ≤ mostBytes → parsed s ≡ no r pl m → 2 ≤ r → r ≤ 8 → reading s buffer trim ≡ refused buffer trim r pl
+      → Case s buffer trim
+  full : (q : Payload) (to pl : ℕ) → length s ≤ mostBytes → parsed s ≡ ok q to → Short buffer trim (needed (tablesOf q)) (trimRoom (tablesOf q)) pl
+      → reading s buffer trim ≡ refused buffer trim (numberOf Room) pl → Case s buffer trim
+  read : (q : Payload) (to : ℕ) → length s ≤ mostBytes → parsed s ≡ ok q to → needed (tablesOf q) ≤ length buffer → trimRoom (tablesOf q) ≤ length trim
+      → reading s buffer trim ≡ accepted buffer trim (tablesOf q) (q .unknown) → Case s buffer trim
 
 -- the reader of payloads refuses with 2 to 8
 pub two-to-eight : (s : List ℕ) {r pl m : ℕ} → parsed s ≡ no r pl m → (2 ≤ r) × (r ≤ 8)
@@ -59,51 +69,61 @@ two-to-eight s h =
     numbered object-audio-metadata-payload (λ r. (2 ≤ r) × (r ≤ 8)) (bit s) 0 (8 * length s) pastPayload
     (payload-says (λ r. (2 ≤ r) × (r ≤ 8)) (omega arith) (omega arith) (omega arith) (omega arith) (omega arith)) (omega arith) (omega arith) h
 
-pub case : (s buffer : List ℕ) → Case s buffer
-case s buffer = by-length (leb (length s) mostBytes) refl
+pub case : (s buffer trim : List ℕ) → Case s buffer trim
+case s buffer trim = by-length (leb (length s) mostBytes) refl
   where
-    by-room : (q : Payload) (to : ℕ) → length s ≤ mostBytes → parsed s ≡ ok q to → (x : Bool) → leb (needed (tablesOf q)) (length buffer) ≡ x → Case s buffer
-    by-room q to l h true e =
-        let f = leb-true (needed (tablesOf q)) (length buffer) e in
-        read q to l h f (reading-ok s buffer l h ∙ housed-fits buffer (tablesOf q) (q .unknown) f)
-    by-room q to l h false e =
-        let f = leb-false (needed (tablesOf q)) (length buffer) e in
-        full q to l h f (reading-ok s buffer l h ∙ housed-lacks buffer (tablesOf q) (q .unknown) f)
+    lacking : (q : Payload) (to pl : ℕ) → length s ≤ mostBytes → parsed s ≡ ok q to
+        → Short buffer trim (needed (tablesOf q)) (trimRoom (tablesOf q)) pl → Case s buffer trim
+    lacking q to pl l h x = full q to pl l h x (reading-ok s buffer trim l h ∙ housed-lacks buffer trim (tablesOf q) (q .unknown) pl x)
 
-    by-run : length s ≤ mostBytes → (x : Res Payload) → parsed s ≡ x → Case s buffer
+    by-trim : (q : Payload) (to : ℕ) → length s ≤ mostBytes → parsed s ≡ ok q to → needed (tablesOf q) ≤ length buffer → (x : Bool)
+        → leb (trimRoom (tablesOf q)) (length trim) ≡ x → Case s buffer trim
+    by-trim q to l h f true e =
+        let g = leb-true (trimRoom (tablesOf q)) (length trim) e in
+        read q to l h f g (reading-ok s buffer trim l h ∙ housed-fits buffer trim (tablesOf q) (q .unknown) f g)
+    by-trim q to l h f false e = lacking q to _ l h (trim-short f (leb-false (trimRoom (tablesOf q)) (length trim) e) refl)
+
+    by-room : (q : Payload) (to : ℕ) → length s ≤ mostBytes → parsed s ≡ ok q to → (x : Bool) → leb (needed (tablesOf q)) (length buffer) ≡ x
+        → Case s buffer trim
+    by-room q to l h true e =
+        by-trim q to l h (leb-true (needed (tablesOf q)) (length buffer) e) (leb (trimRoom (tablesOf q)) (length trim)) refl
+    by-room q to l h false e = lacking q to _ l h (records-short (leb-false (needed (tablesOf q)) (length buffer) e) refl)
+
+    by-run : length s ≤ mostBytes → (x : Res Payload) → parsed s ≡ x → Case s buffer trim
     by-run l (ok q to) h = by-room q to l h (leb (needed (tablesOf q)) (length buffer)) refl
     by-run l (no r pl m) h =
         let n = two-to-eight s h in
-        stopped r pl m l h (n .0) (n .1) (reading-no s buffer l h)
+        stopped r pl m l h (n .0) (n .1) (reading-no s buffer trim l h)
 
-    by-length : (x : Bool) → leb (length s) mostBytes ≡ x → Case s buffer
+    by-length : (x : Bool) → leb (length s) mostBytes ≡ x → Case s buffer trim
     by-length true e = by-run (leb-true (length s) mostBytes e) (parsed s) refl
     by-length false e =
         let f = leb-false (length s) mostBytes e in
-        long f (reading-long s buffer f)
+        long f (reading-long s buffer trim f)
 
 -- ---- the refusal tells which
 
-pub refusal-of : {o : Outcome} {buffer : List ℕ} {r pl : ℕ} → o ≡ refused buffer r pl → o .answer .refusal ≡ r
+pub refusal-of : {o : Outcome} {buffer trim : List ℕ} {r pl : ℕ} → o ≡ refused buffer trim r pl → o .answer .refusal ≡ r
 refusal-of h = ap (λ (o : Outcome). o .answer .refusal) h
 
 -- what an accepted reading rests on
-pub record Read (s buffer : List ℕ) : Type 0 where
+pub record Read (s buffer trim : List ℕ) : Type 0 where
   pub short : length s ≤ mostBytes
   pub payload : Payload
   pub to : ℕ
   pub ran : parsed s ≡ ok payload to
   pub fits : needed (tablesOf payload) ≤ length buffer
-  pub is : reading s buffer ≡ accepted buffer (tablesOf payload) (payload .unknown)
+  pub trim-fits : trimRoom (tablesOf payload) ≤ length trim
+  pub is : reading s buffer trim ≡ accepted buffer trim (tablesOf payload) (payload .unknown)
 
-pub read-of : (s buffer : List ℕ) → reading s buffer .answer .refusal ≡ 0 → Read s buffer
-read-of s buffer z = go (case s buffer)
+pub read-of : (s buffer trim : List ℕ) → reading s buffer trim .answer .refusal ≡ 0 → Read s buffer trim
+read-of s buffer trim z = go (case s buffer trim)
   where
-    go : Case s buffer → Read s buffer
+    go : Case s buffer trim → Read s buffer trim
     go (long l h) = absurd (omega (arith, refusal-of h))
     go (stopped r pl m l h low high e) = absurd (omega (arith, refusal-of e))
-    go (full q to l h f e) = absurd (omega (arith, refusal-of e))
-    go (read q to l h f e) = record { short = l; payload = q; to = to; ran = h; fits = f; is = e }
+    go (full q to pl l h x e) = absurd (omega (arith, refusal-of e))
+    go (read q to l h f g e) = record { short = l; payload = q; to = to; ran = h; fits = f; trim-fits = g; is = e }
 
 -- ---- bits of longer and shorter bytes
 

@@ -1,36 +1,39 @@
--- How many records an accepted payload has: one for each object and block.
-use mathlib.Core.Path.{_≡_, refl, sym, ap, ap₂, _∙_, subst}
-use mathlib.Core.Bool.{Bool, true, false}
+-- How many records an accepted payload has, one for each object and block, and how long its trim table is.
+use mathlib.Core.Path.{_≡_, refl, sym, ap, _∙_, subst}
+use mathlib.Core.Bool.{Bool, true, false, not}
 use mathlib.Core.List.{List, [], _∷_}
 use mathlib.Core.Option.{Option, none, some}
-use Prim.Native.Nat.{ℕ, zero, suc, _+_, _*_}
+use Prim.Native.Nat.{ℕ, zero, suc, _*_}
 use native.Mathlib.Omega.{arith}
 use native.Mathlib.Nat.{zero-mul, suc-mul, mul-zero}
+use lib.Dec.{eqb}
 use lib.ListN.{length, replicate, length-append, length-replicate}
-use Rattle.bits.specs.Language.{ok, Bits, P, give, _>>=_, run, when, each}
+use Rattle.bits.specs.Language.{ok, Bits, P, give, _>>=_, run, bits, when, each}
 use Rattle.bits.specs.Steps.{value, andThen-ok, bind-ok, give-ok}
 use Rattle.bits.specs.Laws.{each-long, length-from}
 use Rattle.oamd.specs.declared.Block.{Block}
 use Rattle.oamd.specs.declared.Kind.{Kind}
-use Rattle.oamd.specs.declared.Kind.the-variants.{Unknown, Object, Extended}
+use Rattle.oamd.specs.declared.Kind.the-variants.{Unknown, Object, Trim, Extended}
 use Rattle.oamd.specs.declared.Programme.{Programme}
 use Rattle.oamd.specs.declared.Shares.{Shares}
 use Rattle.oamd.specs.declared.Scene.{Scene}
 use Rattle.oamd.specs.declared.Divergence.{Divergence}
 use Rattle.oamd.specs.declared.Precise.{Precise}
 use Rattle.oamd.specs.Programme.{set?}
-use Rattle.oamd.specs.Tables.{recordStride}
+use Rattle.oamd.specs.Tables.{recordStride, trimConfigs}
 use Rattle.oamd.specs.Timing.{timingOf}
 use Rattle.oamd.specs.ObjectElement.{object-data, ObjectElement, object-element}
 use Rattle.oamd.specs.Extended.{obj-div-block, ext-prec-pos-block, noDivergence, noPrecise, Extension, extended-object-element}
+use Rattle.oamd.specs.Trim.{trim-config, noConfig, Trim as TrimTable, trim-element, noTrim, trimOf}
 use Rattle.oamd.specs.Meaning.{idle, resolve, firstGain, behindFirst, scenesFrom, scenesOf, allScenes}
-use Rattle.oamd.specs.Record.{Record, allCarry, plainRecords, extendedRecords, recordBytesOf, bytesOf}
-use Rattle.oamd.specs.Element.{backToId, Known, scenes, isSecond, isEarly, fields, State, passOver, oa-element, oa-element-md, elements}
+use Rattle.oamd.specs.Record.{allCarry, plainRecords, extendedRecords, bytesOf}
+use Rattle.oamd.specs.Lengths.{length-bytes}
+use Rattle.oamd.specs.Element.{backToId, Known, there, scenes, isSecond, isEarly, fields, State, passOver, oa-element, oa-element-md, elements}
 use Rattle.oamd.specs.Payload.{Payload, object-audio-metadata-payload, timing, records, tables}
 use Rattle.oamd.specs.Answer.{needed}
 use Rattle.demands.specs.Terms.{tablesOf}
 use Rattle.demands.specs.Lemmas.Frame.{bodyAt, endAt, frame-of}
-use Rattle.demands.specs.Lemmas.Elements.{Fields, fields-of}
+use Rattle.demands.specs.Lemmas.Elements.{by-kind, fields-of}
 
 -- ---- lists that a loop gives
 
@@ -47,6 +50,12 @@ each-all f Q one (x ∷ xs) b at e o {v} h =
     bind-ok (f x) (λ a. each f xs >>= λ rest. give (a ∷ rest)) b at e o h λ a mid r s.
     bind-ok (each f xs) (λ rest. give (a ∷ rest)) b mid e o s λ rest mid' t u.
     subst (All Q) (give-ok (a ∷ rest) b mid' e o u .0) (one x b at e o a mid r, each-all f Q one xs b mid e o t)
+
+-- n entries, read or blank
+when-long : {X A : Type 0} (t : Bool) (f : X → P A) (blank : A) (xs : List X) (n : ℕ) (b : Bits) (at e o : ℕ) {v : List A} {to : ℕ} → length xs ≡ n
+    → run (when t (each f xs) (replicate n blank)) b at e o ≡ ok v to → length v ≡ n
+when-long true f blank xs n b at e o l h = each-long f xs b at e o h ∙ l
+when-long false f blank xs n b at e o l h = ap length (sym (give-ok _ b at e o h .0)) ∙ length-replicate n blank
 
 -- ---- scenes
 
@@ -93,11 +102,6 @@ length-carry (s ∷ ss) = ap suc (length-carry ss)
 Spread : ObjectElement → Extension → Type 0
 Spread e x = (length (x .divergence) ≡ length (allScenes [] (e .objects))) × (length (x .precise) ≡ length (allScenes [] (e .objects)))
 
-when-long : {A : Type 0} (t : Bool) (f : Bool → P A) (blank : A) (xs : List Bool) (b : Bits) (at e o : ℕ) {v : List A} {to : ℕ}
-    → run (when t (each f xs) (replicate (length xs) blank)) b at e o ≡ ok v to → length v ≡ length xs
-when-long true f blank xs b at e o h = each-long f xs b at e o h
-when-long false f blank xs b at e o h = ap length (sym (give-ok _ b at e o h .0)) ∙ length-replicate (length xs) blank
-
 extended-long : (carries : List Bool) (b : Bits) (at e o : ℕ) {x : Extension} {to : ℕ} → run (extended-object-element carries) b at e o ≡ ok x to
     → (length (x .divergence) ≡ length carries) × (length (x .precise) ≡ length carries)
 unfolding extended-object-element
@@ -108,77 +112,114 @@ extended-long carries b at e o {x} h =
     bind-ok _ _ b p3 e o h λ ps p4 h4 h.
     let z = give-ok _ b p4 e o h .0 in
     subst (λ (y : Extension). (length (y .divergence) ≡ length carries) × (length (y .precise) ≡ length carries)) z
-    (when-long (set? f1) obj-div-block noDivergence carries b p1 e o h2, when-long (set? f2) ext-prec-pos-block noPrecise carries b p3 e o h4)
+    (when-long (set? f1) obj-div-block noDivergence carries _ b p1 e o refl h2, when-long (set? f2) ext-prec-pos-block noPrecise carries _ b p3 e o refl h4)
+
+-- ---- trim tables
+
+-- nine configurations, and a flag for each object
+Flagged : Programme → TrimTable → Type 0
+Flagged p t = (length (t .configs) ≡ trimConfigs) × (length (t .disabled) ≡ p .objects)
+
+trim-flagged : (p : Programme) (n : ℕ) (b : Bits) (at e o : ℕ) {x : TrimTable} {to : ℕ} → p .objects ≡ n
+    → run (trim-element n) b at e o ≡ ok x to → Flagged p x
+unfolding trim-element Flagged
+trim-flagged p n b at e o same h =
+    bind-ok _ _ b at e o h λ warp p1 h1 h.
+    bind-ok _ _ b p1 e o h λ warp p2 h2 h.
+    bind-ok _ _ b p2 e o h λ reserved p3 h3 h.
+    bind-ok _ _ b p3 e o h λ mode p4 h4 h.
+    bind-ok _ _ b p4 e o h λ mode p5 h5 h.
+    bind-ok _ _ b p5 e o h λ configs p6 h6 h.
+    bind-ok _ _ b p6 e o h λ flag p7 h7 h.
+    bind-ok _ _ b p7 e o h λ disabled p8 h8 h.
+    subst (λ (y : TrimTable). (length (y .configs) ≡ trimConfigs) × (length (y .disabled) ≡ p .objects)) (give-ok _ b p8 e o h .0) (
+      when-long (eqb mode 2) (λ cfg. trim-config) noConfig _ trimConfigs b p5 e o (length-from 0 trimConfigs) h6,
+      when-long (set? flag) (λ obj. bits 1) 0 _ n b p7 e o (length-from 0 n) h8 ∙ sym same,
+    )
+
+none-flagged : (p : Programme) → Flagged p (noTrim (p .objects))
+unfolding Flagged
+none-flagged p = (length-replicate trimConfigs noConfig, length-replicate {A = ℕ} (p .objects) 0)
 
 -- ---- the known elements
 
 -- what is known is whole; an extension stands only beside an object element
-Sized : Programme → Option ObjectElement → Option Extension → Type 0
-Sized p none none = Unit {0}
-Sized p none (some x) = ⊥
-Sized p (some e) none = Whole p e
-Sized p (some e) (some x) = Whole p e × Spread e x
+Paired : Programme → Option ObjectElement → Option Extension → Type 0
+Paired p none none = Unit {0}
+Paired p none (some x) = ⊥
+Paired p (some e) none = Whole p e
+Paired p (some e) (some x) = Whole p e × Spread e x
 
-fields-sized : (p : Programme) (k : Kind) (object : Option ObjectElement) (extended : Option Extension) (b : Bits) (at e o : ℕ) {known : Known} {to : ℕ}
-    → isSecond k (record { object = object; extended = extended }) ≡ false → isEarly k (record { object = object; extended = extended }) ≡ false
-    → run (fields p k (record { object = object; extended = extended })) b at e o ≡ ok known to → Sized p object extended
-    → Sized p (known .object) (known .extended)
-unfolding fields Sized Spread scenes
-fields-sized p Unknown object extended b at e o second early h s = subst (λ (y : Known). Sized p (y .object) (y .extended)) (give-ok _ b at e o h .0) s
-fields-sized p Object (some x) extended b at e o second early h s = let z : _≡_ {A = ℕ} 0 1 = cc in absurd (omega arith)
-fields-sized p Object none (some y) b at e o second early h s = absurd s
-fields-sized p Object none none b at e o second early h s =
+Sized : Programme → Known → Type 0
+Sized p known = Paired p (known .object) (known .extended) × Flagged p (trimOf (p .objects) (known .trim))
+
+object-paired : (p : Programme) (x : ObjectElement) (object : Option ObjectElement) (extended : Option Extension) → there object ≡ false → Whole p x
+    → Paired p object extended → Paired p (some x) extended
+unfolding Paired
+object-paired p x (some y) extended first w s = let z : _≡_ {A = ℕ} 0 1 = cc in absurd (omega arith)
+object-paired p x none (some y) first w s = absurd s
+object-paired p x none none first w s = w
+
+extended-paired : (p : Programme) (x : Extension) (object : Option ObjectElement) (extended : Option Extension) → there extended ≡ false
+    → not (there object) ≡ false
+    → (length (x .divergence) ≡ length (allCarry (scenes object))) × (length (x .precise) ≡ length (allCarry (scenes object)))
+    → Paired p object extended → Paired p object (some x)
+unfolding Paired Spread scenes
+extended-paired p x none extended first timely l s = let z : _≡_ {A = ℕ} 0 1 = cc in absurd (omega arith)
+extended-paired p x (some e) (some y) first timely l s = let z : _≡_ {A = ℕ} 0 1 = cc in absurd (omega arith)
+extended-paired p x (some e) none first timely l s =
+    let c = length-carry (allScenes [] (e .objects)) in
+    (s, (l .0 ∙ c, l .1 ∙ c))
+
+fields-sized : (p : Programme) (k : Kind) (known : Known) (b : Bits) (at e o : ℕ) {known' : Known} {to : ℕ} → isSecond k known ≡ false
+    → isEarly k known ≡ false → run (fields p k known) b at e o ≡ ok known' to → Sized p known → Sized p known'
+unfolding fields Sized trimOf
+fields-sized p Unknown known b at e o first timely h s = subst (Sized p) (give-ok _ b at e o h .0) s
+fields-sized p Object known b at e o first timely h s =
     bind-ok _ _ b at e o h λ x p1 h1 h.
-    subst (λ (y : Known). Sized p (y .object) (y .extended)) (give-ok _ b p1 e o h .0) (object-whole p _ _ b at e o refl h1)
-fields-sized p Extended none extended b at e o second early h s = let z : _≡_ {A = ℕ} 0 1 = cc in absurd (omega arith)
-fields-sized p Extended (some x) (some y) b at e o second early h s = let z : _≡_ {A = ℕ} 0 1 = cc in absurd (omega arith)
-fields-sized p Extended (some x) none b at e o second early h s =
-    bind-ok _ _ b at e o h λ y p1 h1 h.
-    let l = extended-long _ b at e o h1 in
-    let c = length-carry (allScenes [] (x .objects)) in
-    subst (λ (y : Known). Sized p (y .object) (y .extended)) (give-ok _ b p1 e o h .0) (s, (l .0 ∙ c, l .1 ∙ c))
-
-known-sized : (p : Programme) (st : State) (k : Kind) (b : Bits) (at e o : ℕ) {st' : State} {to : ℕ} → Fields p st k b at e o st' to
-    → Sized p (st .known .object) (st .known .extended) → Sized p (st' .known .object) (st' .known .extended)
-known-sized p st k b at e o x s =
-    fields-sized p k (st .known .object) (st .known .extended) b at e o (x .first) (x .timely) (x .ran) s
+    subst (Sized p) (give-ok _ b p1 e o h .0) (object-paired p x (known .object) (known .extended) first (object-whole p _ _ b at e o refl h1) (s .0), s .1)
+fields-sized p Trim known b at e o first timely h s =
+    bind-ok _ _ b at e o h λ x p1 h1 h.
+    subst (Sized p) (give-ok _ b p1 e o h .0) (s .0, trim-flagged p _ b at e o refl h1)
+fields-sized p Extended known b at e o first timely h s =
+    bind-ok _ _ b at e o h λ x p1 h1 h.
+    subst (Sized p) (give-ok _ b p1 e o h .0) (extended-paired p x (known .object) (known .extended) first timely (extended-long _ b at e o h1) (s .0), s .1)
 
 inside-sized : (p : Programme) (back : ℕ) (st : State) (k : Kind) (b : Bits) (at e o : ℕ) {st' : State} {to : ℕ}
-    → run (oa-element p back st k) b at e o ≡ ok st' to
-    → Sized p (st .known .object) (st .known .extended) → Sized p (st' .known .object) (st' .known .extended)
-unfolding oa-element passOver
-inside-sized p back st Unknown b at e o h s = subst (λ (y : State). Sized p (y .known .object) (y .known .extended)) (give-ok _ b at e o h .0) s
-inside-sized p back st Object b at e o h s = known-sized p st Object b at e o (fields-of p back st Object b at e o h) s
-inside-sized p back st Extended b at e o h s = known-sized p st Extended b at e o (fields-of p back st Extended b at e o h) s
+    → run (oa-element p back st k) b at e o ≡ ok st' to → Sized p (st .known) → Sized p (st' .known)
+unfolding passOver
+inside-sized p back st k b at e o {st'} {to} h s =
+    by-kind p back st (λ k x. run x b at e o ≡ ok st' to → Sized p (st' .known))
+    (λ h. subst (λ (y : State). Sized p (y .known)) (give-ok _ b at e o h .0) s)
+    (λ k known h.
+    let x = fields-of p back st k b at e o h in
+    fields-sized p k (st .known) b at e o (x .first) (x .timely) (x .ran) s) k h
 
 element-sized : (p : Programme) (alternate : ℕ) (st : State) (b : Bits) (at e o : ℕ) {st' : State} {to : ℕ}
-    → run (oa-element-md p alternate st) b at e o ≡ ok st' to
-    → Sized p (st .known .object) (st .known .extended) → Sized p (st' .known .object) (st' .known .extended)
+    → run (oa-element-md p alternate st) b at e o ≡ ok st' to → Sized p (st .known) → Sized p (st' .known)
 unfolding oa-element-md
 element-sized p alternate st b at e o h s =
     let f = frame-of alternate _ b at e o h in
     let t = andThen-ok _ _ (sym (f .same _) ∙ h) in
-    subst (λ (y : State). Sized p (y .known .object) (y .known .extended)) (value (t .3))
+    subst (λ (y : State). Sized p (y .known)) (value (t .3))
     (inside-sized p (backToId alternate (f .size)) st (f .kind) b (bodyAt at alternate (f .size)) (endAt at (f .size)) _ (t .2) s)
 
 elements-sized : (p : Programme) (alternate n : ℕ) (st : State) (b : Bits) (at e o : ℕ) {st' : State} {to : ℕ}
-    → run (elements p alternate n st) b at e o ≡ ok st' to
-    → Sized p (st .known .object) (st .known .extended) → Sized p (st' .known .object) (st' .known .extended)
+    → run (elements p alternate n st) b at e o ≡ ok st' to → Sized p (st .known) → Sized p (st' .known)
 unfolding elements
-elements-sized p alternate zero st b at e o h s = subst (λ (y : State). Sized p (y .known .object) (y .known .extended)) (give-ok _ b at e o h .0) s
+elements-sized p alternate zero st b at e o h s = subst (λ (y : State). Sized p (y .known)) (give-ok _ b at e o h .0) s
 elements-sized p alternate (suc n) st b at e o h s =
     bind-ok _ _ b at e o h λ mid p1 h1 h.
     elements-sized p alternate n mid b p1 e o h (element-sized p alternate st b at e o h1 s)
 
-payload-sized : (b : Bits) (at e o : ℕ) {q : Payload} {to : ℕ} → run object-audio-metadata-payload b at e o ≡ ok q to
-    → Sized (q .programme) (q .known .object) (q .known .extended)
-unfolding object-audio-metadata-payload Sized
+payload-sized : (b : Bits) (at e o : ℕ) {q : Payload} {to : ℕ} → run object-audio-metadata-payload b at e o ≡ ok q to → Sized (q .programme) (q .known)
+unfolding object-audio-metadata-payload Sized Paired trimOf
 payload-sized b at e o h =
     bind-ok _ _ b at e o h λ hd p1 h1 h.
     bind-ok _ _ b p1 e o h λ n p2 h2 h.
     bind-ok _ _ b p2 e o h λ st p3 h3 h.
-    subst (λ (q : Payload). Sized (q .programme) (q .known .object) (q .known .extended)) (give-ok _ b p3 e o h .0)
-    (elements-sized (hd .programme) (hd .alternate) n _ b p2 e o h3 tt)
+    subst (λ (q : Payload). Sized (q .programme) (q .known)) (give-ok _ b p3 e o h .0)
+    (elements-sized (hd .programme) (hd .alternate) n _ b p2 e o h3 (tt, none-flagged (hd .programme)))
 
 -- ---- the records
 
@@ -195,28 +236,26 @@ length-extended (s ∷ ss) [] ps d p = absurd (omega arith)
 length-extended (s ∷ ss) (x ∷ ds) [] d p = absurd (omega arith)
 length-extended (s ∷ ss) (x ∷ ds) (y ∷ ps) d p = ap suc (length-extended ss ds ps (omega arith) (omega arith))
 
-records-sized : (p : Programme) (object : Option ObjectElement) (extended : Option Extension) → Sized p object extended
+records-sized : (p : Programme) (object : Option ObjectElement) (extended : Option Extension) → Paired p object extended
     → length (records (scenes object) extended) ≡ p .objects * timing object .blocks
-unfolding Sized Whole Spread records scenes timing timingOf
+unfolding Paired Whole Spread records scenes timing timingOf
 records-sized p none none s = length-plain [] ∙ sym (mul-zero (p .objects))
 records-sized p none (some x) s = absurd s
 records-sized p (some e) none s = length-plain _ ∙ s
 records-sized p (some e) (some x) s = length-extended _ _ _ (s .1 .0) (s .1 .1) ∙ s .0
 
-pub length-record : (r : Record) → length (recordBytesOf r) ≡ recordStride
-unfolding recordBytesOf
-length-record r = refl
-
-pub length-bytes : (rs : List Record) → length (bytesOf rs) ≡ recordStride * length rs
-unfolding bytesOf
-length-bytes [] = refl
-length-bytes (r ∷ rs) =
-    length-append (recordBytesOf r) (bytesOf rs) ∙ ap₂ (λ (m n : ℕ). m + n) (length-record r) (length-bytes rs) ∙ omega arith
-
 -- the bytes of an accepted payload's records are as many as are needed
 pub length-needed : (b : Bits) (at e o : ℕ) {q : Payload} {to : ℕ} → run object-audio-metadata-payload b at e o ≡ ok q to
     → length (bytesOf (tablesOf q .records)) ≡ needed (tablesOf q)
-unfolding tables
+unfolding tables Sized
 length-needed b at e o {q} h =
     length-bytes (tablesOf q .records)
-    ∙ ap (λ (n : ℕ). recordStride * n) (records-sized (q .programme) (q .known .object) (q .known .extended) (payload-sized b at e o h))
+    ∙ ap (λ (n : ℕ). recordStride * n) (records-sized (q .programme) (q .known .object) (q .known .extended) (payload-sized b at e o h .0))
+
+-- ---- the trim table
+
+-- that of an accepted payload has nine configurations and a flag for each object
+pub trim-sized : (b : Bits) (at e o : ℕ) {q : Payload} {to : ℕ} → run object-audio-metadata-payload b at e o ≡ ok q to
+    → (length (tablesOf q .trim .configs) ≡ trimConfigs) × (length (tablesOf q .trim .disabled) ≡ q .programme .objects)
+unfolding tables Sized Flagged
+trim-sized b at e o h = payload-sized b at e o h .1

@@ -10,14 +10,14 @@ use Rattle.bits.specs.Language.{Res, ok, no, pick, Bits, slice, andThen, run, b
 use Rattle.bits.specs.Steps.{value, next, andThen-ok, ok-at, bind-ok, give-ok, give-is, bind-is, field-is, listed, slice-at, length-slice}
 use Rattle.bits.specs.Laws.{local}
 use Rattle.oamd.specs.declared.Kind.{Kind}
-use Rattle.oamd.specs.declared.Kind.the-variants.{Unknown, Object, Extended}
+use Rattle.oamd.specs.declared.Kind.the-variants.{Unknown}
 use Rattle.oamd.specs.declared.Programme.{Programme}
 use Rattle.oamd.specs.Element.{elementBits, headBits, backToId, Known, nothing, isSecond, isEarly, fields, State, passOver, readKnown, oa-element, oa-element-md, elements}
 use Rattle.oamd.specs.Payload.{header, Payload, object-audio-metadata-payload}
 use Rattle.demands.specs.Terms.{runs, parsed}
 use Rattle.demands.specs.Skeleton.{Body, body, bodies, Outline, outline-payload, isKnown, known, unknowns, given, takenOut}
 use Rattle.demands.specs.Lemmas.Frame.{Frame, frame-of, bodyAt, endAt}
-use Rattle.demands.specs.Lemmas.Elements.{Fields, fields-of, known-is}
+use Rattle.demands.specs.Lemmas.Elements.{by-kind, Fields, fields-of, known-is}
 
 -- ---- what elements make of what is known, by their kinds and bits alone
 
@@ -30,9 +30,7 @@ pub record Adds (p : Programme) (k : Kind) (l : List ℕ) (before after : Known)
 
 -- an unknown one adds nothing
 pub Step : Programme → Kind → List ℕ → Known → Known → Type 0
-Step p Unknown l before after = before ≡ after
-Step p Object l before after = Adds p Object l before after
-Step p Extended l before after = Adds p Extended l before after
+Step p k l before after = pick (isKnown k) (Adds p k l before after) (before ≡ after)
 
 pub Steps : Programme → List Body → Known → Known → Type 0
 Steps p [] before after = before ≡ after
@@ -42,9 +40,11 @@ Steps p (x ∷ xs) before after = (mid : Known) × Step p (x .kind) (x .bits) be
 step-known : (p : Programme) (k : Kind) (l : List ℕ) (rest : List Body) (before mid after : Known) → Step p k l before mid → Steps p rest mid after
     → Steps p (pick (isKnown k) (record { kind = k; bits = l } ∷ rest) rest) before after
 unfolding Step Steps
-step-known p Unknown l rest before mid after s t = subst (λ (x : Known). Steps p rest x after) (sym s) t
-step-known p Object l rest before mid after s t = (mid, s, t)
-step-known p Extended l rest before mid after s t = (mid, s, t)
+step-known p k l rest before mid after s t = go (isKnown k) refl
+  where
+    go : (y : Bool) → isKnown k ≡ y → Steps p (pick y (record { kind = k; bits = l } ∷ rest) rest) before after
+    go true e = (mid, s, t)
+    go false e = subst (λ (x : Known). Steps p rest x after) (sym (rw e at s)) t
 
 steps-known : (p : Programme) (xs : List Body) (before after : Known) → Steps p xs before after → Steps p (known xs) before after
 unfolding Steps known
@@ -55,9 +55,12 @@ known-step : (p : Programme) (k : Kind) (l : List ℕ) (rest xs : List Body) (be
     → ((mid : Known) → Steps p rest mid after → Steps p xs mid after)
     → Steps p (pick (isKnown k) (record { kind = k; bits = l } ∷ rest) rest) before after → (mid : Known) × Step p k l before mid × Steps p xs mid after
 unfolding Step Steps
-known-step p Unknown l rest xs before after f h = (before, refl, f before h)
-known-step p Object l rest xs before after f h = (h .0, h .1, f (h .0) (h .2))
-known-step p Extended l rest xs before after f h = (h .0, h .1, f (h .0) (h .2))
+known-step p k l rest xs before after f h = go (isKnown k) refl h
+  where
+    go : (y : Bool) → isKnown k ≡ y → Steps p (pick y (record { kind = k; bits = l } ∷ rest) rest) before after
+        → (mid : Known) × Step p k l before mid × Steps p xs mid after
+    go true e h = (h .0, h .1, f (h .0) (h .2))
+    go false e h = (before, rw e refl, f before h)
 
 known-steps : (p : Programme) (xs : List Body) (before after : Known) → Steps p (known xs) before after → Steps p xs before after
 unfolding Steps known
@@ -88,16 +91,15 @@ known-took p k st b at e n same x =
 
 took : (p : Programme) (back : ℕ) (st : State) (k : Kind) (b : Bits) (at e n : ℕ) {st' : State} {to : ℕ} → at + n ≡ e
     → run (oa-element p back st k) b at e pastDeclared ≡ ok st' to → Took p k st st' b at n
-unfolding oa-element passOver Step
-took p back st Unknown b at e n same h =
+unfolding passOver Step
+took p back st k b at e n {st'} {to} same h =
+    by-kind p back st (λ k x. run x b at e pastDeclared ≡ ok st' to → Took p k st st' b at n)
+    (λ h.
     let z = give-ok _ b at e pastDeclared h .0 in
-    record { steps = ap (λ (x : State). x .known) z; counted = ap (λ (x : State). x .unknown) (sym z) }
-took p back st Object b at e n same h =
-    let x = fields-of p back st Object b at e pastDeclared h in
-    record { steps = known-took p Object st b at e n same x; counted = x .unknown }
-took p back st Extended b at e n same h =
-    let x = fields-of p back st Extended b at e pastDeclared h in
-    record { steps = known-took p Extended st b at e n same x; counted = x .unknown }
+    record { steps = ap (λ (x : State). x .known) z; counted = ap (λ (x : State). x .unknown) (sym z) })
+    (λ k known h.
+    let x = fields-of p back st k b at e pastDeclared h in
+    record { steps = rw known (known-took p k st b at e n same x); counted = rw known (x .unknown) }) k h
 
 known-takes : (p : Programme) (back : ℕ) (st : State) (k : Kind) (b : Bits) (at e n : ℕ) {after : Known} → at + n ≡ e
     → Adds p k (slice b at n) (st .known) after
@@ -114,10 +116,14 @@ known-takes p back st k b at e n same x =
 takes : (p : Programme) (back : ℕ) (st : State) (k : Kind) (b : Bits) (at e n : ℕ) {after : Known} → at + n ≡ e
     → Step p k (slice b at n) (st .known) after
     → (to : ℕ) × (run (oa-element p back st k) b at e pastDeclared ≡ ok (record { known = after; unknown = pick (isKnown k) (st .unknown) (suc (st .unknown)) }) to)
-unfolding oa-element passOver Step
-takes p back st Unknown b at e n same s = (at, give-is _ b at e pastDeclared ∙ ap (λ (x : Known). ok (record { known = x; unknown = suc (st .unknown) }) at) s)
-takes p back st Object b at e n same s = known-takes p back st Object b at e n same s
-takes p back st Extended b at e n same s = known-takes p back st Extended b at e n same s
+unfolding passOver Step
+takes p back st k b at e n {after} same s =
+    by-kind p back st
+    (λ k x.
+    Step p k (slice b at n) (st .known) after
+    → (to : ℕ) × (run x b at e pastDeclared ≡ ok (record { known = after; unknown = pick (isKnown k) (st .unknown) (suc (st .unknown)) }) to))
+    (λ s. (at, give-is _ b at e pastDeclared ∙ ap (λ (x : Known). ok (record { known = x; unknown = suc (st .unknown) }) at) s))
+    (λ k known s. rw known (known-takes p back st k b at e n same (rw known at s))) k s
 
 -- the same with its frame
 record Element (p : Programme) (alternate : ℕ) (st st' : State) (b : Bits) (at e o to : ℕ) : Type 0 where
@@ -183,10 +189,9 @@ record Elements (p : Programme) (alternate n : ℕ) (st st' : State) (b : Bits) 
   steps : Steps p xs (st .known) (st' .known)
   counted : st' .unknown ≡ st .unknown + unknowns xs
 
-count-on : (k : Kind) (u v w n : ℕ) → v ≡ pick (isKnown k) u (suc u) → w ≡ v + n → w ≡ u + pick (isKnown k) n (suc n)
-count-on Unknown u v w n h i = omega arith
-count-on Object u v w n h i = omega arith
-count-on Extended u v w n h i = omega arith
+count-on : (t : Bool) (u v w n : ℕ) → v ≡ pick t u (suc u) → w ≡ v + n → w ≡ u + pick t n (suc n)
+count-on true u v w n h i = omega arith
+count-on false u v w n h i = omega arith
 
 elements-took : (p : Programme) (alternate n : ℕ) (st : State) (b : Bits) (at e o : ℕ) {st' : State} {to : ℕ}
     → run (elements p alternate n st) b at e o ≡ ok st' to
@@ -204,7 +209,7 @@ elements-took p alternate (suc n) st b at e o {st'} h =
       xs = x .x ∷ y .xs;
       ran = bind-is _ _ b at e o (x .ran) ∙ bind-is _ _ b p1 e o (y .ran) ∙ give-is _ b _ e o;
       steps = (mid .known, x .steps, y .steps);
-      counted = count-on (x .x .kind) (st .unknown) (mid .unknown) (st' .unknown) (unknowns (y .xs)) (x .counted) (y .counted);
+      counted = count-on (isKnown (x .x .kind)) (st .unknown) (mid .unknown) (st' .unknown) (unknowns (y .xs)) (x .counted) (y .counted);
     }
 
 elements-take : (p : Programme) (alternate n : ℕ) (st : State) (b : Bits) (at e o : ℕ) {xs : List Body} {after : Known} {to : ℕ}
@@ -223,7 +228,7 @@ elements-take p alternate (suc n) st b at e o {xs} {after} {to} h s =
     let t = subst (λ (l : List Body). Steps p l (st .known) after) (sym (g .0)) s in
     let u : ℕ = pick (isKnown (x .kind)) (st .unknown) (suc (st .unknown)) in
     let c : u + unknowns ys ≡ st .unknown + unknowns xs =
-    count-on (x .kind) (st .unknown) u (u + unknowns ys) (unknowns ys) refl refl ∙ ap (λ (l : List Body). st .unknown + unknowns l) (g .0) in
+    count-on (isKnown (x .kind)) (st .unknown) u (u + unknowns ys) (unknowns ys) refl refl ∙ ap (λ (l : List Body). st .unknown + unknowns l) (g .0) in
     bind-is _ _ b at e o (element-takes p alternate st b at e o (body-frame alternate b at e o h1) h1 (t .1))
     ∙ elements-take p alternate n (record { known = t .0; unknown = u }) b p1 e o h2 (t .2)
     ∙ λ i. ok (record { known = after; unknown = c i }) (sym (g .1) i)

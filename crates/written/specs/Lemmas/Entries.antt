@@ -32,21 +32,21 @@ module _ {A : Type 0} (valid : Bool → A → Bool) where
 
   -- and the others are the one that is not used
   module _ (none : A) (unused : (a : A) → valid false a ≡ true → a ≡ none) where
+    pub entries-unused : (xs : List A) → entriesValid valid 0 xs ≡ true → replicate (length xs) none ≡ xs
+    unfolding entriesValid
+    entries-unused [] h = refl
+    entries-unused (a ∷ rest) h =
+        let x = halves (valid false a) (entriesValid valid 0 rest) h in
+        ap₂ (λ (y : A) (ys : List A). y ∷ ys) (sym (unused a (x .0))) (entries-unused rest (x .1))
+
     pub entries-filled : (n : ℕ) (xs : List A) → entriesValid valid n xs ≡ true → n ≤ length xs
         → take n xs ++ replicate (length xs - length (take n xs)) none ≡ xs
     unfolding entriesValid
     entries-filled zero [] h l = refl
     entries-filled (suc n) [] h l = absurd (omega arith)
     entries-filled zero (a ∷ rest) h l =
-        let x = halves (valid false a) (entriesValid valid 0 rest) h in
         let k : suc (length rest) - 0 ≡ suc (length rest) = omega arith in
-        rw k (ap₂ (λ (y : A) (ys : List A). y ∷ ys) (sym (unused a (x .0))) (none-used rest (x .1)))
-      where
-        none-used : (ys : List A) → entriesValid valid 0 ys ≡ true → replicate (length ys) none ≡ ys
-        none-used [] h = refl
-        none-used (y ∷ ys) h =
-            let x = halves (valid false y) (entriesValid valid 0 ys) h in
-            ap₂ (λ (y : A) (ys : List A). y ∷ ys) (sym (unused y (x .0))) (none-used ys (x .1))
+        rw k (entries-unused (a ∷ rest) h)
     entries-filled (suc n) (a ∷ rest) h l =
         let e : leb 1 (suc n) ≡ true = le-leb 1 (suc n) (omega arith) in
         let m : suc n - 1 ≡ n = omega arith in

@@ -105,7 +105,7 @@ set-flag : (t : Bool) → set? (asFlag t) ≡ t
 set-flag true = refl
 set-flag false = refl
 
-flag-lt : (t : Bool) → asFlag t < 2
+pub flag-lt : (t : Bool) → asFlag t < 2
 flag-lt true = omega arith
 flag-lt false = omega arith
 

@@ -62,8 +62,9 @@ below (suc n) f h k l =
     by-eq k n (λ e. rw e (x .0)) (λ e. below n f (x .1) k (omega arith))
 
 -- a field that is carried if the test holds
-pub w-ranged : {carried : Bool} {high v : ℕ} (w : ℕ) → Ranged carried 0 high 0 v → high < 2 ^ w → Writes (bitsIf carried w) (only carried (toBits w v)) v
-w-ranged {carried} {high} {v} w h l = w-if carried w v (λ q. let x = h .on q in omega arith) (λ q. sym (h .off q))
+pub w-ranged : {carried : Bool} {low high v : ℕ} (w : ℕ) → Ranged carried low high 0 v → high < 2 ^ w
+    → Writes (bitsIf carried w) (only carried (toBits w v)) v
+w-ranged {carried} {low} {high} {v} w h l = w-if carried w v (λ q. let x = h .on q in omega arith) (λ q. sym (h .off q))
 
 -- and one whose value is otherwise not the field's
 pub w-picked : (t : Bool) (w v : ℕ) → (t ≡ true → v < 2 ^ w) → Writes (bitsIf t w) (only t (toBits w v)) (pick t v 0)

@@ -21,12 +21,14 @@ use Rattle.oamd.specs.declared.Place.{Place}
 use Rattle.oamd.specs.declared.Distance.{Distance}
 use Rattle.oamd.specs.declared.Extent.{Extent}
 use Rattle.oamd.specs.declared.Screen.{Screen}
+use Rattle.oamd.specs.declared.TrimConfig.{TrimConfig}
 use Rattle.oamd.specs.Programme.{set?, clear?, hasBeds, hasIsf, hasDynamic}
 use Rattle.oamd.specs.Extended.{hasX, hasY, hasZ}
+use Rattle.oamd.specs.Trim.{hasCentre, hasSurround, hasHeight, hasTb, hasLis, Trim}
 use Rattle.oamd.specs.Record.{Record, carries}
 use Rattle.oamd.specs.Payload.{Tables}
 use Rattle.written.specs.Coded.{codedUpdate, codedGain, codedPriority, codedDistance, codedExtent}
-use Rattle.written.specs.Form.{countBits, bedBits, bedsBits, assignmentBits, headerBits, offsetBits, updateBits, timingBits, statusBits, gainBits, priorityBits, positionBits, distanceBits, zoneBits, extentBits, screenBits, basicBits, renderBits, blockBits, byObject, objectDataBits, objectElementBits, any, diverges, refines, extendedElementBits, divergenceBits, preciseBits, groupBits, sizeBits, sizeFor, framedBits, elementBits}
+use Rattle.written.specs.Form.{countBits, bedBits, bedsBits, assignmentBits, headerBits, offsetBits, updateBits, timingBits, statusBits, gainBits, priorityBits, positionBits, distanceBits, zoneBits, extentBits, screenBits, basicBits, renderBits, blockBits, byObject, objectDataBits, objectElementBits, any, diverges, refines, extendedElementBits, divergenceBits, preciseBits, configBits, trimElementBits, groupBits, sizeBits, sizeFor, framedBits, elementBits}
 use Rattle.written.specs.Lemmas.Entries.{Every}
 
 -- l has at most n bits
@@ -210,6 +212,25 @@ extended-element-short rs =
     (λ i r. divergence-short _ (r .divergence))))
     (also (bits-short 1 _) (if-sent (any refines rs) (each-short (λ i r. preciseBits (carries (r .scene)) (r .precise)) 10 0 rs
     (λ i r. precise-short _ (r .precise))))))) (omega arith)
+
+-- ---- the trim element
+
+config-short : (c : TrimConfig) → Short (configBits c) 29
+unfolding configBits
+config-short c =
+    also (bits-short 1 _) (also (maybe (clear? (c .bydefault)) 1 (c .disabled))
+    (also (maybe (both (clear? (c .bydefault)) (clear? (c .disabled))) 5 (c .presence))
+    (also (maybe (hasCentre (c .presence)) 4 (c .centre)) (also (maybe (hasSurround (c .presence)) 4 (c .surround))
+    (also (maybe (hasHeight (c .presence)) 4 (c .height)) (also (maybe (hasTb (c .presence)) 1 (c .tbsign))
+    (also (maybe (hasTb (c .presence)) 4 (c .tbamount)) (also (maybe (hasLis (c .presence)) 1 (c .lissign))
+    (maybe (hasLis (c .presence)) 4 (c .lisamount))))))))))
+
+pub trim-element-short : (t : Trim) → Short (trimElementBits t) (7 + 29 * length (t .configs) + length (t .disabled))
+unfolding trimElementBits
+trim-element-short t =
+    at-most _ (also (bits-short 2 _) (also (bits-short 2 0) (also (bits-short 2 _)
+    (also (if-sent (eqb (t .mode) 2) (each-short (λ cfg c. configBits c) 29 0 (t .configs) (λ cfg c. config-short c)))
+    (also (bits-short 1 _) (if-sent (set? (t .per-object)) (each-short (λ obj x. toBits 1 x) 1 0 (t .disabled) (λ obj x. bits-short 1 x)))))))) (omega arith)
 
 -- ---- elements
 

@@ -17,7 +17,12 @@ returns-3 c = rw (eq-eqb _ _ (c .before .if1 .left), c .match .keys2)
 
 returns-4 : tie.Need-returns-4
 unfolding kind
-returns-4 c = simp (eq-eqb _ _ (c .before .if1 .left), ne-eqb _ _ (c .match .rest .0 .1), ne-eqb _ _ (c .match .rest .1))
+returns-4 c = rw (eq-eqb _ _ (c .before .if1 .left), c .match .keys3)
+
+returns-5 : tie.Need-returns-5
+unfolding kind
+returns-5 c =
+    simp (eq-eqb _ _ (c .before .if1 .left), ne-eqb _ _ (c .match .rest .0 .0 .1), ne-eqb _ _ (c .match .rest .0 .1), ne-eqb _ _ (c .match .rest .1))
 
 pub kind-of-spec : {M : Type 1} → statement M
-kind-of-spec = tie.close (tie.spec returns returns-2 returns-3 returns-4)
+kind-of-spec = tie.close (tie.spec returns returns-2 returns-3 returns-4 returns-5)

@@ -1,0 +1,113 @@
+-- 5.5.12: the trim table of every accepted payload is valid.
+use mathlib.Core.Path.{_≡_, refl, sym, _∙_, subst}
+use mathlib.Core.Bool.{Bool, true, false}
+use mathlib.Core.List.{List, [], append-nil}
+use Prim.Native.Nat.{ℕ, _<_}
+use native.Mathlib.Omega.{arith}
+use lib.ListN.{length, replicate, length-replicate}
+use lib.Dec.{leb, ltb, eqb}
+use borrow.Author.Tests.{eq-eqb, eqb-false, leb-false, ltb-false}
+use Rattle.bits.specs.Language.{pick, both, P, bits, when, from, for}
+use Rattle.bits.specs.Laws.{length-from}
+use Rattle.bits.specs.Ensures.{Ensures, e-give, e-bits, e-bind, e-any, e-then, e-when, e-pass, e-if, e-each}
+use Rattle.oamd.specs.Tables.{trimConfigs}
+use Rattle.oamd.specs.Programme.{set?, clear?}
+use Rattle.oamd.specs.Trim.{hasCentre, hasSurround, hasHeight, hasTb, hasLis, trim-config, noConfig, trim-element, noTrim}
+use Rattle.written.specs.Valid.{ranged, entriesValid, configValid, trimValid}
+use Rattle.written.specs.Lemmas.Facts.{whole, is-ranged}
+use Rattle.written.specs.Lemmas.AcceptedProgramme.{read-ranged, always, all-every, entries-make}
+
+-- ---- a configuration
+
+-- a code of which the first four are reserved
+code-ranged : (sent : Bool) (v : ℕ) → (sent ≡ true → v < 16) → (sent ≡ false → 0 ≡ v) → both sent (ltb v 4) ≡ false → ranged sent 4 15 0 v ≡ true
+code-ranged sent v f g h = is-ranged sent 4 15 0 v (λ q. ltb-false v 4 (rw q at h)) (λ q. let x = f q in omega arith) (λ q. sym (g q))
+
+config-ensures : Ensures trim-config (λ c. configValid true c ≡ true)
+unfolding trim-config configValid
+config-ensures =
+    e-bind _ _ _ (e-bits 1 _ λ bydefault a.
+    e-bind _ _ _ (e-if (clear? bydefault) 1 _ λ disabled b b'.
+    e-bind _ _ _ (e-if (both (clear? bydefault) (clear? disabled)) 5 _ λ presence c c'.
+    e-bind _ _ _ (e-if (hasCentre presence) 4 _ λ centre d d'.
+    e-bind _ _ _ (e-if (hasSurround presence) 4 _ λ surround e e'.
+    e-bind _ _ _ (e-pass (both (hasSurround presence) (ltb surround 4)) _ _ surround _ λ q.
+    e-bind _ _ _ (e-if (hasHeight presence) 4 _ λ height f f'.
+    e-bind _ _ _ (e-pass (both (hasHeight presence) (ltb height 4)) _ _ height _ λ r.
+    e-bind _ _ _ (e-if (hasTb presence) 1 _ λ tbsign g g'.
+    e-bind _ _ _ (e-if (hasTb presence) 4 _ λ tbamount h h'.
+    e-bind _ _ _ (e-if (hasLis presence) 1 _ λ lissign i i'.
+    e-bind _ _ _ (e-if (hasLis presence) 4 _ λ lisamount j j'.
+    e-give _ _ (whole _ _ (always 0 1 0 bydefault (omega arith) (omega arith))
+    (whole _ _ (read-ranged (clear? bydefault) 1 disabled b b')
+    (whole _ _ (read-ranged (both (clear? bydefault) (clear? disabled)) 31 presence c c')
+    (whole _ _ (read-ranged (hasCentre presence) 15 centre d d')
+    (whole _ _ (code-ranged (hasSurround presence) surround e e' q)
+    (whole _ _ (code-ranged (hasHeight presence) height f f' r)
+    (whole _ _ (read-ranged (hasTb presence) 1 tbsign g g')
+    (whole _ _ (read-ranged (hasTb presence) 15 tbamount h h')
+    (whole _ _ (read-ranged (hasLis presence) 1 lissign i i') (read-ranged (hasLis presence) 15 lisamount j j'))))))))))))))))))))))
+
+no-config-valid : configValid false noConfig ≡ true
+unfolding configValid ranged
+no-config-valid = refl
+
+-- ---- the element
+
+-- n entries, all of them used if the test holds, and else none
+record ArrayRead {A : Type 0} (valid : Bool → A → Bool) (on : Bool) (n : ℕ) (xs : List A) : Type 0 where
+  long : length xs ≡ n
+  entries : entriesValid valid (pick on n 0) xs ≡ true
+
+-- none of them
+none-read : {A : Type 0} (valid : Bool → A → Bool) (empty : A) → valid false empty ≡ true → (n : ℕ) → ArrayRead valid false n (replicate n empty)
+none-read valid empty u n = record { long = length-replicate n empty; entries = entries-make valid empty u [] n tt }
+
+array-ensures : {A : Type 0} (valid : Bool → A → Bool) (empty : A) (p : P A) → Ensures p (λ a. valid true a ≡ true) → valid false empty ≡ true
+    → (on : Bool) (n : ℕ) → Ensures (when on (for n (λ i. p)) (replicate n empty)) (ArrayRead valid on n)
+array-ensures {A} valid empty p f u on n =
+    e-when on (for n (λ i. p)) (replicate n empty) _
+    (λ q. e-then _ _ _ (e-each (λ i. p) (λ i a. valid true a ≡ true) (λ i. f) (from 0 n)) λ xs h.
+    let v = all-every (λ i a. valid true a ≡ true) (λ a. valid true a ≡ true) (λ i a r. r) (from 0 n) xs h in
+    let e : length xs ≡ n = v .1 ∙ length-from 0 n in
+    let all : entriesValid valid (length xs) xs ≡ true =
+    subst (λ (ys : List A). entriesValid valid (length xs) ys ≡ true) (append-nil xs) (entries-make valid empty u xs 0 (v .0)) in
+    rw q (record { long = e; entries = rw e at all }))
+    (λ q. rw q (none-read valid empty u n))
+
+flag-off : ranged false 0 1 0 0 ≡ true
+unfolding ranged
+flag-off = refl
+
+pub trim-ensures : (objects : ℕ) → Ensures (trim-element objects) (λ t. trimValid objects t ≡ true)
+unfolding trim-element trimValid
+trim-ensures objects =
+    e-bind _ _ _ (e-bits 2 _ λ warp w.
+    e-bind _ _ _ (e-pass (leb 2 warp) _ _ warp _ λ q.
+    e-bind _ _ _ (e-any _ _ λ reserved.
+    e-bind _ _ _ (e-bits 2 _ λ mode m.
+    e-bind _ _ _ (e-pass (eqb mode 3) _ _ mode _ λ r.
+    e-bind _ _ _ (e-then _ _ _ (array-ensures configValid noConfig trim-config config-ensures no-config-valid (eqb mode 2) trimConfigs) λ configs c.
+    e-bind _ _ _ (e-bits 1 _ λ flag f.
+    e-bind _ _ _ (e-then _ _ _ (array-ensures (λ used x. ranged used 0 1 0 x) 0 (bits 1)
+    (e-bits 1 _ λ x l. always 0 1 0 x (omega arith) (omega arith)) flag-off (set? flag) objects) λ flags d.
+    let low = leb-false 2 warp q in
+    let other : mode ≡ 3 → ⊥ = eqb-false mode 3 r in
+    e-give _ _ (whole _ _ (always 0 1 0 1 (omega arith) (omega arith))
+    (whole _ _ (always 0 1 0 warp (omega arith) (omega arith))
+    (whole _ _ (always 0 2 0 mode (omega arith) (omega arith))
+    (whole _ _ (eq-eqb _ _ (c .long))
+    (whole _ _ (c .entries)
+    (whole _ _ (always 0 1 0 flag (omega arith) (omega arith))
+    (whole _ _ (eq-eqb _ _ (d .long)) (d .entries))))))))))))))))
+
+-- and so is that of a payload without the element
+pub no-trim-valid : (objects : ℕ) → trimValid objects (noTrim objects) ≡ true
+unfolding trimValid
+no-trim-valid objects =
+    let c = none-read configValid noConfig no-config-valid trimConfigs in
+    let d = none-read (λ used x. ranged used 0 1 0 x) 0 flag-off objects in
+    whole _ _ (always 0 1 0 0 (omega arith) (omega arith))
+    (whole _ _ flag-off
+    (whole _ _ (read-ranged false 2 0 (λ q. omega arith) (λ q. refl))
+    (whole _ _ (eq-eqb _ _ (c .long)) (whole _ _ (c .entries) (whole _ _ flag-off (whole _ _ (eq-eqb _ _ (d .long)) (d .entries)))))))
