@@ -1,11 +1,12 @@
 /*
  * serve: the library over standard input and output, for a program that cannot be linked to it (bench/compare on a machine that is not x86-64).
  *
- * Numbers have their lowest byte first, lengths and the skew 4 bytes; tables and answers are their fields in the header's order, without padding.
- *   request v                                                                       answer: version
- *   request r, payload length, buffer length, skew, payload, buffer                 answer: place, refusal, unknown, programme, timing, buffer
- *   request w, programme, timing, records length, buffer length, skew, records, buffer   answer: place, length, refusal, buffer
- * The buffer is sent as it is lent and answered whole. It is lent at an address that leaves the remainder `skew` by 16, with canaries around it.
+ * Numbers have their lowest byte first, lengths and the skew 4 bytes; tables and answers are their fields in the header's order, without padding. What a
+ * call looks at is sent as its length and its bytes, a lent buffer as its length, its skew and its bytes.
+ *   request v                                                answer: version
+ *   request r, payload, record buffer, trim buffer           answer: place, refusal, unknown, programme, timing, the bytes of both buffers
+ *   request w, programme, timing, records, trim, buffer      answer: place, length, refusal, the bytes of the buffer
+ * A buffer is sent as it is lent and answered whole. It is lent at an address that leaves the remainder `skew` by 16, with canaries around it.
  * Exit status: 0 at the end of the input; 1 for a request that is not one, or a call that changed a canary or what it may only look at.
  */
 #include "skriemelt.h"
@@ -18,10 +19,18 @@
 #define SIDE 64
 #define CANARY 0x5C
 
-/* What a call looks at, a copy of it, and the bytes in which its buffer lies. */
-static uint8_t given[MOST], kept[MOST], lent[16 + SIDE + MOST + SIDE];
-static size_t given_bytes, buffer_bytes;
-static uint8_t *buffer;
+/* What a call looks at, and a copy of it. */
+typedef struct given {
+    uint8_t bytes[MOST], kept[MOST];
+    size_t length;
+} given;
+
+/* A lent buffer, and the bytes in which it lies. */
+typedef struct lent {
+    uint8_t all[16 + SIDE + MOST + SIDE];
+    uint8_t *bytes;
+    size_t length;
+} lent;
 
 static void stop(const char *why)
 {
@@ -130,65 +139,96 @@ static void put_timing(const skriemelt_timing *t)
     }
 }
 
-/* Takes what a call looks at and its buffer, and lays canaries around the buffer. */
-static void get_slices(void)
+static size_t get_length(void)
+{
+    size_t length = get(4);
+
+    if (length > MOST)
+        stop("a length is too great");
+    return length;
+}
+
+/* Takes what a call looks at. */
+static void get_given(given *g)
+{
+    g->length = get_length();
+    get_bytes(g->bytes, g->length);
+    memcpy(g->kept, g->bytes, g->length);
+}
+
+/* Stops if the call has changed it. */
+static void hold_given(const given *g)
+{
+    if (memcmp(g->bytes, g->kept, g->length) != 0)
+        stop("what a call may only look at has changed");
+}
+
+/* Takes a lent buffer, and lays canaries around it. */
+static void get_lent(lent *l)
 {
     uint32_t skew;
 
-    given_bytes = get(4);
-    buffer_bytes = get(4);
+    l->length = get_length();
     skew = get(4);
-    if (given_bytes > MOST || buffer_bytes > MOST || skew > 15)
-        stop("a length or a skew is too great");
-    buffer = lent + SIDE;
-    buffer += (16 + skew - (uintptr_t)buffer % 16) % 16;
-    get_bytes(given, given_bytes);
-    memcpy(kept, given, given_bytes);
-    memset(buffer - SIDE, CANARY, SIDE);
-    get_bytes(buffer, buffer_bytes);
-    memset(buffer + buffer_bytes, CANARY, SIDE);
+    if (skew > 15)
+        stop("a skew is too great");
+    l->bytes = l->all + SIDE;
+    l->bytes += (16 + skew - (uintptr_t)l->bytes % 16) % 16;
+    memset(l->bytes - SIDE, CANARY, SIDE);
+    get_bytes(l->bytes, l->length);
+    memset(l->bytes + l->length, CANARY, SIDE);
 }
 
-/* Answers the buffer, if the call has kept to it. */
-static void put_buffer(void)
+/* Answers a buffer, if the call has kept to it. */
+static void put_lent(const lent *l)
 {
     size_t i;
 
     for (i = 1; i <= SIDE; i++) {
-        if (*(buffer - i) != CANARY || buffer[buffer_bytes + i - 1] != CANARY)
-            stop("a byte beside the buffer has changed");
+        if (*(l->bytes - i) != CANARY || l->bytes[l->length + i - 1] != CANARY)
+            stop("a byte beside a buffer has changed");
     }
-    if (memcmp(given, kept, given_bytes) != 0)
-        stop("what a call may only look at has changed");
-    fwrite(buffer, 1, buffer_bytes, stdout);
+    fwrite(l->bytes, 1, l->length, stdout);
 }
 
 static void serve_read(void)
 {
+    static given payload;
+    static lent records, trim;
     skriemelt_read_answer a;
 
-    get_slices();
-    a = skriemelt_read(given, given_bytes, buffer, buffer_bytes);
+    get_given(&payload);
+    get_lent(&records);
+    get_lent(&trim);
+    a = skriemelt_read(payload.bytes, payload.length, records.bytes, records.length, trim.bytes, trim.length);
+    hold_given(&payload);
     put(a.place, 8);
     put(a.refusal, 1);
     put(a.unknown, 1);
     put_programme(&a.programme);
     put_timing(&a.timing);
-    put_buffer();
+    put_lent(&records);
+    put_lent(&trim);
 }
 
 static void serve_write(void)
 {
+    static given records, trim;
+    static lent payload;
     skriemelt_programme programme = get_programme();
     skriemelt_timing timing = get_timing();
     skriemelt_write_answer a;
 
-    get_slices();
-    a = skriemelt_write(programme, timing, given, given_bytes, buffer, buffer_bytes);
+    get_given(&records);
+    get_given(&trim);
+    get_lent(&payload);
+    a = skriemelt_write(programme, timing, records.bytes, records.length, trim.bytes, trim.length, payload.bytes, payload.length);
+    hold_given(&records);
+    hold_given(&trim);
     put(a.place, 8);
     put(a.length, 4);
     put(a.refusal, 1);
-    put_buffer();
+    put_lent(&payload);
 }
 
 int main(void)

@@ -29,7 +29,7 @@ static void print_accepted(const skriemelt_read_answer *a, const uint8_t *record
 
 static int list(FILE *in, int progress)
 {
-    static uint8_t payload[65535], records[SKRIEMELT_MOST_RECORD_BYTES];
+    static uint8_t payload[65535], records[SKRIEMELT_MOST_RECORD_BYTES], trim[SKRIEMELT_MOST_TRIM_BYTES];
     unsigned long long number = 0, refused = 0, bytes = 0;
     uint8_t head[2];
     size_t got;
@@ -42,7 +42,7 @@ static int list(FILE *in, int progress)
             got = 1;
             break;
         }
-        a = skriemelt_read(payload, n, records, sizeof records);
+        a = skriemelt_read(payload, n, records, sizeof records, trim, sizeof trim);
         printf("%llu bytes %zu ", number, n);
         if (a.refusal == SKRIEMELT_ACCEPTED) {
             print_accepted(&a, records);

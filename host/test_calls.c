@@ -1,4 +1,5 @@
 /* NULL with length 0, lent buffers of every length about the needed one with canaries around them, unaligned pointers, refused calls. */
+#include "bits.h"
 #include "lent.h"
 #include "test.h"
 
@@ -30,15 +31,21 @@ static int bare(const skriemelt_read_answer *a)
 
 static void nulls(void)
 {
-    uint8_t out[1] = {0x5A};
-    skriemelt_read_answer a = skriemelt_read(NULL, 0, NULL, 0);
+    uint8_t out[2] = {0x5A, 0x5A}, trim[95];
+    skriemelt_read_answer a = skriemelt_read(NULL, 0, NULL, 0, NULL, 0);
 
-    check(a.refusal == SKRIEMELT_PAST_PAYLOAD && a.place == 0 && bare(&a), "no payload, no buffer");
-    a = skriemelt_read(NULL, 0, out, 1);
-    check(a.refusal == SKRIEMELT_PAST_PAYLOAD && out[0] == 0x5A, "no payload");
-    a = skriemelt_read(small, 4, NULL, 0);
-    check(a.refusal == SKRIEMELT_ACCEPTED && a.programme.objects == 1 && a.unknown == 1, "no buffer, and none needed");
-    a = skriemelt_read(small, 0, out, 0);
+    check(a.refusal == SKRIEMELT_PAST_PAYLOAD && a.place == 0 && bare(&a), "no payload, no buffers");
+    a = skriemelt_read(NULL, 0, out, 1, out + 1, 1);
+    check(a.refusal == SKRIEMELT_PAST_PAYLOAD && out[0] == 0x5A && out[1] == 0x5A, "no payload");
+    memset(trim, 0x5A, sizeof trim);
+    a = skriemelt_read(small, 4, NULL, 0, trim, sizeof trim);
+    check(a.refusal == SKRIEMELT_ACCEPTED && a.programme.objects == 1 && a.unknown == 1, "no record buffer, and none needed");
+    check(is_zero(trim, sizeof trim), "the trim table without a trim element");
+    a = skriemelt_read(small, 4, NULL, 0, NULL, 0);
+    check(a.refusal == SKRIEMELT_NO_ROOM && a.place == 95 && bare(&a), "no trim buffer, and one is needed");
+    a = skriemelt_read(small, 4, out, 1, trim, 94);
+    check(a.refusal == SKRIEMELT_NO_ROOM && a.place == 95 && out[0] == 0x5A && is_zero(trim, sizeof trim), "a trim buffer one byte too short");
+    a = skriemelt_read(small, 0, out, 0, trim, 0);
     check(a.refusal == SKRIEMELT_PAST_PAYLOAD && a.place == 0, "pointers with length 0");
 }
 
@@ -48,98 +55,138 @@ static void worked(void)
     static const uint64_t places[4] = {0, 8, 14, 18};
     static const uint8_t version[2] = {0x41, 0x00};
     skriemelt_read_answer a;
-    uint8_t *longest = calloc(4097, 1);
+    uint8_t *longest = calloc(1000000, 1), trim[95];
     size_t n;
 
     for (n = 0; n < 4; n++) {
-        a = skriemelt_read(small, n, NULL, 0);
+        a = skriemelt_read(small, n, NULL, 0, NULL, 0);
         check(a.refusal == SKRIEMELT_PAST_PAYLOAD && a.place == places[n] && bare(&a), "cut");
     }
-    a = skriemelt_read(version, 2, NULL, 0);
+    a = skriemelt_read(version, 2, NULL, 0, NULL, 0);
     check(a.refusal == SKRIEMELT_OTHER_VERSION && a.place == 0 && bare(&a), "version 1");
     if (longest == NULL)
         exit(2);
     memcpy(longest, small, 4);
-    a = skriemelt_read(longest, 4096, NULL, 0);
+    a = skriemelt_read(longest, 4096, NULL, 0, trim, sizeof trim);
     check(a.refusal == SKRIEMELT_ACCEPTED && a.place == 0, "4,096 bytes");
-    a = skriemelt_read(longest, 4097, NULL, 0);
+    a = skriemelt_read(longest, 4097, NULL, 0, trim, sizeof trim);
     check(a.refusal == SKRIEMELT_TOO_LONG && a.place == 4097 && bare(&a), "4,097 bytes");
-    free(longest);
-    longest = calloc(1000000, 1);
-    if (longest == NULL)
-        exit(2);
-    a = skriemelt_read(longest, 1000000, NULL, 0);
+    a = skriemelt_read(longest, 1000000, NULL, 0, NULL, 0);
     check(a.refusal == SKRIEMELT_TOO_LONG && a.place == 1000000 && bare(&a), "a million bytes");
     free(longest);
 }
 
-static void one_room(const uint8_t *payload, size_t n, const uint8_t *records, size_t need, size_t skew, size_t room)
+/* A payload of three objects and two blocks that is accepted, with its tables. */
+typedef struct sample {
+    const uint8_t *payload;
+    size_t n;
+    const uint8_t *records, *trim;
+    size_t need, trim_need;
+} sample;
+
+/* Reads into buffers of these rooms, at this skew and another one. */
+static void one_room(const sample *s, size_t skew, size_t room, size_t trim_room)
 {
-    uint8_t *all = malloc(SIDE + skew + room + SIDE);
-    uint8_t *out;
+    size_t trim_skew = (3 * skew + 1) % 9;
+    uint8_t *all = malloc(SIDE + skew + room + SIDE), *trim_all = malloc(SIDE + trim_skew + trim_room + SIDE), *out, *trim;
     skriemelt_read_answer a;
 
-    if (all == NULL)
+    if (all == NULL || trim_all == NULL)
         exit(2);
     out = lent(all, skew, room);
-    a = skriemelt_read(payload, n, out, room);
-    if (room < need) {
-        check(a.refusal == SKRIEMELT_NO_ROOM && a.place == need && bare(&a), "too little room");
-        check(untouched(all, skew, room, 0), "a refusal leaves the buffer as it came");
+    trim = lent(trim_all, trim_skew, trim_room);
+    a = skriemelt_read(s->payload, s->n, out, room, trim, trim_room);
+    if (room < s->need || trim_room < s->trim_need) {
+        check(a.refusal == SKRIEMELT_NO_ROOM && a.place == (room < s->need ? s->need : s->trim_need) && bare(&a), "too little room");
+        check(untouched(all, skew, room, 0), "a refusal leaves the record buffer as it came");
+        check(untouched(trim_all, trim_skew, trim_room, 0), "a refusal leaves the trim buffer as it came");
     } else {
-        check(a.refusal == SKRIEMELT_ACCEPTED && a.place == 0, "room enough");
-        check(memcmp(out, records, need) == 0, "records");
-        check(untouched(all, skew, room, need), "bytes behind the records and around the buffer");
+        check(a.refusal == SKRIEMELT_ACCEPTED && a.place == 0 && a.unknown == 0, "room enough");
+        check(memcmp(out, s->records, s->need) == 0, "records");
+        check(memcmp(trim, s->trim, s->trim_need) == 0, "trim table");
+        check(untouched(all, skew, room, s->need), "bytes behind the records and around the buffer");
+        check(untouched(trim_all, trim_skew, trim_room, s->trim_need), "bytes behind the trim table and around the buffer");
     }
     free(all);
+    free(trim_all);
 }
 
-/* A buffer of exactly its length on the heap: the address sanitizer sees a step out of it. */
-static void exact(const uint8_t *payload, size_t n, size_t room)
+/* Buffers of exactly their length on the heap: the address sanitizer sees a step out of them. */
+static void exact(const sample *s)
 {
-    uint8_t *in = malloc(n), *out = malloc(room);
+    uint8_t *in = malloc(s->n), *out = malloc(s->need), *trim = malloc(s->trim_need);
 
-    if (in == NULL || out == NULL)
+    if (in == NULL || out == NULL || trim == NULL)
         exit(2);
-    memcpy(in, payload, n);
-    check(skriemelt_read(in, n, out, room).refusal == SKRIEMELT_ACCEPTED, "exact lengths");
+    memcpy(in, s->payload, s->n);
+    check(skriemelt_read(in, s->n, out, s->need, trim, s->trim_need).refusal == SKRIEMELT_ACCEPTED, "exact lengths");
     free(in);
     free(out);
+    free(trim);
 }
 
-static void rooms(const uint8_t *payload, size_t n)
+/* Every room about the needed ones, of one buffer and of both. */
+static void rooms(const sample *s)
 {
-    static uint8_t records[SKRIEMELT_MOST_RECORD_BYTES];
-    skriemelt_read_answer a = skriemelt_read(payload, n, records, sizeof records);
-    size_t need = (size_t)SKRIEMELT_RECORD_STRIDE * a.programme.objects * a.timing.blocks, room, skew;
+    size_t room, skew, less;
     uint8_t shifted[256];
+    sample moved = *s;
 
-    check(a.refusal == SKRIEMELT_ACCEPTED && a.programme.objects == 3 && a.timing.blocks == 2 && need == 144, "the sample");
-    for (room = 0; room <= need + 40; room++)
-        one_room(payload, n, records, need, 0, room);
+    for (room = 0; room <= s->need + 40; room++)
+        one_room(s, 0, room, s->trim_need);
+    for (room = 0; room <= s->trim_need + 40; room++)
+        one_room(s, 0, s->need, room);
+    one_room(s, 0, s->need, SKRIEMELT_MOST_TRIM_BYTES);
+    one_room(s, 0, 0, 0);
     for (skew = 0; skew < 9; skew++) {
-        one_room(payload, n, records, need, skew, need - 1);
-        one_room(payload, n, records, need, skew, need);
-        one_room(payload, n, records, need, skew, need + 1);
-        memcpy(shifted + skew, payload, n);
-        one_room(shifted + skew, n, records, need, skew, need);
+        for (less = 0; less < 9; less++)
+            one_room(s, skew, s->need + 1 - less / 3, s->trim_need + 1 - less % 3);
+        memcpy(shifted + skew, s->payload, s->n);
+        moved.payload = shifted + skew;
+        one_room(&moved, skew, s->need, s->trim_need);
     }
-    exact(payload, n, need);
-    for (room = 0; room < n; room++) {
-        uint8_t *all = malloc(SIDE + SIDE + need);
-        skriemelt_read_answer cut;
-        if (all == NULL)
-            exit(2);
-        cut = skriemelt_read(payload, room, lent(all, 0, need), need);
-        check(cut.refusal == SKRIEMELT_PAST_PAYLOAD && cut.place <= 8 * room && bare(&cut), "cut");
-        check(untouched(all, 0, need, 0), "a cut payload leaves the buffer as it came");
-        free(all);
+    exact(s);
+}
+
+/* Each beginning of the payload. */
+static void cuts(const sample *s)
+{
+    static uint8_t all[SIDE + 144 + SIDE], trim_all[SIDE + 97 + SIDE];
+    skriemelt_read_answer a;
+    size_t n;
+
+    for (n = 0; n < s->n; n++) {
+        a = skriemelt_read(s->payload, n, lent(all, 0, s->need), s->need, lent(trim_all, 0, s->trim_need), s->trim_need);
+        check(a.refusal == SKRIEMELT_PAST_PAYLOAD && a.place <= 8 * n && bare(&a), "cut");
+        check(untouched(all, 0, s->need, 0) && untouched(trim_all, 0, s->trim_need, 0), "a cut payload leaves the buffers as they came");
     }
+}
+
+/* The payload's records are taken as they are read, its trim table is given. */
+static void one_sample(const uint8_t *payload, size_t n, const uint8_t *trim)
+{
+    static uint8_t records[SKRIEMELT_MOST_RECORD_BYTES], read_trim[SKRIEMELT_MOST_TRIM_BYTES];
+    skriemelt_read_answer a = skriemelt_read(payload, n, records, sizeof records, read_trim, sizeof read_trim);
+    sample s = {payload, n, records, trim, 144, 97};
+
+    check(a.refusal == SKRIEMELT_ACCEPTED && a.programme.objects == 3 && a.timing.blocks == 2, "three objects, two blocks");
+    rooms(&s);
+    cuts(&s);
+}
+
+/* Three dynamic objects, inactive in two blocks: 1 + 2 + 3 + 16 + 1 + 12 bits from the discard flag on, 5 bytes with 5 of padding; then the trim element. */
+static void with_trim(void)
+{
+    static const char digits[] = "00 00010  1 0  0 0010  0001 0100 0  0  00 001  000000 00  000001 00  1  10 10  10 10  10 10  00000" EVERY_TRIM;
+    uint8_t payload[64];
+
+    one_sample(payload, bytes_of(digits, payload), every_trim);
 }
 
 int main(int argc, char **argv)
 {
-    uint8_t sample[128];
+    static const uint8_t no_trim[97] = {0};
+    uint8_t bytes[128];
     size_t n;
     FILE *file = argc == 2 ? fopen(argv[1], "rb") : NULL;
 
@@ -147,10 +194,11 @@ int main(int argc, char **argv)
         fprintf(stderr, "usage: test_calls SAMPLE\n");
         return 2;
     }
-    n = fread(sample, 1, sizeof sample, file);
+    n = fread(bytes, 1, sizeof bytes, file);
     fclose(file);
     nulls();
     worked();
-    rooms(sample, n);
+    one_sample(bytes, n, no_trim);
+    with_trim();
     return finish("test_calls");
 }

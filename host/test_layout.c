@@ -50,5 +50,10 @@ int main(void)
     offsets();
     check(skriemelt_version() == SKRIEMELT_VERSION, "version");
     check(SKRIEMELT_RECORD_STRIDE == SKRIEMELT_RECORD_PRECISE_Z + 1, "a record ends with the code of z");
+    check(SKRIEMELT_TRIM_CONFIG == SKRIEMELT_TRIM_GLOBAL_MODE + 1, "the configurations follow the modes");
+    check(SKRIEMELT_TRIM_CONFIG_STRIDE == SKRIEMELT_TRIM_CONFIG_AMOUNT_LIS + 1, "a configuration ends with the amount of the listener plane");
+    check(SKRIEMELT_TRIM_PER_OBJECT == SKRIEMELT_TRIM_CONFIG + SKRIEMELT_TRIM_CONFIG_STRIDE * SKRIEMELT_TRIM_CONFIGS, "nine configurations");
+    check(SKRIEMELT_TRIM_FIXED == SKRIEMELT_TRIM_PER_OBJECT + 1, "the flags of the objects are last");
+    check(SKRIEMELT_MOST_TRIM_BYTES == SKRIEMELT_TRIM_FIXED + SKRIEMELT_MOST_OBJECTS, "the longest trim table");
     return finish("test_layout");
 }

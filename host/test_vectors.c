@@ -1,6 +1,6 @@
 /*
- * Every vector of crates/vectors/data/payloads through skriemelt_read, printed as the listing program prints it, against crates/vectors/stdout; the tables
- * of each accepted one through skriemelt_write, against crates/vectors/data/written, and read back.
+ * Every vector of crates/vectors/data/payloads through skriemelt_read, printed as the listing program prints it and with a line for a trim table that is
+ * not all 0, against crates/vectors/stdout; the tables of each accepted one through skriemelt_write, against crates/vectors/data/written, and read back.
  * Arguments: the payloads, the expected lines, the written forms. The last file has an entry for each payload, in the same order: two bytes of length and
  * the form; the length is 0 where the payload is refused, has the reserved content flag set, or has a form of more than 4,096 bytes.
  */
@@ -89,6 +89,21 @@ static void accepted(const skriemelt_read_answer *a, const uint8_t *records)
     }
 }
 
+/* The trim table, unless it is all 0, as it must be without a trim element. */
+static void say_trim(const uint8_t *trim, size_t bytes)
+{
+    size_t i = 0;
+
+    while (i < bytes && trim[i] == 0)
+        i++;
+    if (i == bytes)
+        return;
+    say("trim=");
+    for (i = 0; i < bytes; i++)
+        say("%02x", trim[i]);
+    say("\n");
+}
+
 /* Where the line that holds a byte begins. */
 static size_t line_start(const uint8_t *s, size_t at)
 {
@@ -135,17 +150,30 @@ static int same_timing(const skriemelt_timing *a, const skriemelt_timing *b)
     return same;
 }
 
-/* The written form, read, gives the tables that it was written from, and no unknown element. */
-static void read_back(const skriemelt_read_answer *a, const uint8_t *records, const uint8_t *form, size_t length)
+/* What a read leaves: its answer, and the lent buffers. */
+typedef struct tables {
+    skriemelt_read_answer answer;
+    uint8_t records[SKRIEMELT_MOST_RECORD_BYTES], trim[SKRIEMELT_MOST_TRIM_BYTES];
+} tables;
+
+static size_t trim_bytes(const tables *t)
 {
-    static uint8_t again[SKRIEMELT_MOST_RECORD_BYTES];
+    return SKRIEMELT_TRIM_FIXED + (size_t)t->answer.programme.objects;
+}
+
+/* The written form, read, gives the tables that it was written from, and no unknown element. */
+static void read_back(const tables *t, const uint8_t *form, size_t length)
+{
+    static uint8_t again[SKRIEMELT_MOST_RECORD_BYTES], again_trim[SKRIEMELT_MOST_TRIM_BYTES];
+    const skriemelt_read_answer *a = &t->answer;
     size_t bytes = (size_t)SKRIEMELT_RECORD_STRIDE * a->programme.objects * a->timing.blocks;
-    skriemelt_read_answer b = skriemelt_read(form, length, again, sizeof again);
+    skriemelt_read_answer b = skriemelt_read(form, length, again, sizeof again, again_trim, sizeof again_trim);
 
     check(b.refusal == SKRIEMELT_ACCEPTED && b.place == 0 && b.unknown == 0, "the written form is accepted");
     check(same_programme(&a->programme, &b.programme), "the written programme is read back");
     check(same_timing(&a->timing, &b.timing), "the written timing is read back");
-    check(memcmp(records, again, bytes) == 0, "the written records are read back");
+    check(memcmp(t->records, again, bytes) == 0, "the written records are read back");
+    check(memcmp(t->trim, again_trim, trim_bytes(t)) == 0, "the written trim table is read back");
 }
 
 /* The lines of a form that was written and read back. */
@@ -160,14 +188,15 @@ static void say_form(const uint8_t *form, size_t bytes)
 }
 
 /* Writes the tables of a vector into exactly the expected room. Nothing is expected of tables that are refused. */
-static void write_vector(const skriemelt_read_answer *a, const uint8_t *records, const uint8_t *want, size_t want_bytes)
+static void write_vector(const tables *t, const uint8_t *want, size_t want_bytes)
 {
     uint8_t *form = calloc(want_bytes ? want_bytes : 1, 1);
+    const skriemelt_read_answer *a = &t->answer;
     skriemelt_write_answer w;
 
     if (form == NULL)
         exit(2);
-    w = skriemelt_write(a->programme, a->timing, records, SKRIEMELT_MOST_RECORD_BYTES, form, want_bytes);
+    w = skriemelt_write(a->programme, a->timing, t->records, sizeof t->records, t->trim, sizeof t->trim, form, want_bytes);
     if (a->programme.content & SKRIEMELT_CONTENT_RESERVED) {
         check(want_bytes == 0 && w.refusal == SKRIEMELT_NOT_VALID && w.place == 0 && w.length == 0, "the reserved content flag is not written");
     } else if (want_bytes == 0) {
@@ -177,7 +206,7 @@ static void write_vector(const skriemelt_read_answer *a, const uint8_t *records,
         check(w.refusal == SKRIEMELT_ACCEPTED && w.place == 0 && w.length == want_bytes, "the written form's length");
         check(w.refusal != SKRIEMELT_ACCEPTED || memcmp(form, want, want_bytes) == 0, "the written form");
         if (w.refusal == SKRIEMELT_ACCEPTED)
-            read_back(a, records, form, want_bytes);
+            read_back(t, form, want_bytes);
         say_form(form, want_bytes);
     }
     free(form);
@@ -200,21 +229,21 @@ static const uint8_t *entry(const uint8_t *file, size_t bytes, size_t *at, size_
 /* Reads a vector and says its lines; writes its tables if it is accepted. */
 static void one_vector(unsigned number, const uint8_t *bytes, size_t n, const uint8_t *form, size_t form_bytes)
 {
-    static uint8_t records[SKRIEMELT_MOST_RECORD_BYTES];
+    static tables t;
     /* a copy of its own, so that the address sanitizer sees a read past its end */
     uint8_t *payload = malloc(n ? n : 1);
-    skriemelt_read_answer a;
 
     if (payload == NULL)
         exit(2);
     memcpy(payload, bytes, n);
-    memset(records, 0xA5, sizeof records);
-    a = skriemelt_read(payload, n, records, sizeof records);
+    memset(&t, 0xA5, sizeof t);
+    t.answer = skriemelt_read(payload, n, t.records, sizeof t.records, t.trim, sizeof t.trim);
     free(payload);
-    say("vector=%u\nrefusal=%u\nplace=%llu\n", number, a.refusal, (unsigned long long)a.place);
-    if (a.refusal == SKRIEMELT_ACCEPTED) {
-        accepted(&a, records);
-        write_vector(&a, records, form, form_bytes);
+    say("vector=%u\nrefusal=%u\nplace=%llu\n", number, t.answer.refusal, (unsigned long long)t.answer.place);
+    if (t.answer.refusal == SKRIEMELT_ACCEPTED) {
+        accepted(&t.answer, t.records);
+        say_trim(t.trim, trim_bytes(&t));
+        write_vector(&t, form, form_bytes);
     } else {
         check(form_bytes == 0, "no form of a refused vector is expected");
     }

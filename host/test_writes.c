@@ -2,6 +2,7 @@
  * skriemelt_write: forms worked out by hand from the clauses, tables that are not valid, buffers of every length about the needed one with canaries
  * around them, unaligned pointers, the limit of 4,096 bytes and the longest tables of all.
  */
+#include "bits.h"
 #include "lent.h"
 #include "test.h"
 
@@ -10,8 +11,8 @@
 typedef struct tables {
     skriemelt_programme programme;
     skriemelt_timing timing;
-    uint8_t records[SKRIEMELT_MOST_RECORD_BYTES];
-    size_t record_bytes;
+    uint8_t records[SKRIEMELT_MOST_RECORD_BYTES], trim[SKRIEMELT_MOST_TRIM_BYTES];
+    size_t record_bytes, trim_bytes;
 } tables;
 
 static tables given;
@@ -23,26 +24,9 @@ static const uint8_t defaults[22] = {0, 0, 31, 31, 64, 0, 0, 0, 0, 0, 1};
 /* An active dynamic record of which each field takes its most bits, without extended data. */
 static const uint8_t heavy[24] = {1, 2, 65, 31, 62, 0, 49, 17, 1, 2, 3, 5, 0, 1, 7, 3, 1};
 
-/* Digits 0 and 1 to bytes, the last one filled up with zeros; other characters part the fields. The number of bytes. */
-static size_t bytes_of(const char *digits, uint8_t *bytes)
-{
-    size_t bits = 0;
-
-    for (; *digits != '\0'; digits++) {
-        if (*digits != '0' && *digits != '1')
-            continue;
-        if (bits % 8 == 0)
-            bytes[bits / 8] = 0;
-        if (*digits == '1')
-            bytes[bits / 8] = (uint8_t)(bytes[bits / 8] | 0x80 >> bits % 8);
-        bits++;
-    }
-    return (bits + 7) / 8;
-}
-
 static skriemelt_write_answer write_given(uint8_t *payload, size_t room)
 {
-    return skriemelt_write(given.programme, given.timing, given.records, given.record_bytes, payload, room);
+    return skriemelt_write(given.programme, given.timing, given.records, given.record_bytes, given.trim, given.trim_bytes, payload, room);
 }
 
 static uint8_t *record_at(size_t index)
@@ -50,7 +34,12 @@ static uint8_t *record_at(size_t index)
     return given.records + SKRIEMELT_RECORD_STRIDE * index;
 }
 
-/* Dynamic objects only, the first an LFE object if lfe is 1; every record inactive. */
+static uint8_t *config_at(size_t index)
+{
+    return given.trim + SKRIEMELT_TRIM_CONFIG + SKRIEMELT_TRIM_CONFIG_STRIDE * index;
+}
+
+/* Dynamic objects only, the first an LFE object if lfe is 1; every record inactive; no trim. */
 static void give_inactive(uint8_t objects, uint8_t lfe, uint8_t blocks)
 {
     size_t i, count = (size_t)objects * blocks;
@@ -61,6 +50,7 @@ static void give_inactive(uint8_t objects, uint8_t lfe, uint8_t blocks)
     given.programme.lfe = lfe;
     given.timing.blocks = blocks;
     given.record_bytes = SKRIEMELT_RECORD_STRIDE * count;
+    given.trim_bytes = SKRIEMELT_TRIM_FIXED + (size_t)objects;
     for (i = 0; i < count; i++) {
         record_at(i)[SKRIEMELT_RECORD_CLASS] = i < (size_t)lfe * blocks ? SKRIEMELT_CLASS_BED : SKRIEMELT_CLASS_DYNAMIC;
         memcpy(record_at(i) + 2, defaults, sizeof defaults);
@@ -89,11 +79,11 @@ static void accepted(const uint8_t *form, size_t length, size_t skew, size_t roo
     check(untouched(lent_bytes, skew, room, length), "bytes behind the payload and around the buffer");
 }
 
-/* Every room about the needed one, and unaligned pointers to the payload and the records. */
+/* Every room about the needed one, and unaligned pointers to the payload, the records and the trim table. */
 static void all_rooms(const uint8_t *form, size_t length, const char *what)
 {
-    static uint8_t shifted[SKRIEMELT_MOST_RECORD_BYTES + 16];
-    size_t room, skew;
+    static uint8_t shifted[SKRIEMELT_MOST_RECORD_BYTES + 16], shifted_trim[SKRIEMELT_MOST_TRIM_BYTES + 16];
+    size_t room, skew, trim_skew;
 
     for (room = 0; room < length; room++)
         refused(SKRIEMELT_NO_FIT, length, room, what);
@@ -102,26 +92,31 @@ static void all_rooms(const uint8_t *form, size_t length, const char *what)
     for (skew = 0; skew < 9; skew++) {
         uint8_t *payload = lent(lent_bytes, skew, length);
         skriemelt_write_answer a;
+        trim_skew = (3 * skew + 1) % 9;
         memcpy(shifted + skew, given.records, given.record_bytes);
-        a = skriemelt_write(given.programme, given.timing, shifted + skew, given.record_bytes, payload, length);
+        memcpy(shifted_trim + trim_skew, given.trim, given.trim_bytes);
+        a = skriemelt_write(given.programme, given.timing, shifted + skew, given.record_bytes, shifted_trim + trim_skew, given.trim_bytes, payload, length);
         check(a.refusal == SKRIEMELT_ACCEPTED && a.length == length && memcmp(payload, form, length) == 0, "unaligned");
         check(untouched(lent_bytes, skew, length, length), "unaligned: bytes around the buffer");
         check(memcmp(shifted + skew, given.records, given.record_bytes) == 0, "the records are only looked at");
+        check(memcmp(shifted_trim + trim_skew, given.trim, given.trim_bytes) == 0, "the trim table is only looked at");
     }
 }
 
 /* Slices of exactly their length on the heap: the address sanitizer sees a step out of them. */
 static void exact(const uint8_t *form, size_t length)
 {
-    uint8_t *records = malloc(given.record_bytes), *payload = malloc(length);
+    uint8_t *records = malloc(given.record_bytes ? given.record_bytes : 1), *trim = malloc(given.trim_bytes), *payload = malloc(length);
     skriemelt_write_answer a;
 
-    if (records == NULL || payload == NULL)
+    if (records == NULL || trim == NULL || payload == NULL)
         exit(2);
     memcpy(records, given.records, given.record_bytes);
-    a = skriemelt_write(given.programme, given.timing, records, given.record_bytes, payload, length);
+    memcpy(trim, given.trim, given.trim_bytes);
+    a = skriemelt_write(given.programme, given.timing, records, given.record_bytes, trim, given.trim_bytes, payload, length);
     check(a.refusal == SKRIEMELT_ACCEPTED && memcmp(payload, form, length) == 0, "exact lengths");
     free(records);
+    free(trim);
     free(payload);
 }
 
@@ -132,16 +127,18 @@ static void nulls(void)
     skriemelt_write_answer a;
 
     give_inactive(1, 0, 0);
-    a = skriemelt_write(given.programme, given.timing, NULL, 0, NULL, 0);
+    a = skriemelt_write(given.programme, given.timing, NULL, 0, given.trim, given.trim_bytes, NULL, 0);
     check(a.refusal == SKRIEMELT_NO_FIT && a.place == 2 && a.length == 0, "no records, no buffer");
+    a = skriemelt_write(given.programme, given.timing, NULL, 0, NULL, 0, NULL, 0);
+    check(a.refusal == SKRIEMELT_NOT_VALID && a.place == 1 && a.length == 0, "no trim table, and one is needed");
     all_rooms(one, 2, "one object without blocks");
     given.programme.lfe = 1;
     accepted(one_lfe, 2, 0, 2, "one LFE object without blocks");
     give_inactive(1, 0, 1);
-    a = skriemelt_write(given.programme, given.timing, NULL, 0, NULL, 0);
+    a = skriemelt_write(given.programme, given.timing, NULL, 0, NULL, 0, NULL, 0);
     check(a.refusal == SKRIEMELT_NOT_VALID && a.place == 0 && a.length == 0, "no records, and some needed");
     memset(&given, 0, sizeof given);
-    a = skriemelt_write(given.programme, given.timing, NULL, 0, NULL, 0);
+    a = skriemelt_write(given.programme, given.timing, NULL, 0, NULL, 0, NULL, 0);
     check(a.refusal == SKRIEMELT_NOT_VALID && a.place == 0 && a.length == 0, "nothing at all");
 }
 
@@ -220,7 +217,46 @@ static void every_byte(void)
     refused(SKRIEMELT_NOT_VALID, 0, MOST_ROOM, "one record byte too few");
 }
 
-/* An LFE object and two dynamic ones, three blocks; the last dynamic object is active in block 1. */
+/* A form that every field of a trim element takes part in, without blocks; what may stand behind the table, and what is missing of it. */
+static void every_trim_field(void)
+{
+    static const char digits[] = "00 00010  1 0  0 0001" EVERY_TRIM;
+    uint8_t form[32];
+    size_t length = bytes_of(digits, form);
+
+    give_inactive(3, 0, 0);
+    memcpy(given.trim, every_trim, sizeof every_trim);
+    all_rooms(form, length, "every field of a trim element");
+    exact(form, length);
+    memset(given.trim + 97, 0xEE, 100);
+    given.trim_bytes = SKRIEMELT_MOST_TRIM_BYTES;
+    accepted(form, length, 0, MOST_ROOM, "bytes behind the trim table are not looked at");
+    given.trim_bytes = 96;
+    refused(SKRIEMELT_NOT_VALID, 1, MOST_ROOM, "one trim byte too few");
+    given.trim_bytes = 0;
+    refused(SKRIEMELT_NOT_VALID, 1, 0, "no trim byte");
+}
+
+/* The trim element of one object is the last of three: 1 + 2 + 2 + 2 + 1 + 1 bits. The others: 15 + 31 bits, 6 bytes; 1 + 1 + 3 + 1 bits, one byte. */
+static void trim_last(void)
+{
+    static const char digits[] = "00 00000  1 0  0 0011  0001 0101 0  0 00 000  000000 00  1  0  00 1  011111 011111 0 0000  0  000 1  00  0  0  0  00"
+                                 " 0101 0000 0  0  1 1 01  0  00  0010 0001 0  0  01 00 01  1 1  0000000";
+    static const uint8_t plain[8] = {1, 2, 50, 32, 31, 31, 64, 0};
+    uint8_t form[32];
+    size_t length = bytes_of(digits, form);
+
+    give_inactive(1, 0, 1);
+    memcpy(record_at(0), plain, sizeof plain);
+    record_at(0)[SKRIEMELT_RECORD_DIVERGENCE] = record_at(0)[SKRIEMELT_RECORD_DIVERGENCE_MODE] = 1;
+    given.trim[SKRIEMELT_TRIM_PRESENT] = given.trim[SKRIEMELT_TRIM_WARP_MODE] = 1;
+    given.trim[SKRIEMELT_TRIM_GLOBAL_MODE] = SKRIEMELT_TRIM_MODE_DISABLE;
+    given.trim[SKRIEMELT_TRIM_PER_OBJECT] = given.trim[SKRIEMELT_TRIM_FIXED] = 1;
+    all_rooms(form, length, "object, extended and trim element");
+    exact(form, length);
+}
+
+/* An LFE object and two dynamic ones, three blocks; the last dynamic object is active in block 1; every field of a trim element. */
 static void give_valid(void)
 {
     unsigned block;
@@ -229,22 +265,24 @@ static void give_valid(void)
     for (block = 0; block < 3; block++)
         given.timing.updates[block].start = (uint16_t)(7 + 32 * block);
     memcpy(record_at(7), heavy, sizeof heavy);
+    memcpy(given.trim, every_trim, sizeof every_trim);
 }
 
 /* What the refused tables below are made from is read back as it was given. */
 static void valid_tables(void)
 {
-    uint8_t payload[256], records[24 * 9];
+    uint8_t payload[256], records[24 * 9], trim[97];
     skriemelt_write_answer a;
     skriemelt_read_answer back;
 
     give_valid();
     a = write_given(payload, sizeof payload);
     check(a.refusal == SKRIEMELT_ACCEPTED && a.place == 0 && a.length > 0, "valid tables");
-    back = skriemelt_read(payload, a.length, records, sizeof records);
+    back = skriemelt_read(payload, a.length, records, sizeof records, trim, sizeof trim);
     check(back.refusal == SKRIEMELT_ACCEPTED && back.unknown == 0, "valid tables, read back");
     check(back.programme.objects == 3 && back.programme.lfe == 1 && back.timing.blocks == 3 && back.timing.updates[2].start == 71, "their numbers");
     check(memcmp(records, given.records, sizeof records) == 0, "their records");
+    check(memcmp(trim, given.trim, sizeof trim) == 0, "their trim table");
 }
 
 /* Three dynamic objects, without and with the reserved content flag. */
@@ -336,6 +374,50 @@ static void bad_records(void)
     BAD(2, (record_at(7)[SKRIEMELT_RECORD_ZONE] = 6, record_at(1)[SKRIEMELT_RECORD_SNAP] = 1));
 }
 
+/* Nine records: a bad trim table has place 10. Configurations 0 to 8 are default, disabled, nothing, centre, surround, height, tb, lis, all of them. */
+static void bad_trims(void)
+{
+    BAD(10, given.trim_bytes = 96);
+    BAD(10, given.trim_bytes = 0);
+    BAD(10, given.trim[SKRIEMELT_TRIM_PRESENT] = 0);
+    BAD(10, given.trim[SKRIEMELT_TRIM_PRESENT] = 2);
+    BAD(10, given.trim[SKRIEMELT_TRIM_WARP_MODE] = 2);
+    BAD(10, given.trim[SKRIEMELT_TRIM_GLOBAL_MODE] = SKRIEMELT_TRIM_MODE_DEFAULT);
+    BAD(10, given.trim[SKRIEMELT_TRIM_GLOBAL_MODE] = SKRIEMELT_TRIM_MODE_DISABLE);
+    BAD(10, given.trim[SKRIEMELT_TRIM_GLOBAL_MODE] = 3);
+    BAD(10, given.trim[SKRIEMELT_TRIM_PER_OBJECT] = 0);
+    BAD(10, given.trim[SKRIEMELT_TRIM_PER_OBJECT] = 2);
+    BAD(10, given.trim[SKRIEMELT_TRIM_FIXED + 2] = 2);
+    BAD(10, config_at(0)[SKRIEMELT_TRIM_CONFIG_DEFAULT] = 2);
+    BAD(10, config_at(0)[SKRIEMELT_TRIM_CONFIG_DISABLE] = 1);
+    BAD(10, config_at(0)[SKRIEMELT_TRIM_CONFIG_CARRIED] = SKRIEMELT_TRIM_CARRIED_CENTRE);
+    BAD(10, config_at(0)[SKRIEMELT_TRIM_CONFIG_AMOUNT_LIS] = 1);
+    BAD(10, config_at(1)[SKRIEMELT_TRIM_CONFIG_DISABLE] = 2);
+    BAD(10, config_at(1)[SKRIEMELT_TRIM_CONFIG_CARRIED] = SKRIEMELT_TRIM_CARRIED_TB);
+    BAD(10, config_at(1)[SKRIEMELT_TRIM_CONFIG_CENTRE] = 1);
+    BAD(10, config_at(2)[SKRIEMELT_TRIM_CONFIG_CARRIED] = 32);
+    BAD(10, config_at(2)[SKRIEMELT_TRIM_CONFIG_CARRIED] = SKRIEMELT_TRIM_CARRIED_SURROUND);
+    BAD(10, config_at(2)[SKRIEMELT_TRIM_CONFIG_CARRIED] = SKRIEMELT_TRIM_CARRIED_HEIGHT);
+    BAD(10, config_at(2)[SKRIEMELT_TRIM_CONFIG_CENTRE] = 1);
+    BAD(10, config_at(2)[SKRIEMELT_TRIM_CONFIG_SURROUND] = 4);
+    BAD(10, config_at(2)[SKRIEMELT_TRIM_CONFIG_HEIGHT] = 4);
+    BAD(10, config_at(2)[SKRIEMELT_TRIM_CONFIG_SIGN_TB] = 1);
+    BAD(10, config_at(2)[SKRIEMELT_TRIM_CONFIG_AMOUNT_TB] = 1);
+    BAD(10, config_at(2)[SKRIEMELT_TRIM_CONFIG_SIGN_LIS] = 1);
+    BAD(10, config_at(2)[SKRIEMELT_TRIM_CONFIG_AMOUNT_LIS] = 1);
+    BAD(10, config_at(3)[SKRIEMELT_TRIM_CONFIG_CENTRE] = 16);
+    BAD(10, config_at(4)[SKRIEMELT_TRIM_CONFIG_SURROUND] = 3);
+    BAD(10, config_at(4)[SKRIEMELT_TRIM_CONFIG_SURROUND] = 16);
+    BAD(10, config_at(5)[SKRIEMELT_TRIM_CONFIG_HEIGHT] = 3);
+    BAD(10, config_at(5)[SKRIEMELT_TRIM_CONFIG_HEIGHT] = 16);
+    BAD(10, config_at(8)[SKRIEMELT_TRIM_CONFIG_SIGN_TB] = 2);
+    BAD(10, config_at(8)[SKRIEMELT_TRIM_CONFIG_AMOUNT_TB] = 16);
+    BAD(10, config_at(8)[SKRIEMELT_TRIM_CONFIG_SIGN_LIS] = 2);
+    BAD(10, config_at(8)[SKRIEMELT_TRIM_CONFIG_AMOUNT_LIS] = 255);
+    BAD(9, (given.trim[SKRIEMELT_TRIM_PRESENT] = 2, record_at(8)[SKRIEMELT_RECORD_ACTIVE] = 2));
+    BAD(0, (given.trim[SKRIEMELT_TRIM_PRESENT] = 2, given.timing.updates[7].ramp = 1));
+}
+
 /* An active bed record may have a gain and a priority, and nothing more. */
 static void bed_records(void)
 {
@@ -373,7 +455,7 @@ static void give_many(size_t firsts, size_t others)
 /* 71 + 2 * 1,272 + 65 * 12 + 70 * 419 = 32,725 bits are 4,091 bytes; 65 * 11 + 70 * 420 give 5 bits more: 4,092. */
 static void limit(void)
 {
-    static uint8_t records[SKRIEMELT_MOST_RECORD_BYTES];
+    static uint8_t records[SKRIEMELT_MOST_RECORD_BYTES], trim[SKRIEMELT_MOST_TRIM_BYTES];
     uint8_t *payload = lent(lent_bytes, 0, 4096);
     skriemelt_write_answer a;
     skriemelt_read_answer back;
@@ -382,8 +464,9 @@ static void limit(void)
     a = write_given(payload, 4096);
     check(a.refusal == SKRIEMELT_ACCEPTED && a.place == 0 && a.length == 4096, "a form of 4,096 bytes");
     check(untouched(lent_bytes, 0, 4096, 4096), "bytes around a form of 4,096 bytes");
-    back = skriemelt_read(payload, 4096, records, sizeof records);
+    back = skriemelt_read(payload, 4096, records, sizeof records, trim, sizeof trim);
     check(back.refusal == SKRIEMELT_ACCEPTED && memcmp(records, given.records, given.record_bytes) == 0, "a form of 4,096 bytes, read back");
+    check(memcmp(trim, given.trim, given.trim_bytes) == 0, "a form of 4,096 bytes, its trim table");
     refused(SKRIEMELT_NO_FIT, 4096, 4095, "4,096 bytes, room for 4,095");
     give_many(11, 420);
     refused(SKRIEMELT_NO_FIT, 4097, 4096, "a form of 4,097 bytes");
@@ -392,31 +475,38 @@ static void limit(void)
 
 /*
  * Every field at its longest. Before the elements: 14 + 193 (nine empty beds, 159 dynamic objects) + 5 bits. The object element: 172 + 159 * (67 + 7 * 72)
- * bits, 11,371 bytes, behind 24 bits of id and size; the extended one: 3 + 1,272 * (9 + 10) bits, 3,022 bytes, behind 19. Together 115,399 bits. Without
- * the beds, dynamic objects only: 191 bits fewer.
+ * bits, 11,371 bytes, behind 24 bits of id and size; the extended one: 3 + 1,272 * (9 + 10) bits, 3,022 bytes, behind 19; the trim element: 7 + 9 * 29 + 160
+ * bits, 54 bytes, behind 14. Together 115,845 bits. Without the beds, dynamic objects only: 191 bits fewer.
  */
 static void longest(void)
 {
-    static const uint8_t extension[7] = {1, 2, 63, 7, 3, 3, 3};
+    static const uint8_t extension[7] = {1, 2, 63, 7, 3, 3, 3}, config[SKRIEMELT_TRIM_CONFIG_STRIDE] = {0, 0, 31, 15, 15, 15, 1, 15, 1, 15};
     size_t i;
 
     give_many(159, 7 * 159);
+    memset(given.trim, 1, sizeof given.trim);
+    given.trim[SKRIEMELT_TRIM_GLOBAL_MODE] = SKRIEMELT_TRIM_MODE_CUSTOM;
+    for (i = 0; i < SKRIEMELT_TRIM_CONFIGS; i++)
+        memcpy(config_at(i), config, sizeof config);
     for (i = 0; i < 8 * 159; i++)
         memcpy(record_at(i) + SKRIEMELT_RECORD_DIVERGENCE, extension, sizeof extension);
     for (i = 0; i < 8; i++)
         given.timing.updates[i].start = given.timing.updates[i].ramp = 1;
-    refused(SKRIEMELT_NO_FIT, 14401, MOST_ROOM, "dynamic objects only");
+    refused(SKRIEMELT_NO_FIT, 14457, MOST_ROOM, "dynamic objects only");
     given.programme.dynonly = 0;
     given.programme.content = SKRIEMELT_CONTENT_BED | SKRIEMELT_CONTENT_DYNAMIC;
     given.programme.multiple = 1;
     given.programme.instances = 7;
     given.programme.bedcount = 9;
     given.programme.dynamics = 158;
-    refused(SKRIEMELT_NO_FIT, 14425, MOST_ROOM, "the longest form");
-    refused(SKRIEMELT_NO_FIT, 14425, 14425, "the longest form, as much room");
-    refused(SKRIEMELT_NO_FIT, 14425, 0, "the longest form, no room");
+    refused(SKRIEMELT_NO_FIT, 14481, MOST_ROOM, "the longest form");
+    refused(SKRIEMELT_NO_FIT, 14481, 14481, "the longest form, as much room");
+    refused(SKRIEMELT_NO_FIT, 14481, 0, "the longest form, no room");
     record_at(1271)[SKRIEMELT_RECORD_ZONE] = 6;
     refused(SKRIEMELT_NOT_VALID, 1272, MOST_ROOM, "the last of the most records");
+    record_at(1271)[SKRIEMELT_RECORD_ZONE] = 5;
+    given.trim[SKRIEMELT_MOST_TRIM_BYTES - 1] = 2;
+    refused(SKRIEMELT_NOT_VALID, 1273, MOST_ROOM, "the last byte of the longest trim table");
 }
 
 int main(void)
@@ -424,12 +514,15 @@ int main(void)
     nulls();
     every_table();
     every_byte();
+    every_trim_field();
+    trim_last();
     bed_records();
     valid_tables();
     reserved_content();
     bad_programmes();
     bad_timings();
     bad_records();
+    bad_trims();
     limit();
     longest();
     return finish("test_writes");

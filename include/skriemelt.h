@@ -5,17 +5,18 @@
  * opens nothing and never ends the program. Link with -lskriemelt behind `make -C host install`, or with target/staticlib/libhost.a.
  *
  * Slices. A slice is passed as two arguments: a pointer to its first byte, and its length in bytes. A pointer with length 0 may be NULL. A pointer with a
- * length above 0 must point to that many bytes; it needs no alignment. Bytes of every sort are fine in a payload and in records, and every length is fine
- * for both. The payload and the records of one call must not overlap.
+ * length above 0 must point to that many bytes; it needs no alignment. Bytes of every sort are fine in a payload, in records and in a trim table, and every
+ * length is fine for them. What a call fills must not overlap any other slice of that call.
  *
  * Tables. The programme and the timing are passed and answered by value. Values of every sort are fine in them.
  *
- * Refusals. A refused call leaves every byte of the lent buffer (read: the records, write: the payload) as it came, and all fields of its answer but
- * refusal and place are 0. An accepted read writes the first 24 * objects * blocks bytes of its buffer and no others; an accepted write writes the first
- * `length` bytes of its buffer and no others.
+ * Refusals. A refused call leaves every byte of its lent buffers (read: the records and the trim table, write: the payload) as it came, and all fields of
+ * its answer but refusal and place are 0. An accepted read writes the first 24 * objects * blocks bytes of the record buffer, the first 94 + objects bytes
+ * of the trim buffer, and no others; an accepted write writes the first `length` bytes of its buffer and no others.
  *
  * Threads. Every call works on its arguments and its own stack alone (a read: about 32 kB, a write: about 1 kB). Calls may run at once in several threads,
- * as long as no two are lent the same buffer to be filled. What a call only looks at (read: the payload, write: the records) may be shared.
+ * as long as no two are lent the same buffer to be filled. What a call only looks at (read: the payload, write: the records and the trim table) may be
+ * shared.
  *
  * Bytes between the fields of an answer (padding) carry nothing: compare field by field.
  */
@@ -30,11 +31,12 @@ extern "C" {
 #endif
 
 /* The version of this interface: a thousand times the major number, plus the minor. */
-#define SKRIEMELT_VERSION 1001
+#define SKRIEMELT_VERSION 2000
 
 /* Limits. */
 #define SKRIEMELT_MOST_PAYLOAD_BYTES 4096 /* a longer payload is refused with 1, a longer written form with 11 */
 #define SKRIEMELT_MOST_RECORD_BYTES 30720 /* a buffer of this length holds the records of every payload */
+#define SKRIEMELT_MOST_TRIM_BYTES 253     /* the trim table of every payload fits */
 #define SKRIEMELT_MOST_OBJECTS 159
 #define SKRIEMELT_MOST_BLOCKS 8
 #define SKRIEMELT_MOST_BEDS 9
@@ -50,9 +52,10 @@ extern "C" {
 #define SKRIEMELT_SECOND_ELEMENT 6     /* a second known element of the same id; place: first bit of its id */
 #define SKRIEMELT_EXTENDED_EARLY 7     /* an extended object element before any object element; place: first bit of its id */
 #define SKRIEMELT_PAST_ELEMENT 8       /* a field of a known element passes the element's declared end; place: first bit of that field */
-#define SKRIEMELT_NO_ROOM 9            /* the record buffer is too short; place: bytes needed */
+#define SKRIEMELT_NO_ROOM 9            /* the record buffer is too short, or, if that is not, the trim buffer; place: bytes needed */
 /* A read is refused with 1 to 9, a write with 10 or 11; 10 comes first. */
-#define SKRIEMELT_NOT_VALID 10         /* not valid: programme, timing or too few record bytes, place 0; a record, place: 1 + index of the first bad one */
+#define SKRIEMELT_NOT_VALID 10         /* not valid: programme, timing or too few record bytes, place 0; a record, place: 1 + index of the first bad one;
+                                          the trim table or too few bytes of it, place: 1 + number of records */
 #define SKRIEMELT_NO_FIT 11            /* the form is longer than the payload buffer or 4,096 bytes; place: bytes needed */
 
 /*
@@ -88,6 +91,41 @@ extern "C" {
 #define SKRIEMELT_CLASS_BED 0
 #define SKRIEMELT_CLASS_ISF 1
 #define SKRIEMELT_CLASS_DYNAMIC 2
+
+/*
+ * Trim table. Its length is SKRIEMELT_TRIM_FIXED + objects: whether there is a trim element, then one byte for each of its fields (5.5.12) but the reserved
+ * bits, the flags of the objects last. What is not carried is 0; without a trim element all bytes are 0. Places in the table:
+ */
+#define SKRIEMELT_TRIM_PRESENT 0     /* 1 if there is a trim element */
+#define SKRIEMELT_TRIM_WARP_MODE 1   /* warp_mode, 0 or 1 */
+#define SKRIEMELT_TRIM_GLOBAL_MODE 2 /* global_trim_mode, one of SKRIEMELT_TRIM_MODE_.. */
+#define SKRIEMELT_TRIM_CONFIG 3      /* the first of SKRIEMELT_TRIM_CONFIGS configurations, all 0 unless the mode is SKRIEMELT_TRIM_MODE_CUSTOM */
+#define SKRIEMELT_TRIM_PER_OBJECT 93 /* b_disable_trim_per_obj: whether the objects' flags are carried */
+#define SKRIEMELT_TRIM_FIXED 94      /* b_disable_trim of object 0, and so on: the bytes before do not depend on the objects */
+
+/* Configuration c begins at byte SKRIEMELT_TRIM_CONFIG + SKRIEMELT_TRIM_CONFIG_STRIDE * c. Places in it: */
+#define SKRIEMELT_TRIM_CONFIGS 9
+#define SKRIEMELT_TRIM_CONFIG_STRIDE 10
+#define SKRIEMELT_TRIM_CONFIG_DEFAULT 0    /* b_default_trim; if 1, all else is 0 */
+#define SKRIEMELT_TRIM_CONFIG_DISABLE 1    /* b_disable_trim; if 1, all else is 0 */
+#define SKRIEMELT_TRIM_CONFIG_CARRIED 2    /* trim_balance_presence[], 5 bits as carried: SKRIEMELT_TRIM_CARRIED_.. */
+#define SKRIEMELT_TRIM_CONFIG_CENTRE 3     /* trim_centre, 0 to 15 */
+#define SKRIEMELT_TRIM_CONFIG_SURROUND 4   /* trim_surround, 4 to 15 */
+#define SKRIEMELT_TRIM_CONFIG_HEIGHT 5     /* trim_height, 4 to 15 */
+#define SKRIEMELT_TRIM_CONFIG_SIGN_TB 6    /* bal3D_Y_sign_tb_code */
+#define SKRIEMELT_TRIM_CONFIG_AMOUNT_TB 7  /* bal3D_Y_amount_tb, 0 to 15 */
+#define SKRIEMELT_TRIM_CONFIG_SIGN_LIS 8   /* bal3D_Y_sign_lis_code */
+#define SKRIEMELT_TRIM_CONFIG_AMOUNT_LIS 9 /* bal3D_Y_amount_lis, 0 to 15 */
+
+#define SKRIEMELT_TRIM_MODE_DEFAULT 0
+#define SKRIEMELT_TRIM_MODE_DISABLE 1
+#define SKRIEMELT_TRIM_MODE_CUSTOM 2
+
+#define SKRIEMELT_TRIM_CARRIED_CENTRE 1
+#define SKRIEMELT_TRIM_CARRIED_SURROUND 2
+#define SKRIEMELT_TRIM_CARRIED_HEIGHT 4
+#define SKRIEMELT_TRIM_CARRIED_TB 8   /* sign and amount, top and bottom planes */
+#define SKRIEMELT_TRIM_CARRIED_LIS 16 /* sign and amount, listener plane */
 
 /* Bits of skriemelt_programme.content (content_description). */
 #define SKRIEMELT_CONTENT_BED 1
@@ -129,7 +167,7 @@ typedef struct skriemelt_timing {
     skriemelt_update updates[SKRIEMELT_MOST_BLOCKS]; /* those from blocks on are 0 */
 } skriemelt_timing;
 
-/* What a read answers, beside the records. On a refusal all but refusal and place is 0. */
+/* What a read answers, beside the records and the trim table. On a refusal all but refusal and place is 0. */
 typedef struct skriemelt_read_answer {
     uint64_t place;  /* see the refusals above */
     uint8_t refusal; /* SKRIEMELT_ACCEPTED to SKRIEMELT_NO_ROOM */
@@ -149,28 +187,31 @@ typedef struct skriemelt_write_answer {
 uint32_t skriemelt_version(void);
 
 /*
- * Reads one payload, already taken out of its EMDF container. The buffer needs 24 * objects * blocks bytes, never more than
- * SKRIEMELT_MOST_RECORD_BYTES; it need not be cleared. Every input is answered: there is nothing to check beforehand.
+ * Reads one payload, already taken out of its EMDF container. The record buffer needs 24 * objects * blocks bytes, never more than
+ * SKRIEMELT_MOST_RECORD_BYTES, the trim buffer SKRIEMELT_TRIM_FIXED + objects bytes, never more than SKRIEMELT_MOST_TRIM_BYTES, with or without a trim element;
+ * they need not be cleared. Every input is answered: there is nothing to check beforehand.
  */
-skriemelt_read_answer skriemelt_read(const uint8_t *payload, size_t payload_bytes, uint8_t *records, size_t records_bytes);
+skriemelt_read_answer skriemelt_read(const uint8_t *payload, size_t payload_bytes, uint8_t *records, size_t records_bytes, uint8_t *trim, size_t trim_bytes);
 
 /*
- * Writes the payload of a programme, a timing and 24 * objects * blocks bytes of records: the one form that the tables have. Read back, it gives the same
- * tables and no unknown element. Every input is answered: there is nothing to check beforehand.
+ * Writes the payload of a programme, a timing, 24 * objects * blocks bytes of records and SKRIEMELT_TRIM_FIXED + objects bytes of a trim table: the one
+ * form that the tables have. Read back, it gives the same tables and no unknown element. Every input is answered: there is nothing to check beforehand.
  *
  * Records. They lie as a read leaves them. Bytes behind the last record are not looked at, so the buffer of a read can be passed with its whole length.
  * Without blocks no record is needed, and records may be NULL with length 0.
  *
+ * Trim table. It lies as a read leaves it, and is needed without a trim element too: then it is all 0. Bytes behind it are not looked at.
+ *
  * Payload. The buffer need not be cleared. One of SKRIEMELT_MOST_PAYLOAD_BYTES suffices for every form that can be written. Many objects with many blocks
- * need more than that, up to 14,425 bytes: they are refused with SKRIEMELT_NO_FIT, however long the buffer is. With payload NULL and length 0, valid tables
+ * need more than that, up to 14,481 bytes: they are refused with SKRIEMELT_NO_FIT, however long the buffer is. With payload NULL and length 0, valid tables
  * are refused with SKRIEMELT_NO_FIT and their length as the place, so the length can be asked for.
  *
- * Valid are the tables of every accepted payload with SKRIEMELT_CONTENT_RESERVED clear, and all others whose programme, timing and records each could stem
- * from such a payload: what is not carried is 0; the class of each record follows from the programme; all starts leave the same remainder by 32; an inactive
- * record holds the defaults behind its class (x and y 31, z 64, elevation flag 1, all else 0), a bed or ISF record from x on.
+ * Valid are the tables of every accepted payload with SKRIEMELT_CONTENT_RESERVED clear, and all others whose programme, timing, records and trim table each
+ * could stem from such a payload: what is not carried is 0; the class of each record follows from the programme; all starts leave the same remainder by 32;
+ * an inactive record holds the defaults behind its class (x and y 31, z 64, elevation flag 1, all else 0), a bed or ISF record from x on.
  */
 skriemelt_write_answer skriemelt_write(skriemelt_programme programme, skriemelt_timing timing, const uint8_t *records, size_t records_bytes,
-                                       uint8_t *payload, size_t payload_bytes);
+                                       const uint8_t *trim, size_t trim_bytes, uint8_t *payload, size_t payload_bytes);
 
 #ifdef __cplusplus
 }

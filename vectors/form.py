@@ -1,8 +1,8 @@
 """The one form of document 01, "The written form": tables to the fields of a payload, from document 01 and clause 5.5.
 
-Tables: a programme (class Programme), the timing as a list of (start, ramp) for each block, and the records as a list of
-24 bytes each, objects outermost, blocks within.  `form` gives the fields of the payload, `pack` of helpers.py its bytes.
-Nothing in here reads a payload.
+Tables: a programme (class Programme), the timing as a list of (start, ramp) for each block, the records as a list of
+24 bytes each, objects outermost, blocks within, and the bytes of the trim table.  `form` gives the fields of the payload,
+`pack` of helpers.py its bytes.  Nothing in here reads a payload.
 """
 from helpers import *
 
@@ -37,11 +37,12 @@ def programme_of(fields):
     return q
 
 
-def tables_of(fields, expected):
-    """Programme from the fields composed; timing and records from the expected text."""
+def tables_of(fields, expected, trim):
+    """Programme from the fields composed; timing and records from the expected text; trim all 0 if there is none."""
     timing_ = [tuple(map(int, x.split(",")[1:])) for x in expected if x.startswith("block=")]
     records = [bytes.fromhex(x.split(",")[2]) for x in expected if x.startswith("record=")]
-    return programme_of(fields), timing_, records
+    q = programme_of(fields)
+    return q, timing_, records, trim or bytes(94 + q.objects)
 
 
 # ---------------------------------------------------------------- header (5.5.2, 5.5.3)
@@ -156,8 +157,25 @@ def extended_element(records):
     return element(5, body)
 
 
-def form(q, timing_, records):
+# ---------------------------------------------------------------- trim element (5.5.12)
+
+def config_(default, disable, presence, centre, surround, height, *balances):
+    if default or disable:
+        return DEFAULT_TRIM if default else DISABLE_TRIM
+    has = lambda bit, value: value if presence & bit else None
+    return config(has(1, centre), has(2, surround), has(4, height), has(8, balances[:2]), has(16, balances[2:]))
+
+
+def trim_element(trim):
+    """Nothing is left to choose but the reserved bits: 0.  Configurations are sent in mode 2 alone."""
+    configs = [config_(*trim[i:i + 10]) for i in range(3, 93, 10)] if trim[2] == 2 else []
+    return element(2, [modes(trim[1], trim[2]), configs, object_trims(trim[94:] if trim[93] else None)])
+
+
+def form(q, timing_, records, trim):
     elements = [object_element(timing_, records)] if timing_ else []
     if any(any(r[17:24]) for r in records):
         elements.append(extended_element(records))
+    if trim[0]:
+        elements.append(trim_element(trim))
     return flat([version(), counted(count_, q.objects - 1), assignment(q), tail(len(elements)), elements])

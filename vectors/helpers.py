@@ -41,6 +41,10 @@ WIDTHS = {
     "zone_constraints_idx": 3, "b_enable_elevation": 1, "object_size_idx": 2, "object_size_bits": 5,
     "object_width_bits": 5, "object_depth_bits": 5, "object_height_bits": 5, "b_object_use_screen_ref": 1,
     "screen_factor_bits": 3, "depth_factor_idx": 2, "b_object_snap": 1,
+    # 5.5.12; the reserved bits have the name of those of 5.5.5 there
+    "warp_mode": 2, "reserved of trim": 2, "global_trim_mode": 2, "b_default_trim": 1, "b_disable_trim": 1,
+    "trim_balance_presence[]": 5, "trim_centre": 4, "trim_surround": 4, "trim_height": 4, "bal3D_Y_sign_tb_code": 1,
+    "bal3D_Y_amount_tb": 4, "bal3D_Y_sign_lis_code": 1, "bal3D_Y_amount_lis": 4, "b_disable_trim_per_obj": 1,
     # 5.5.13 to 5.5.15
     "b_obj_div_block": 1, "b_object_divergence": 1, "object_div_mode": 2, "object_div_table": 2,
     "object_div_code": 6, "b_ext_prec_pos_block": 1, "b_ext_prec_pos": 1, "ext_prec_pos_presence[]": 3,
@@ -374,6 +378,44 @@ def prec(x=None, y=None, z=None):
     return r
 
 
+# ---------------------------------------------------------------- trim element (5.5.12)
+
+def modes(warp, global_, reserved=0):
+    return [("warp_mode", 2, warp), ("reserved of trim", 2, reserved), ("global_trim_mode", 2, global_)]
+
+
+DEFAULT_TRIM = [("b_default_trim", 1, 1)]
+DISABLE_TRIM = [("b_default_trim", 1, 0), ("b_disable_trim", 1, 1)]
+
+
+def given_trim(presence):
+    """The start of a configuration that is neither default nor disabled."""
+    return [("b_default_trim", 1, 0), ("b_disable_trim", 1, 0), ("trim_balance_presence[]", 5, presence)]
+
+
+def balance(plane, sign, amount):
+    return [("bal3D_Y_sign_%s_code" % plane, 1, sign), ("bal3D_Y_amount_%s" % plane, 4, amount)]
+
+
+def config(centre=None, surround=None, height=None, tb=None, lis=None):
+    """trim_balance_presence[] sent lis (0), tb (1), height (2), surround (3), centre (4); the values follow in the order centre,
+    surround, height, tb, lis.  tb and lis are pairs of sign code and amount."""
+    r = given_trim(16 * (lis is not None) + 8 * (tb is not None) + 4 * (height is not None) + 2 * (surround is not None)
+                   + (centre is not None))
+    r += [("trim_centre", 4, centre)] if centre is not None else []
+    r += [("trim_surround", 4, surround)] if surround is not None else []
+    r += [("trim_height", 4, height)] if height is not None else []
+    r += balance("tb", *tb) if tb is not None else []
+    return r + (balance("lis", *lis) if lis is not None else [])
+
+
+def object_trims(flags):
+    """b_disable_trim_per_obj, and the flags of the objects if they are sent."""
+    if flags is None:
+        return [("b_disable_trim_per_obj", 1, 0)]
+    return [("b_disable_trim_per_obj", 1, 1)] + [("b_disable_trim", 1, f) for f in flags]
+
+
 # ---------------------------------------------------------------- expected text
 
 def rec(active, class_, gain=0, prio=0, x=31, y=31, z=64, dist=0, w=0, d=0, h=0, zone=0, elev=1,
@@ -388,6 +430,19 @@ def rec(active, class_, gain=0, prio=0, x=31, y=31, z=64, dist=0, w=0, d=0, h=0,
 
 def R(obj, blk, *a, **k):
     return "record=%d,%d,%s" % (obj, blk, rec(*a, **k))
+
+
+def C(default=0, disable=0, pres=0, centre=0, surround=0, height=0, tb=(0, 0), lis=(0, 0)):
+    """The ten bytes of a configuration as they stand in the trim table; what is not carried is 0."""
+    return [default, disable, pres, centre, surround, height, *tb, *lis]
+
+
+def T(objects, warp, mode, configs=(), flags=None):
+    """The trim table of document 02 where there is a trim element: 94 + objects bytes.  configs: nine C(), or none if they are
+    not carried; flags: those of the objects, None if they are not carried."""
+    assert len(configs) in (0, 9) and (flags is None or len(flags) == objects)
+    rows = [b for c in configs for b in c] or [0] * 90
+    return bytes([1, warp, mode] + rows + ([0] * (1 + objects) if flags is None else [1] + list(flags)))
 
 
 def lines(*parts):
@@ -419,11 +474,11 @@ def pack(fields, padbit):
     return bytes(int(bits[i:i + 8], 2) for i in range(0, len(bits), 8)), n
 
 
-def vector(name, exercises, how, payload, expected, pad=0, extra=b"", cut=None):
+def vector(name, exercises, how, payload, expected, pad=0, extra=b"", cut=None, trim=None):
     """payload: bytes, or a list of tuples, filled up to a byte with bits of value `pad`, then `extra` bytes,
-    then only the first `cut` bytes of it if cut is given."""
+    then only the first `cut` bytes of it if cut is given.  trim: the trim table, None if there is no trim element."""
     v = Vector()
-    v.name, v.exercises, v.how, v.expected = name, exercises, how, expected
+    v.name, v.exercises, v.how, v.expected, v.trim = name, exercises, how, expected, trim
     assert all(name != o.name for o in VECTORS), ("name twice", name)
     if isinstance(payload, bytes):
         v.fields, v.bytes, v.used = None, payload, None
@@ -456,7 +511,7 @@ def check(v):
         else:
             assert marks == [], n
     if no:
-        assert len(e) == 2 and no in (1, 2, 3, 4, 5, 6, 7, 8), n
+        assert len(e) == 2 and no in (1, 2, 3, 4, 5, 6, 7, 8) and v.trim is None, n
         assert no != 3 or place == 0
         assert no != 1 or place == len(v.bytes)
         return
@@ -464,6 +519,7 @@ def check(v):
     assert [x.split("=")[0] for x in e[:8]] == keys and place == 0, n
     o, b, i, d, k, u = (int(x.split("=")[1]) for x in e[2:8])
     assert o == b + i + d and 1 <= o <= 159 and 0 <= k <= 8 and 0 <= u <= 46, n
+    assert v.trim is None or len(v.trim) == 94 + o and v.trim[0] == 1, n
     assert len(e) == 8 + k + o * k, (n, len(e))
     for j in range(k):
         assert e[8 + j].startswith("block=%d," % j) and e[8 + j].count(",") == 2, n

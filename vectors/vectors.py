@@ -8,10 +8,11 @@
 
 payloads: per vector 2 bytes big-endian length, then the payload.  written: likewise the written form of the vector's tables;
 length 0 where the payload is refused, has the reserved content flag set, or has a form above 4,096 bytes.  stdout: per vector
-a line vector=N, then the lines of the listing program of document 01, then, of an accepted payload without that flag, the
-written form.  The buffers are taken to be large enough, so refusal 9 does not occur, and 11 only above 4,096 bytes.
+a line vector=N, then the lines of the listing program of document 01, then, of a payload with a trim element, its trim table,
+then, of an accepted payload without that flag, the written form.  The buffers are taken to be large enough, so refusal 9 does
+not occur, and 11 only above 4,096 bytes.
 Nothing here decodes a payload: the expected text stands in the vectors_*.py files, derived by hand; form.py writes the forms,
-and written.py has some of them derived by hand.
+and written.py has some of them, and some trim tables, derived by hand.
 """
 import os
 import sys
@@ -27,9 +28,10 @@ import vectors_timing      # noqa: E402,F401
 import vectors_object      # noqa: E402,F401
 import vectors_status      # noqa: E402,F401
 import vectors_extended    # noqa: E402,F401
+import vectors_trim        # noqa: E402,F401
 from form import form, tables_of  # noqa: E402
 from helpers import VECTORS, count_, dyn_only, pack, version  # noqa: E402
-from written import HAND, check_hand  # noqa: E402
+from written import HAND, TABLES, check_hand, check_tables  # noqa: E402
 
 # The programme of the vectors whose payload is given as bytes: that of document 01's example, one dynamic object.
 EXAMPLE = [version(), count_(0), dyn_only()]
@@ -40,14 +42,18 @@ def form_of(v):
     """The fields of the written form of a vector's tables, or None if there is none."""
     if v.expected[0] != "refusal=0":
         return None
-    q, timing, records = tables_of(v.fields or EXAMPLE, v.expected)
-    return form(q, timing, records) if q.content < 8 else None
+    q, *tables = tables_of(v.fields or EXAMPLE, v.expected, v.trim)
+    return form(q, *tables) if q.content < 8 else None
 
 
 def written_of(v):
     """The bytes of the written form, of whatever length; none if there is no form."""
     fields = form_of(v)
     return pack(fields, 0)[0] if fields else b""
+
+
+def read_lines(v):
+    return v.expected + (["trim=" + v.trim.hex()] if v.trim else [])
 
 
 def written_lines(v):
@@ -68,7 +74,7 @@ def show(n):
                               v.bytes[:64].hex(" ") + (" ..." if len(v.bytes) > 64 else "")))
     if v.fields is not None:
         show_fields(v)
-    print("\n".join(v.expected + written_lines(v)))
+    print("\n".join(read_lines(v) + written_lines(v)))
 
 
 def show_fields(v):
@@ -111,6 +117,10 @@ def write_docs(f):
         for i in range(0, len(hexa), 128):
             f.write(bytes.fromhex(hexa[i:i + 128]).hex(" ") + "\n")
         f.write("```\n")
+    f.write("\n## Trim tables\n\nThe bytes of the trim tables of these %d vectors, derived by hand from their fields, part by part "
+            "(vectors/written.py).\n" % len(TABLES))
+    for name, parts in TABLES:
+        f.write("\n### Trim table of %s (%d)\n\n```\n%s\n```\n" % (name, number[name], "\n".join(parts)))
 
 
 def main(argv):
@@ -123,13 +133,15 @@ def main(argv):
         for n, v in enumerate(VECTORS):
             print("%4d %5d  %s" % (n, len(v.bytes), v.name))
         return
-    check_hand(lambda name: form_of(next(v for v in VECTORS if v.name == name)))
+    named = {v.name: v for v in VECTORS}
+    check_hand(lambda name: form_of(named[name]))
+    check_tables(lambda name: named[name].trim)
     forms = [written_of(v) for v in VECTORS]
     write_store("payloads", [v.bytes for v in VECTORS])
     write_store("written", [f if len(f) <= 4096 else b"" for f in forms])
     with open(os.path.join(ROOT, "crates", "vectors", "stdout"), "w", newline="\n") as f:
         for n, v in enumerate(VECTORS):
-            f.write("\n".join(["vector=%d" % n] + v.expected + written_lines(v)) + "\n")
+            f.write("\n".join(["vector=%d" % n] + read_lines(v) + written_lines(v)) + "\n")
     with open(os.path.join(ROOT, "docs", "VECTORS.md"), "w", newline="\n") as f:
         write_docs(f)
     print("%d vectors, %d payload bytes" % (len(VECTORS), sum(len(v.bytes) for v in VECTORS)))

@@ -51,11 +51,11 @@ vector("size-four-groups", "four groups in 4,096 bytes: too large", "4,368 + 1 b
 # Second element: 14 + 17 = 31; id 31-34; size 35; element from 40; 48 needed, 40 there.
 vector("size-second-element", "a declared size of a second element does not fit",
        "14 + (4+5+8) = 31, id 4: size at 35; the element takes bits 40-47 of 40",
-       [dyn_header(1, 2), unknown(2), ("oa_element_id_idx", 4, 3), HERE, groups((0, 0)), ("padding", 8, 0)],
+       [dyn_header(1, 2), unknown(4), ("oa_element_id_idx", 4, 3), HERE, groups((0, 0)), ("padding", 8, 0)],
        refused(2, 35), cut=5)
 # The third id: 31 is the second; here the second id itself is cut: 31-34 of 32.
 vector("id-second-element-cut", "refusal 2 at the id of a second element", "14 + 17 = 31; 32 bits are there",
-       [dyn_header(1, 2), unknown(2), HERE, ("oa_element_id_idx", 4, 3)], refused(2, 31), cut=4)
+       [dyn_header(1, 2), unknown(4), HERE, ("oa_element_id_idx", 4, 3)], refused(2, 31), cut=4)
 # 5.1 bed: header 26 + 5 = 31, id 31-34, size 35-39, element 40-47: 6 bytes.
 BED_HEADER = [version(), count_(5), content(bed=1), one_bed(std_bed(0b0000001111)), tail(1)]
 vector("size-just-reached", "a declared end that is the payload's end (counted from the discard flag)",
@@ -68,7 +68,7 @@ vector("size-one-byte-over", "the same, declared one byte longer", "bits 40-55 o
 # 0,1,0,0 is 0 x 16 + 16 + 0 = 16: 17 bytes.  The object element behind it is read only if the end is right.
 vector("size-17-bytes", "two groups 0,1,0,0 (16): an unknown element of 17 bytes, then an object element",
        "16 + 1 bytes are passed over; tables of the object element",
-       [dyn_header(1, 2), unknown(2, 17, fill=1, sizes=groups((0, 1), (0, 0))), element(1, OBJ)],
+       [dyn_header(1, 2), unknown(3, 17, fill=1, sizes=groups((0, 1), (0, 0))), element(1, OBJ)],
        lines("refusal=0 place=0 objects=1 bed=0 isf=0 dynamic=1 blocks=1 unknown=1", OBJ_LINES))
 vector("size-272-bytes", "two groups F,1,F,0 (271): an unknown element of 272 bytes, then an object element",
        "15 x 16 + 16 + 15 = 271, +1 bytes",
@@ -91,13 +91,13 @@ vector("size-4092-bytes", "three groups, one byte too many in 4,096 bytes",
 
 # ------------------------------------------------------------------------------- unknown elements
 
-vector("unknown-all-ids", "the 14 unknown ids, the trim element (id 2) among them, contents all ones",
-       "ids 0, 2, 3, 4, 6 to 15: 14 elements, all passed over",
-       [dyn_header(1, 14), [unknown(i, 1, discard=i % 2, fill=1) for i in (0, 2, 3, 4, 6, 7, 8, 9, 10, 11, 12, 13, 14, 15)]],
-       lines("refusal=0 place=0 objects=1 bed=0 isf=0 dynamic=1 blocks=0 unknown=14"))
+vector("unknown-all-ids", "the 13 unknown ids, contents all ones",
+       "ids 0, 3, 4, 6 to 15: 13 elements, all passed over",
+       [dyn_header(1, 13), [unknown(i, 1, discard=i % 2, fill=1) for i in (0, 3, 4, 6, 7, 8, 9, 10, 11, 12, 13, 14, 15)]],
+       lines("refusal=0 place=0 objects=1 bed=0 isf=0 dynamic=1 blocks=0 unknown=13"))
 vector("unknown-before-between-after", "unknown elements before, between and after the known ones",
-       "ids 2, 1, 3, 5, 15: 3 unknown; the extended element carries nothing",
-       [dyn_header(1, 5), unknown(2, 2, fill=1), element(1, OBJ), unknown(3, 1, fill=1), element(5, EXT),
+       "ids 4, 1, 3, 5, 15: 3 unknown; the extended element carries nothing",
+       [dyn_header(1, 5), unknown(4, 2, fill=1), element(1, OBJ), unknown(3, 1, fill=1), element(5, EXT),
         unknown(15, 3, fill=1)],
        lines("refusal=0 place=0 objects=1 bed=0 isf=0 dynamic=1 blocks=1 unknown=3", OBJ_LINES))
 vector("elements-15", "15 elements: count extension 0", "15 + 0 elements, all unknown",
@@ -127,7 +127,7 @@ vector("alternate-mixed", "id 5 alternate 1 first, id 1 alternate 8, then known 
         element(5, EXT, alt=0), unknown(1, 17, alt=15, fill=1), unknown(5, 1, alt=2)],
        lines("refusal=0 place=0 objects=1 bed=0 isf=0 dynamic=1 blocks=1 unknown=4", OBJ_LINES))
 vector("alternate-unknown-id", "an unknown id with alternate ids 0 and 5", "unknown whatever the alternate id",
-       [dyn_header(1, 3, alt=1), unknown(2, 1, alt=0, fill=1), unknown(2, 1, alt=5), element(1, OBJ, alt=0)],
+       [dyn_header(1, 3, alt=1), unknown(3, 1, alt=0, fill=1), unknown(3, 1, alt=5), element(1, OBJ, alt=0)],
        lines("refusal=0 place=0 objects=1 bed=0 isf=0 dynamic=1 blocks=1 unknown=2", OBJ_LINES))
 
 # ------------------------------------------------------------------------------- refusal 6
@@ -141,7 +141,7 @@ vector("second-object-alternate", "refusal 6: alternate flag, size of two groups
 # 47 + unknown 17 = 64; the second object element's body would be refused with 5 (code 3) at once.
 vector("second-object-bad-body", "refusal 6 comes before the fields of the second element",
        "14 + 33 + 17 = 64; its sample_offset_code 3 is not reached",
-       [dyn_header(1, 3), element(1, OBJ), unknown(2, 1), HERE, element(1, [("sample_offset_code", 2, 3)])],
+       [dyn_header(1, 3), element(1, OBJ), unknown(4, 1), HERE, element(1, [("sample_offset_code", 2, 3)])],
        refused(6, 64))
 # id 47-50, size at 51, element from 56: 8 bits needed, 56 there.
 vector("second-object-no-fit", "a second object element whose size does not fit: 2 before 6",

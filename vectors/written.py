@@ -1,16 +1,30 @@
-"""Written forms derived by hand, bit by bit, from the tables of a vector and document 01, "The written form".
+"""Written forms derived by hand, bit by bit, from the tables of a vector and document 01, "The written form"; and trim tables
+derived by hand, byte by byte, from the fields of a vector and document 02, item 1.
 
 `hand` takes the vector's name, what its form shows, the fields in the order of clause 5.5 (a line for each part, `N x` before
 a part that stands N times), and the bytes.  The bits were all derived by hand; the bytes of the forms above 17 bytes were
-packed from those bits.  `check_hand` holds them against each other and against form.py.
+packed from those bits.  `check_hand` holds them against each other and against form.py.  `hand_table` takes the vector's name and a
+line for each part of the table: its bytes, and the fields that give them; `check_tables` holds them against the vector.
 """
 from helpers import *
 
 HAND = []
+TABLES = []
 
 
 def hand(name, shows, text, hexa):
     HAND.append((name, shows, [x.strip() for x in text.strip().split("\n")], "".join(hexa.split())))
+
+
+def hand_table(name, text):
+    TABLES.append((name, [x.strip() for x in text.strip().split("\n")]))
+
+
+def check_tables(trim_of):
+    """trim_of: name of a vector to its trim table."""
+    for name, lines_ in TABLES:
+        hexa = "".join(line.split(": ", 1)[1].split("; ")[0] for line in lines_)
+        assert bytes.fromhex(hexa) == trim_of(name), ("trim table", name)
 
 
 def bits_of(lines_):
@@ -310,6 +324,96 @@ hand("both-blocks-order", "both groups of the extended element, two objects of t
      object 0: b_ext_prec_pos 1, ext_prec_pos_presence[] 101, ext_prec_pos3D_X 01, ext_prec_pos3D_Z 01, b_ext_prec_pos 0
      object 1: b_ext_prec_pos 1, ext_prec_pos_presence[] 010, ext_prec_pos3D_Y 11, b_ext_prec_pos 1, ext_prec_pos_presence[] 111, ext_prec_pos3D_X 10, ext_prec_pos3D_Y 10, ext_prec_pos3D_Z 10
      end: padding 00, padding of the payload 000""", "03084260400123f01f08095f01f0805f7c010129f7c0100553a8b27555fd40")
+
+# ------------------------------------------------------------------------------- trim element
+
+# 1 + 2 + 2 + 2 + 1 = 8 bits: 1 byte, size 0.
+hand("trim-disable", "a trim element alone; reserved bits and discard flag 0, though they were read as ones",
+     header("00000", "0", "0001") + """
+     element: oa_element_id_idx 0010, size read 0000, size b_read_more 0, b_discard_unknown_element 0
+     trim: warp_mode 01, reserved of trim 00, global_trim_mode 01, b_disable_trim_per_obj 0
+     end: padding of the payload 0""", "01048044")
+# 1 + 6 + 9 x 2 + 1 = 26 bits: 4 bytes, size 3.
+hand("trim-custom-disable", "configurations that are disabled",
+     header("00000", "0", "0001") + """
+     element: oa_element_id_idx 0010, size read 0011, size b_read_more 0, b_discard_unknown_element 0
+     trim: warp_mode 01, reserved of trim 00, global_trim_mode 10
+     9 x configurations 0 to 8: b_default_trim 0, b_disable_trim 1
+     trim: b_disable_trim_per_obj 0
+     end: padding 000000, padding of the payload 0""", "01048c49555500")
+# 1 + 6 + 1 + 2 + 7 + 3 x 11 + 2 x 12 + 29 + 1 + 3 = 107 bits: 14 bytes, size 13.
+hand("trim-each", "every field: a default and a disabled configuration, one without values, each value alone, all together; objects' flags",
+     header("00010", "0", "0001") + """
+     element: oa_element_id_idx 0010, size read 1101, size b_read_more 0, b_discard_unknown_element 0
+     trim: warp_mode 01, reserved of trim 00, global_trim_mode 10
+     configuration 0: b_default_trim 1
+     configuration 1: b_default_trim 0, b_disable_trim 1
+     configuration 2: b_default_trim 0, b_disable_trim 0, trim_balance_presence[] 00000
+     configuration 3: b_default_trim 0, b_disable_trim 0, trim_balance_presence[] 00001, trim_centre 1110
+     configuration 4: b_default_trim 0, b_disable_trim 0, trim_balance_presence[] 00010, trim_surround 0100
+     configuration 5: b_default_trim 0, b_disable_trim 0, trim_balance_presence[] 00100, trim_height 1111
+     configuration 6: b_default_trim 0, b_disable_trim 0, trim_balance_presence[] 01000, bal3D_Y_sign_tb_code 1, bal3D_Y_amount_tb 1001
+     configuration 7: b_default_trim 0, b_disable_trim 0, trim_balance_presence[] 10000, bal3D_Y_sign_lis_code 0, bal3D_Y_amount_lis 0011
+     configuration 8: b_default_trim 0, b_disable_trim 0, trim_balance_presence[] 11111, trim_centre 0000, trim_surround 0101, trim_height 0110, bal3D_Y_sign_tb_code 0, bal3D_Y_amount_tb 1111, bal3D_Y_sign_lis_code 1, bal3D_Y_amount_lis 0000
+     objects: b_disable_trim_per_obj 1, b_disable_trim 1, b_disable_trim 0, b_disable_trim 1
+     end: padding 00000, padding of the payload 0""", "0504b44a8003c0902788c9019f0567c340")
+# 1 + 6 + 1 + 3 = 11 bits: 2 bytes, size 1.
+hand("trim-objects-all-0", "the flags of the objects are sent, though each is 0: b_disable_trim_per_obj is a byte of the table",
+     header("00010", "0", "0001") + """
+     element: oa_element_id_idx 0010, size read 0001, size b_read_more 0, b_discard_unknown_element 0
+     trim: warp_mode 00, reserved of trim 00, global_trim_mode 01, b_disable_trim_per_obj 1, b_disable_trim 0, b_disable_trim 0, b_disable_trim 0
+     end: padding 00000, padding of the payload 0""", "0504840600")
+# Object element 1 + 14 + 31 = 46 bits: 6 bytes, size 5.  Extended 1 + 1 + 3 + 1 = 6 bits: 1 byte, size 0.
+# Trim 1 + 6 + 1 + 1 = 9 bits: 2 bytes, size 1.
+hand("trim-between", "the trim element behind the extended one, though it was read before it",
+     header("00000", "0", "0011") + """
+     element: oa_element_id_idx 0001, size read 0101, size b_read_more 0, b_discard_unknown_element 0
+     """ + TIMING1 + """
+     object 0: """ + PLAIN + """
+     end: padding 00
+     element: oa_element_id_idx 0101, size read 0000, size b_read_more 0, b_discard_unknown_element 0
+     extended: b_obj_div_block 1, b_object_divergence 1, object_div_mode 01, b_ext_prec_pos_block 0
+     end: padding 00
+     element: oa_element_id_idx 0010, size read 0001, size b_read_more 0, b_discard_unknown_element 0
+     trim: warp_mode 00, reserved of trim 00, global_trim_mode 01, b_disable_trim_per_obj 1, b_disable_trim 1
+     end: padding 0000000, padding of the payload 0000000""", "010c5400045f7c0100a0682101c000")
+# 1 + 6 + 9 x 29 + 1 + 159 = 428 bits: 54 bytes, size 53 = 16 + 37: groups 2, 5.
+hand("trim-159", "the longest trim element; two size groups", """
+     header: oa_md_version_bits 00, object_count_bits 11111, object_count_bits_ext 1111111, b_dyn_object_only_program 1, b_lfe_present 0, b_alternate_object_data_present 0, oa_element_count_bits 0001
+     element: oa_element_id_idx 0010, size read 0010, size b_read_more 1, size read 0101, size b_read_more 0, b_discard_unknown_element 0
+     trim: warp_mode 01, reserved of trim 00, global_trim_mode 10
+     9 x configurations 0 to 8: b_default_trim 0, b_disable_trim 0, trim_balance_presence[] 11111, trim_centre 1111, trim_surround 1111, trim_height 1111, bal3D_Y_sign_tb_code 1, bal3D_Y_amount_tb 1111, bal3D_Y_sign_lis_code 1, bal3D_Y_amount_lis 1111
+     objects: b_disable_trim_per_obj 1
+     159 x objects 0 to 158: b_disable_trim 1
+     end: padding 0000, padding of the payload 00000""", "3ffe0915448ffffffe7ffffff3ffffff9ffffffcffffffe7ffffff3ffffff9ffffffcffffffffffffffffffffffffffffffffffffffffffffffe00")
+
+ZEROS = "00 00 00 00 00 00 00 00 00 00"
+hand_table("trim-disable", """
+     byte 0: 01; the element is there
+     bytes 1 and 2: 01 01; warp_mode 01, global_trim_mode 01; the reserved bits 11 between them are left out
+     configurations 0 to 8: """ + " ".join([ZEROS] * 9) + """; not carried: the mode is not 2
+     byte 93: 00; b_disable_trim_per_obj 0
+     object 0: 00; not carried""")
+hand_table("trim-each", """
+     byte 0: 01; the element is there
+     bytes 1 and 2: 01 02; warp_mode 01, global_trim_mode 10
+     configuration 0: 01 00 00 00 00 00 00 00 00 00; b_default_trim 1, nothing more is carried
+     configuration 1: 00 01 00 00 00 00 00 00 00 00; b_default_trim 0, b_disable_trim 1, nothing more is carried
+     configuration 2: 00 00 00 00 00 00 00 00 00 00; both flags 0, trim_balance_presence[] 00000
+     configuration 3: 00 00 01 0e 00 00 00 00 00 00; trim_balance_presence[] 00001, index 4 is set: trim_centre 1110 = 14
+     configuration 4: 00 00 02 00 04 00 00 00 00 00; trim_balance_presence[] 00010, index 3 is set: trim_surround 0100 = 4
+     configuration 5: 00 00 04 00 00 0f 00 00 00 00; trim_balance_presence[] 00100, index 2 is set: trim_height 1111 = 15
+     configuration 6: 00 00 08 00 00 00 01 09 00 00; trim_balance_presence[] 01000, index 1 is set: bal3D_Y_sign_tb_code 1, bal3D_Y_amount_tb 1001 = 9
+     configuration 7: 00 00 10 00 00 00 00 00 00 03; trim_balance_presence[] 10000, index 0 is set: bal3D_Y_sign_lis_code 0, bal3D_Y_amount_lis 0011 = 3
+     configuration 8: 00 00 1f 00 05 06 00 0f 01 00; trim_balance_presence[] 11111: trim_centre 0, trim_surround 5, trim_height 6, tb 0 and 15, lis 1 and 0
+     byte 93: 01; b_disable_trim_per_obj 1
+     objects 0 to 2: 01 00 01; b_disable_trim 1, 0, 1""")
+hand_table("trim-objects", """
+     byte 0: 01; the element is there
+     bytes 1 and 2: 00 00; warp_mode 00, global_trim_mode 00
+     configurations 0 to 8: """ + " ".join([ZEROS] * 9) + """; not carried: the mode is not 2
+     byte 93: 01; b_disable_trim_per_obj 1
+     objects 0 to 4: 01 00 00 01 01; b_disable_trim 1, 0, 0, 1, 1""")
 
 # ------------------------------------------------------------------------------- large
 

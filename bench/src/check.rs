@@ -4,7 +4,7 @@ pub mod length;
 
 use self::length::form_bytes;
 use crate::gen::{Case, TableCase};
-use crate::plain::{needed, read, write, Answer, WriteAnswer};
+use crate::plain::{needed, read, trim_needed, write, Answer, WriteAnswer};
 
 /// Fails with a message.
 macro_rules! ensure {
@@ -15,89 +15,128 @@ macro_rules! ensure {
     };
 }
 
-/// Reads a case and checks the answer and the buffer.
+/// What a read leaves: its answer and both buffers.
+struct Left {
+    answer: Answer,
+    records: Vec<u8>,
+    trim: Vec<u8>,
+}
+
+/// Reads into buffers of these rooms, filled with a pattern.
+fn left(payload: &[u8], (room, trim_room): (usize, usize), seed: u8) -> Left {
+    let (mut records, mut trim) = (pattern(room, seed), pattern(trim_room, !seed));
+    let answer = read(payload, &mut records, &mut trim);
+    Left {
+        answer,
+        records,
+        trim,
+    }
+}
+
+/// Refused with this and nothing else, both buffers as they came.
+fn refused(left: &Left, expect: (u32, u64), seed: u8) -> Result<(), String> {
+    let answer = &left.answer;
+    let bare = Answer {
+        refusal: expect.0,
+        place: expect.1,
+        ..Answer::default()
+    };
+    ensure!(*answer == bare, "refused, expected {expect:?}: {answer:?}");
+    let untouched = left.records == pattern(left.records.len(), seed)
+        && left.trim == pattern(left.trim.len(), !seed);
+    ensure!(untouched, "a buffer changed on a refusal");
+    Ok(())
+}
+
+/// Reads a case and checks the answer and the buffers.
 pub fn check_case(case: &Case) -> Result<Answer, String> {
-    let mut buffer = pattern(case.room, 0xA5);
-    let answer = read(&case.payload, &mut buffer);
+    let left = left(&case.payload, (case.room, case.trim_room), 0xA5);
+    let answer = left.answer;
+    let got = (answer.refusal, answer.place);
     if let Some(expect) = case.expect {
-        let got = (answer.refusal, answer.place);
         ensure!(got == expect, "got {got:?}, expected {expect:?}");
     }
     ensure!(answer.refusal <= 9, "refusal {}", answer.refusal);
     if answer.refusal != 0 {
-        ensure!(
-            buffer == pattern(case.room, 0xA5),
-            "buffer changed on a refusal"
-        );
-        let bare = Answer {
-            refusal: answer.refusal,
-            place: answer.place,
-            ..Answer::default()
-        };
-        ensure!(answer == bare, "refused, yet more is given: {answer:?}");
+        refused(&left, got, 0xA5)?;
         return Ok(answer);
     }
     ensure!(answer.place == 0, "accepted with place {}", answer.place);
-    accepted(case, &answer, &buffer)?;
+    accepted(case, &left)?;
     Ok(answer)
 }
 
 /// What holds of an accepted payload.
-fn accepted(case: &Case, answer: &Answer, buffer: &[u8]) -> Result<(), String> {
+fn accepted(case: &Case, first: &Left) -> Result<(), String> {
+    let answer = &first.answer;
     let bytes = needed(&answer.programme, &answer.timing);
-    ensure!(bytes <= case.room, "accepted without room");
-    let untouched = &pattern(case.room, 0xA5)[bytes..];
-    ensure!(&buffer[bytes..] == untouched, "bytes past the records");
+    let trim_bytes = trim_needed(&answer.programme);
+    let enough = bytes <= case.room && trim_bytes <= case.trim_room;
+    ensure!(enough, "accepted without room");
+    let untouched = first.records[bytes..] == pattern(case.room, 0xA5)[bytes..]
+        && first.trim[trim_bytes..] == pattern(case.trim_room, !0xA5)[trim_bytes..];
+    ensure!(untouched, "bytes past the records or the trim table");
+    let (records, trim) = (&first.records[..bytes], &first.trim[..trim_bytes]);
     if let Some(tables) = &case.tables {
         ensure!(answer.programme == tables.programme, "programme");
         ensure!(answer.timing == tables.timing, "timing");
         ensure!(answer.unknown == tables.unknown, "unknown");
-        ensure!(buffer[..bytes] == tables.records, "records");
+        ensure!(records == tables.records, "records");
+        ensure!(trim == tables.trim, "trim {trim:?}, not {:?}", tables.trim);
     }
-    let mut second = pattern(bytes, 0x3C);
-    let again = read(&case.payload, &mut second);
-    ensure!(again == *answer, "another answer with exact room");
+    let second = left(&case.payload, (bytes, trim_bytes), 0x3C);
+    ensure!(second.answer == *answer, "another answer with exact room");
     ensure!(
-        second == buffer[..bytes],
+        second.records == records,
         "a record byte was left as it was"
     );
-    if bytes > 0 {
-        let mut short = pattern(bytes - 1, 0x3C);
-        let refused = read(&case.payload, &mut short);
-        let got = (refused.refusal, refused.place);
-        ensure!(got == (9, bytes as u64), "one byte short: {got:?}");
-    }
-    appended(case, answer, &second)
+    ensure!(second.trim == trim, "a trim byte was left as it was");
+    too_short(case, bytes, trim_bytes)?;
+    appended(case, &second)
 }
 
-/// Appended bytes are padding: the answer stays.
-fn appended(case: &Case, answer: &Answer, records: &[u8]) -> Result<(), String> {
-    if case.payload.len() < 4096 {
-        let mut longer = case.payload.clone();
-        longer.push(0xFF);
-        let mut buffer = pattern(records.len(), 0x3C);
-        let again = read(&longer, &mut buffer);
-        ensure!(again == *answer, "another answer with a byte appended");
-        ensure!(buffer == records, "other records with a byte appended");
+/// One byte short of either, then of both: the records are named first.
+fn too_short(case: &Case, bytes: usize, trim_bytes: usize) -> Result<(), String> {
+    let short = left(&case.payload, (bytes, trim_bytes - 1), 0x3C);
+    refused(&short, (9, trim_bytes as u64), 0x3C)?;
+    if bytes > 0 {
+        for trim_room in [trim_bytes, trim_bytes - 1, 0] {
+            let short = left(&case.payload, (bytes - 1, trim_room), 0x3C);
+            refused(&short, (9, bytes as u64), 0x3C)?;
+        }
     }
     Ok(())
 }
 
-/// The records of an accepted case.
-pub fn records_of(case: &Case, answer: &Answer) -> Vec<u8> {
-    let mut records = vec![0; needed(&answer.programme, &answer.timing)];
-    read(&case.payload, &mut records);
-    records
+/// Appended bytes are padding: the answer stays.
+fn appended(case: &Case, second: &Left) -> Result<(), String> {
+    if case.payload.len() < 4096 {
+        let mut longer = case.payload.clone();
+        longer.push(0xFF);
+        let rooms = (second.records.len(), second.trim.len());
+        let again = left(&longer, rooms, 0x3C);
+        let same = again.answer == second.answer
+            && again.records == second.records
+            && again.trim == second.trim;
+        ensure!(same, "another answer or buffer with a byte appended");
+    }
+    Ok(())
 }
 
 /// Writes the tables of an accepted payload: valid unless the reserved content
 /// flag is set.
 pub fn check_rewrite(case: &Case, answer: &Answer) -> Result<WriteAnswer, String> {
+    let rooms = (
+        needed(&answer.programme, &answer.timing),
+        trim_needed(&answer.programme),
+    );
+    let left = left(&case.payload, rooms, 0);
     let tables = TableCase {
         kind: "read",
         programme: answer.programme,
         timing: answer.timing,
-        records: records_of(case, answer),
+        records: left.records,
+        trim: left.trim,
         valid: Some(answer.programme.content & 8 == 0),
         place: Some(0),
     };
@@ -160,8 +199,12 @@ fn rooms(case: &TableCase, length: usize, payload: &[u8]) -> Result<(), String> 
 /// are written as the same bytes.
 fn read_back(case: &TableCase, payload: &[u8]) -> Result<(), String> {
     let bytes = needed(&case.programme, &case.timing);
-    let mut records = pattern(bytes, 0xC3);
-    let answer = read(payload, &mut records);
+    let trim_bytes = trim_needed(&case.programme);
+    let Left {
+        answer,
+        records,
+        trim,
+    } = left(payload, (bytes, trim_bytes), 0xC3);
     ensure!(
         answer.refusal == 0,
         "what was written is refused: {answer:?}"
@@ -170,8 +213,9 @@ fn read_back(case: &TableCase, payload: &[u8]) -> Result<(), String> {
     ensure!(answer.programme == case.programme, "another programme");
     ensure!(answer.timing == case.timing, "another timing");
     ensure!(records == case.records[..bytes], "other records");
+    ensure!(trim == case.trim[..trim_bytes], "another trim table");
     let mut out = pattern(payload.len(), 0x11);
-    let again = write(&answer.programme, &answer.timing, &records, &mut out);
+    let again = write(&answer.programme, &answer.timing, &records, &trim, &mut out);
     ensure!(again.refusal == 0, "written once only: {again:?}");
     ensure!(out == payload, "another form the second time");
     Ok(())
@@ -179,7 +223,13 @@ fn read_back(case: &TableCase, payload: &[u8]) -> Result<(), String> {
 
 fn written(case: &TableCase, room: usize) -> (WriteAnswer, Vec<u8>) {
     let mut out = pattern(room, 0x5A);
-    let answer = write(&case.programme, &case.timing, &case.records, &mut out);
+    let answer = write(
+        &case.programme,
+        &case.timing,
+        &case.records,
+        &case.trim,
+        &mut out,
+    );
     (answer, out)
 }
 

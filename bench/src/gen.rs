@@ -14,6 +14,8 @@ mod render;
 pub mod rng;
 mod tables;
 mod timing;
+mod trim;
+mod trim_tables;
 
 use crate::plain::{Programme, Timing};
 use marks::Marks;
@@ -28,6 +30,8 @@ pub struct Case {
     pub payload: Vec<u8>,
     /// Length of the record buffer.
     pub room: usize,
+    /// Length of the trim buffer.
+    pub trim_room: usize,
     /// Refusal and place, where the generator knows them.
     pub expect: Option<(u32, u64)>,
     /// What is to be read if the payload is accepted, where it is known.
@@ -36,12 +40,13 @@ pub struct Case {
     pub marks: Marks,
 }
 
-/// What an accepted read answers and leaves in the buffer.
+/// What an accepted read answers and leaves in the buffers.
 #[derive(Clone)]
 pub struct Tables {
     pub programme: Programme,
     pub timing: Timing,
     pub records: Vec<u8>,
+    pub trim: Vec<u8>,
     pub unknown: u32,
 }
 
@@ -52,6 +57,7 @@ pub struct TableCase {
     pub programme: Programme,
     pub timing: Timing,
     pub records: Vec<u8>,
+    pub trim: Vec<u8>,
     /// Whether they are valid, where the generator knows it.
     pub valid: Option<bool>,
     /// The place of refusal 10, if it is given and the generator knows it.
@@ -69,10 +75,16 @@ pub(crate) enum Fault {
     SizeIndex,
     DivergenceMode,
     DivergenceCode,
+    WarpMode,
+    GlobalMode,
+    Surround,
+    TrimHeight,
     TwiceObject,
     TwiceExtended,
+    TwiceTrim,
     Early,
     ShortElement,
+    ShortTrim,
     LongSize,
 }
 

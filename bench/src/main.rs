@@ -9,6 +9,8 @@ use std::process::ExitCode;
 /// What has been seen.
 struct Tally {
     read: [u64; 12],
+    /// Refusal 9 where the tables are known: for the records, for trim.
+    no_room: [u64; 2],
     written: [u64; 12],
     rewritten: [u64; 12],
     kinds: BTreeMap<&'static str, [u64; 12]>,
@@ -50,6 +52,7 @@ fn main() -> ExitCode {
 fn run(count: u64, seed: u64) -> Result<Tally, String> {
     let mut tally = Tally {
         read: [0; 12],
+        no_room: [0; 2],
         written: [0; 12],
         rewritten: [0; 12],
         kinds: BTreeMap::new(),
@@ -61,8 +64,8 @@ fn run(count: u64, seed: u64) -> Result<Tally, String> {
         let case = gen.case();
         one(&case, &mut tally).map_err(|message| {
             let hex: String = case.payload.iter().map(|b| format!("{b:02x}")).collect();
-            let (kind, room) = (case.kind, case.room);
-            format!("payload {index} ({kind}, room {room}): {message}\n{hex}")
+            let (kind, rooms) = (case.kind, (case.room, case.trim_room));
+            format!("payload {index} ({kind}, rooms {rooms:?}): {message}\n{hex}")
         })?;
     }
     for index in 0..count / 2 {
@@ -85,6 +88,9 @@ fn one(case: &Case, tally: &mut Tally) -> Result<(), String> {
     tally.kinds.entry(case.kind).or_default()[answer.refusal as usize] += 1;
     for (groups, count) in tally.groups.iter_mut().enumerate() {
         *count += u64::from(case.marks.has(Group::SizeGroups as usize, groups));
+    }
+    if let (9, Some(tables)) = (answer.refusal, &case.tables) {
+        tally.no_room[usize::from(tables.records.len() <= case.room)] += 1;
     }
     if answer.refusal != 0 {
         return Ok(());
@@ -111,6 +117,9 @@ fn report(tally: &Tally) -> ExitCode {
         println!("{refusal:7}  {read:13}  {written:14}  {again:19}");
         missed |= read + written == 0;
     }
+    println!("refusal 9 for the records, for the trim table");
+    println!("    {:?}", tally.no_room);
+    missed |= tally.no_room.contains(&0);
     println!("\nby kind of case, refusals 0 to 11");
     for (kind, counts) in &tally.kinds {
         println!("{kind:28} {counts:?}");

@@ -11,11 +11,14 @@ mod put;
 mod reader;
 mod record;
 mod sink;
+mod trim;
 mod valid;
 mod writer;
 
 #[cfg(test)]
 mod canonical_tests;
+
+use reader::Scratch;
 
 pub use record::{Record, RECORD_BYTES};
 
@@ -27,6 +30,10 @@ pub const MAX_RECORD_BYTES: usize = 30_720;
 pub const MAX_BEDS: usize = 9;
 /// Most update blocks: num_obj_info_blocks_bits + 1 (5.6.2.4).
 pub const MAX_BLOCKS: usize = 8;
+/// Most objects: object_count_bits with its extension + 1 (5.6.0.2).
+pub const MAX_OBJECTS: usize = 159;
+/// A buffer of this many bytes holds the trim table of every payload.
+pub const MAX_TRIM_BYTES: usize = trim::FIRST_FLAG + MAX_OBJECTS;
 
 /// The numbers of the refusals (document 01, "What a call answers").
 pub mod refusal {
@@ -135,14 +142,20 @@ pub struct WriteAnswer {
 }
 
 /// Reads one payload. If it is accepted, the first 24 x objects x blocks bytes
-/// of `records` hold the records and no other byte is changed; if it is
-/// refused, no byte is changed.
-pub fn read(payload: &[u8], records: &mut [u8]) -> Answer {
-    let mut scratch = [[0; RECORD_BYTES]; MAX_RECORD_BYTES / RECORD_BYTES];
-    match reader::payload(payload, records.len(), &mut scratch) {
+/// of `records` hold the records, the first 94 + objects bytes of `trim` the
+/// trim table, and no other byte is changed; if it is refused, no byte is
+/// changed.
+pub fn read(payload: &[u8], records: &mut [u8], trim: &mut [u8]) -> Answer {
+    let mut scratch = Scratch {
+        records: [[0; RECORD_BYTES]; MAX_RECORD_BYTES / RECORD_BYTES],
+        trim: [0; MAX_TRIM_BYTES],
+    };
+    match reader::payload(payload, (records.len(), trim.len()), &mut scratch) {
         Ok(tables) => {
             let bytes = needed(&tables.programme, &tables.timing);
-            records[..bytes].copy_from_slice(&scratch.as_flattened()[..bytes]);
+            records[..bytes].copy_from_slice(&scratch.records.as_flattened()[..bytes]);
+            let bytes = trim_needed(&tables.programme);
+            trim[..bytes].copy_from_slice(&scratch.trim[..bytes]);
             Answer {
                 refusal: refusal::ACCEPTED,
                 place: 0,
@@ -166,9 +179,10 @@ pub fn write(
     programme: &Programme,
     timing: &Timing,
     records: &[u8],
+    trim: &[u8],
     out: &mut [u8],
 ) -> WriteAnswer {
-    match writer::payload(programme, timing, records, out) {
+    match writer::payload(programme, timing, records, trim, out) {
         Ok(length) => WriteAnswer {
             refusal: refusal::ACCEPTED,
             place: 0,
@@ -187,6 +201,11 @@ pub fn needed(programme: &Programme, timing: &Timing) -> usize {
     RECORD_BYTES * usize::from(programme.objects) * usize::from(timing.blocks)
 }
 
+/// Bytes of the trim table: 94 + objects.
+pub fn trim_needed(programme: &Programme) -> usize {
+    trim::FIRST_FLAG + usize::from(programme.objects)
+}
+
 /// The promised layouts.
 const _: () = {
     use core::mem::{offset_of, size_of};
@@ -202,4 +221,5 @@ const _: () = {
     assert!(size_of::<Answer>() == 144);
     assert!(offset_of!(WriteAnswer, place) == 8 && offset_of!(WriteAnswer, length) == 16);
     assert!(size_of::<WriteAnswer>() == 24);
+    assert!(trim::FIRST_FLAG == 94 && MAX_TRIM_BYTES == 253);
 };

@@ -5,10 +5,11 @@ mod common;
 use common::{bytes, element, read_all, ONE};
 use skriemelt_bench::plain::{write, Answer, Bed, Programme, Timing, Update};
 
-/// Writes the tables of an answer with room to spare.
+/// Writes the tables of an answer without trim, with room to spare.
 fn written(answer: &Answer, records: &[u8]) -> Vec<u8> {
     let mut out = vec![0xEE; 4096];
-    let result = write(&answer.programme, &answer.timing, records, &mut out);
+    let trim = vec![0; 94 + usize::from(answer.programme.objects)];
+    let result = write(&answer.programme, &answer.timing, records, &trim, &mut out);
     assert_eq!((result.refusal, result.place), (0, 0));
     assert!(out[result.length as usize..].iter().all(|b| *b == 0xEE));
     out.truncate(result.length as usize);

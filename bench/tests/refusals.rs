@@ -134,8 +134,8 @@ fn past_the_element() {
 fn room() {
     let payload = bytes(&format!("{ONE} 0001 {}", element(1, INACTIVE)));
     for (room, refusal) in [(0, 9), (23, 9), (24, 0), (25, 0)] {
-        let mut records = vec![0xEE; room];
-        let answer = read(&payload, &mut records);
+        let (mut records, mut trim) = (vec![0xEE; room], [0xEE; 95]);
+        let answer = read(&payload, &mut records, &mut trim);
         let place = if refusal == 9 { 24 } else { 0 };
         assert_eq!((answer.refusal, answer.place), (refusal, place));
         let untouched = if refusal == 9 { 0 } else { 24 };
@@ -143,7 +143,7 @@ fn room() {
     }
     // Last of all: a second object element is refused first.
     let twice = format!("{ONE} 0010 {0}{0}", element(1, INACTIVE));
-    let answer = read(&bytes(&twice), &mut []);
+    let answer = read(&bytes(&twice), &mut [], &mut []);
     assert_eq!(answer.refusal, 6);
 }
 
@@ -164,9 +164,9 @@ fn tables() -> (Programme, Timing, [u8; 24]) {
     (programme, timing, record)
 }
 
-/// Refusal, place and length.
+/// Refusal, place and length, without trim.
 fn answer(programme: &Programme, timing: &Timing, records: &[u8]) -> (u32, u64, u64) {
-    let answer = write(programme, timing, records, &mut [0; 100]);
+    let answer = write(programme, timing, records, &[0; 253], &mut [0; 100]);
     (answer.refusal, answer.place, answer.length)
 }
 

@@ -19,11 +19,29 @@ fn element(bits: usize) -> usize {
 }
 
 /// Bits of the payload without its last padding, from its parts: program
-/// assignment, timing of all blocks, records, extended records.
-pub fn payload(objects: usize, assignment: usize, object: usize, extended: usize) -> usize {
+/// assignment, and the contents of the object, extended and trim elements.
+pub fn payload(objects: usize, assignment: usize, elements: [usize; 3]) -> usize {
     let header = 2 + if objects < 32 { 5 } else { 12 };
     let element = |bits| if bits == 0 { 0 } else { element(bits) };
-    header + assignment + 1 + 4 + element(object) + element(extended)
+    header + assignment + 1 + 4 + elements.map(element).iter().sum::<usize>()
+}
+
+/// Bits of a trim element from its discard flag on: the flag, 2 + 2 + 2 bits of
+/// modes, the configurations, the flag of the objects' flags and these.
+fn trim_bits(trim: &[u8], objects: usize) -> usize {
+    if trim[0] == 0 {
+        return 0;
+    }
+    let config = |c: &[u8]| match (c[0], c[1]) {
+        (1, _) => 1,
+        (_, 1) => 2,
+        _ => 7 + (4 * (c[2] & 7).count_ones() + 5 * (c[2] >> 3).count_ones()) as usize,
+    };
+    let configs = match trim[2] {
+        2 => trim[3..93].chunks(10).map(config).sum(),
+        _ => 0,
+    };
+    1 + 6 + configs + 1 + objects * usize::from(trim[93])
 }
 
 /// Bits of one record in an object element.
@@ -82,7 +100,9 @@ pub fn form_bytes(case: &TableCase) -> usize {
     if extended > 0 {
         extended += 3;
     }
-    payload(p.objects.into(), assignment_bits(p), object, extended).div_ceil(8)
+    let trim = trim_bits(&case.trim, p.objects.into());
+    let elements = [object, extended, trim];
+    payload(p.objects.into(), assignment_bits(p), elements).div_ceil(8)
 }
 
 fn assignment_bits(p: &Programme) -> usize {

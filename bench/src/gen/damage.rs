@@ -5,7 +5,7 @@ use super::marks::{Group, Marks};
 use super::payload::Whole;
 use super::{Case, Fault, Gen, Tables};
 
-const FAULTS: [Fault; 13] = [
+const FAULTS: [Fault; 19] = [
     Fault::Version,
     Fault::Counts,
     Fault::Isf,
@@ -14,10 +14,16 @@ const FAULTS: [Fault; 13] = [
     Fault::SizeIndex,
     Fault::DivergenceMode,
     Fault::DivergenceCode,
+    Fault::WarpMode,
+    Fault::GlobalMode,
+    Fault::Surround,
+    Fault::TrimHeight,
     Fault::TwiceObject,
     Fault::TwiceExtended,
+    Fault::TwiceTrim,
     Fault::Early,
     Fault::ShortElement,
+    Fault::ShortTrim,
     Fault::LongSize,
 ];
 
@@ -27,6 +33,11 @@ fn cut(draft: &Draft, bytes: &[u8]) -> (u32, usize) {
         Some(place) => (2, place),
         None => (0, 0),
     }
+}
+
+/// The bytes that the tables need, of records and of trim.
+fn needed(tables: &Tables) -> (usize, usize) {
+    (tables.records.len(), tables.trim.len())
 }
 
 impl Gen {
@@ -73,9 +84,15 @@ impl Gen {
             Fault::SizeIndex => "reserved size",
             Fault::DivergenceMode => "reserved mode",
             Fault::DivergenceCode => "reserved code",
+            Fault::WarpMode => "reserved warp",
+            Fault::GlobalMode => "reserved trim mode",
+            Fault::Surround => "reserved surround",
+            Fault::TrimHeight => "reserved trim height",
             Fault::TwiceObject | Fault::TwiceExtended => "twice",
+            Fault::TwiceTrim => "twice trim",
             Fault::Early => "early extended",
             Fault::ShortElement => "short element",
+            Fault::ShortTrim => "short trim element",
             Fault::LongSize => "long size",
         };
         self.finish(kind, bytes, expect, whole.tables)
@@ -102,7 +119,7 @@ impl Gen {
         let whole = self.whole();
         let mut bytes = self.bytes(&whole.draft);
         self.flip(&mut bytes);
-        self.finish_open("flipped", bytes, whole.tables.records.len())
+        self.finish_open("flipped", bytes, needed(&whole.tables))
     }
 
     /// Flips a few bits, half of them near the start.
@@ -134,7 +151,7 @@ impl Gen {
         let count = self.rng.within(1, 4);
         draft.field(4, count);
         for index in 0..count {
-            let ids = [[1, 1, 1, 5], [5, 5, 1, 2]][index.min(1)];
+            let ids = [[1, 1, 2, 5], [5, 5, 1, 2]][index.min(1)];
             draft.field(4, self.rng.pick(&ids));
             let most = 4 + 12 * usize::from(programme.objects);
             let bytes = self.rng.within(1, most);
@@ -149,8 +166,9 @@ impl Gen {
             }
         }
         let bytes = self.bytes(&draft);
-        let needed = 24 * usize::from(programme.objects) * self.rng.within(1, 8);
-        self.finish_open("noisy", bytes, needed)
+        let objects = usize::from(programme.objects);
+        let needed = 24 * objects * self.rng.within(1, 8);
+        self.finish_open("noisy", bytes, (needed, 94 + objects))
     }
 
     fn random(&mut self) -> Case {
@@ -160,7 +178,7 @@ impl Gen {
         if let Some(first) = bytes.first_mut() {
             *first &= self.rng.pick(&[0xFF, 0x3F, 0x3F, 0x07]);
         }
-        let needed = self.rng.below(30_720);
+        let needed = (self.rng.below(30_720), self.rng.within(95, 253));
         self.finish_open("random", bytes, needed)
     }
 
@@ -179,7 +197,7 @@ impl Gen {
         }
         if self.rng.chance(10) {
             bytes.truncate(bytes.len() - 1);
-            return self.finish_open("about 4,096", bytes, whole.tables.records.len());
+            return self.finish_open("about 4,096", bytes, needed(&whole.tables));
         }
         self.finish("about 4,096", bytes, (0, 0), whole.tables)
     }
@@ -195,7 +213,7 @@ impl Gen {
         if self.rng.chance(60) {
             bytes.truncate(self.rng.below(bytes.len()));
         }
-        self.finish_open("spoilt", bytes, whole.tables.records.len())
+        self.finish_open("spoilt", bytes, needed(&whole.tables))
     }
 
     /// The bits as bytes, the last one filled with zeros or ones.
@@ -203,20 +221,27 @@ impl Gen {
         draft.bytes(self.rng.chance(50))
     }
 
-    /// A case whose answer is not known.
-    fn finish_open(&mut self, kind: &'static str, payload: Vec<u8>, needed: usize) -> Case {
+    /// A case whose answer is not known, nor are the bytes that it needs of
+    /// records and trim.
+    fn finish_open(
+        &mut self,
+        kind: &'static str,
+        payload: Vec<u8>,
+        (records, trim): (usize, usize),
+    ) -> Case {
         let length = payload.len();
         Case {
             kind,
             payload,
-            room: self.room(needed),
+            room: self.room(records),
+            trim_room: self.trim_room(trim),
             expect: (length > 4096).then_some((1, length as u64)),
             tables: None,
             marks: Marks::default(),
         }
     }
 
-    /// A case whose answer is known but for the length and the room.
+    /// A case whose answer is known but for the length and the rooms.
     fn finish(
         &mut self,
         kind: &'static str,
@@ -224,20 +249,33 @@ impl Gen {
         expect: (u32, usize),
         tables: Tables,
     ) -> Case {
-        let needed = tables.records.len();
-        let room = self.room(needed);
+        let (records, trim) = needed(&tables);
+        let (room, trim_room) = (self.room(records), self.trim_room(trim));
         let expect = match expect {
             _ if payload.len() > 4096 => (1, payload.len()),
-            (0, _) if room < needed => (9, needed),
+            (0, _) if room < records => (9, records),
+            (0, _) if trim_room < trim => (9, trim),
             other => other,
         };
         Case {
             kind,
             payload,
             room,
+            trim_room,
             expect: Some((expect.0, expect.1 as u64)),
             tables: Some(tables),
             marks: self.marks,
+        }
+    }
+
+    /// The room of the trim buffer likewise, rather enough.
+    fn trim_room(&mut self, needed: usize) -> usize {
+        match self.rng.below(50) {
+            0..=19 => needed,
+            20..=37 => 253,
+            38..=46 => needed + self.rng.within(1, 100),
+            47..=48 => needed - 1,
+            _ => self.rng.below(needed),
         }
     }
 

@@ -20,6 +20,7 @@ enum Item {
     Unknown,
     Object,
     Extended,
+    Trim,
     /// An unknown element that ends at the last byte wanted.
     Filler,
 }
@@ -31,6 +32,8 @@ struct Elements {
     /// The known object element, once it is there.
     object: Option<ObjectElement>,
     extended: bool,
+    /// The table of the trim element, once it is there.
+    trim: Option<Vec<u8>>,
 }
 
 impl Gen {
@@ -46,6 +49,7 @@ impl Gen {
             alternate: self.rng.chance(35),
             object: None,
             extended: false,
+            trim: None,
         };
         draft.flag(elements.alternate);
         let alternate = usize::from(elements.alternate);
@@ -74,10 +78,12 @@ impl Gen {
                 (Timing::default(), vec![])
             }
         };
+        let objects = usize::from(elements.programme.objects);
         Tables {
             programme: elements.programme,
             timing,
             records: records.concat(),
+            trim: elements.trim.unwrap_or_else(|| vec![0; 94 + objects]),
             unknown,
         }
     }
@@ -107,8 +113,8 @@ impl Gen {
         }
     }
 
-    /// The order of the elements: at most 46.
-    fn items(&mut self) -> Vec<Item> {
+    /// The known elements in their order.
+    fn known_items(&mut self) -> Vec<Item> {
         let known = match self.fault {
             Some(Fault::Isf | Fault::Version | Fault::Counts) | None => self.rng.below(10),
             Some(Fault::Early) => 10,
@@ -126,6 +132,17 @@ impl Gen {
             11 => vec![Item::Object, Item::Object],
             _ => vec![Item::Object, Item::Extended, Item::Extended],
         };
+        for _ in 0..self.trims() {
+            let at = self.rng.below(items.len() + 1);
+            items.insert(at, Item::Trim);
+        }
+        self.mark_trim(&items);
+        items
+    }
+
+    /// The order of the elements: at most 46.
+    fn items(&mut self) -> Vec<Item> {
+        let mut items = self.known_items();
         let least = items.len();
         let total = match self.rng.below(20) {
             0..=9 => least,
@@ -143,6 +160,32 @@ impl Gen {
             items.push(Item::Filler);
         }
         items
+    }
+
+    /// How many trim elements are wanted.
+    fn trims(&mut self) -> usize {
+        match self.fault {
+            Some(Fault::TwiceTrim) => 2,
+            Some(Fault::WarpMode | Fault::GlobalMode | Fault::Surround) => 1,
+            Some(Fault::TrimHeight | Fault::ShortTrim) => 1,
+            _ => usize::from(self.rng.chance(50)),
+        }
+    }
+
+    /// Where the trim element stands among the known ones.
+    fn mark_trim(&mut self, items: &[Item]) {
+        let at = |item| items.iter().position(|other| *other == item);
+        let Some(trim) = at(Item::Trim) else {
+            return;
+        };
+        let place = match (at(Item::Object), at(Item::Extended)) {
+            (None, _) => 0,
+            (Some(object), _) if trim < object => 1,
+            (_, None) => 2,
+            (_, Some(extended)) if trim < extended => 3,
+            _ => 4,
+        };
+        self.marks.set(Group::TrimPlace, place);
     }
 
     fn mark_count(&mut self, count: usize) {
@@ -172,6 +215,7 @@ impl Gen {
             }
             Item::Object => self.object_item(draft, elements),
             Item::Extended => self.extended_item(draft, elements),
+            Item::Trim => self.trim_item(draft, elements),
         }
     }
 
@@ -205,6 +249,18 @@ impl Gen {
         self.known(draft, 5, content);
     }
 
+    fn trim_item(&mut self, draft: &mut Draft, elements: &mut Elements) {
+        let mut content = self.element_start(elements.alternate);
+        if elements.trim.is_some() {
+            draft.fail(6);
+            content.noise(&mut self.rng, 20);
+        } else {
+            let objects = usize::from(elements.programme.objects);
+            elements.trim = Some(self.trim_element(&mut content, objects));
+        }
+        self.known(draft, 2, content);
+    }
+
     /// The alternate id of a known element and its discard flag.
     fn element_start(&mut self, alternate: bool) -> Draft {
         let mut content = Draft::default();
@@ -217,11 +273,19 @@ impl Gen {
 
     /// A known element: just long enough, longer, or too short.
     fn known(&mut self, draft: &mut Draft, id: usize, content: Draft) {
-        self.marks.set(Group::Element, id / 5);
+        let mark = match id {
+            1 => 0,
+            5 => 1,
+            _ => 2,
+        };
+        self.marks.set(Group::Element, mark);
         draft.field(4, id);
         let exact = content.len().div_ceil(8);
         let chance = if id == 5 { 100 } else { 50 };
-        let bytes = if exact > 1 && self.place_fault(Fault::ShortElement, chance) {
+        let short = exact > 1
+            && (self.place_fault(Fault::ShortElement, chance)
+                || (id == 2 && self.place_fault(Fault::ShortTrim, 100)));
+        let bytes = if short {
             let any = self.rng.within(1, exact - 1);
             self.rng.pick(&[1, exact - 1, any])
         } else {
@@ -258,9 +322,9 @@ impl Gen {
     fn unknown(&mut self, draft: &mut Draft, alternate: bool, bytes: usize) {
         let known = alternate && self.rng.chance(40);
         let ids: &[usize] = if known {
-            &[1, 5]
+            &[1, 2, 5]
         } else {
-            &[0, 2, 2, 2, 3, 4, 6, 7, 8, 9, 10, 11, 12, 13, 14, 15]
+            &[0, 3, 4, 6, 7, 8, 9, 10, 11, 12, 13, 14, 15]
         };
         let id = self.rng.pick(ids);
         draft.field(4, id);
@@ -277,7 +341,7 @@ impl Gen {
         let mark = match id {
             1 => 4,
             5 => 5,
-            2 => 2,
+            2 => 6,
             _ => 3,
         };
         self.marks.set(Group::Element, mark);

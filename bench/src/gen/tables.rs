@@ -11,7 +11,7 @@ impl Gen {
             return self.random_tables();
         }
         let mut case = self.valid_tables();
-        match self.rng.below(20) {
+        match self.rng.below(26) {
             0..=9 => {}
             10..=14 if !case.records.is_empty() => self.change_record(&mut case),
             15..=16 => self.change_programme(&mut case),
@@ -26,26 +26,32 @@ impl Gen {
                 case.kind = "reserved content flag";
                 (case.valid, case.place) = (Some(false), Some(0));
             }
+            20..=23 => self.spoil_trim(&mut case),
+            24 => self.change_trim(&mut case),
             _ => {
-                let more = self.rng.within(1, 50);
+                let (more, trim) = (self.rng.within(1, 50), self.rng.within(1, 50));
                 case.records.extend((0..more).map(|k| k as u8));
+                case.trim.extend((0..trim).map(|k| k as u8));
                 case.kind = "valid tables, more bytes";
             }
         }
         case
     }
 
-    /// Tables with one to three values changed, or with record bytes cut off or
-    /// put behind the others.
+    /// Tables with one to three values changed, or with record or trim bytes cut
+    /// off or put behind the others.
     pub fn damage_tables(&mut self, case: &mut TableCase) {
         for _ in 0..self.rng.within(1, 3) {
-            match self.rng.below(12) {
+            match self.rng.below(16) {
                 0..=6 if !case.records.is_empty() => self.change_record(case),
                 7..=8 => self.change_programme(case),
                 9 => self.change_timing(case),
                 10 => case
                     .records
                     .truncate(self.rng.below(case.records.len() + 1)),
+                11..=13 if !case.trim.is_empty() => self.change_trim(case),
+                14 => case.trim.truncate(self.rng.below(case.trim.len() + 1)),
+                15 => case.trim.push(self.rng.byte()),
                 _ => case.records.push(self.rng.byte()),
             }
         }
@@ -81,12 +87,14 @@ impl Gen {
         for update in &mut timing.updates {
             (update.start, update.ramp) = (byte().into(), byte().into());
         }
-        let length = self.rng.below(5000);
+        let (length, trim_length) = (self.rng.below(5000), self.rng.below(300));
+        let mut bytes = |n| (0..n).map(|_| self.rng.below(most) as u8).collect();
         TableCase {
             kind: "random tables",
             programme,
             timing,
-            records: (0..length).map(|_| self.rng.below(most) as u8).collect(),
+            records: bytes(length),
+            trim: bytes(trim_length),
             valid: None,
             place: None,
         }
@@ -112,6 +120,7 @@ impl Gen {
             programme,
             timing,
             records,
+            trim: self.valid_trim(programme.objects.into()),
             valid: Some(true),
             place: None,
         }
@@ -205,7 +214,7 @@ impl Gen {
     }
 
     /// A value near the present one, or any.
-    fn other(&mut self, value: u8) -> u8 {
+    pub(super) fn other(&mut self, value: u8) -> u8 {
         let any = self.rng.byte();
         let small = self.rng.below(8) as u8;
         self.rng.pick(&[
@@ -292,11 +301,13 @@ pub fn longest() -> TableCase {
     let record = [
         1, 2, 65, 0, 62, 62, 79, 17, 1, 2, 3, 5, 1, 1, 7, 3, 1, 1, 2, 63, 7, 3, 3, 3,
     ];
+    let config = [0, 0, 31, 15, 15, 15, 1, 15, 1, 15];
     TableCase {
         kind: "longest",
         programme,
         timing,
         records: record.repeat(159 * 8),
+        trim: [&[1, 1, 2][..], &config.repeat(9), &[1; 160]].concat(),
         valid: Some(true),
         place: None,
     }

@@ -84,6 +84,17 @@ impl<'a> Bits<'a> {
         Ok(value)
     }
 
+    /// Reads one field whose values below `least` are reserved (refusal 5).
+    #[inline]
+    pub fn from(&mut self, width: usize, least: u8) -> Result<u8, Refusal> {
+        let place = self.at;
+        let value = self.byte(width)?;
+        if value < least {
+            return Err(Refusal::new(refusal::RESERVED, place));
+        }
+        Ok(value)
+    }
+
     /// Reads a field that grows by a further one when all its bits are 1.
     pub fn grown(&mut self, width: usize, more: usize) -> Result<u8, Refusal> {
         let value = self.byte(width)?;

@@ -5,7 +5,7 @@
 use super::bits::{Bits, Refusal};
 use super::record::*;
 use super::sink::Sink;
-use super::{extended, object, put, writer};
+use super::{extended, object, put, trim, writer};
 use std::collections::HashMap;
 use std::fmt::Debug;
 use std::hash::Hash;
@@ -116,6 +116,21 @@ fn extended_groups() {
     let positions = shortest(10, with(extended::ext_prec_pos_block));
     assert_eq!(positions.len(), 5 * 5 * 5);
     assert_eq!(agree(&positions, put::ext_prec_pos_block), 10);
+}
+
+/// The reserved bits are 0. Configurations of up to 17 bits: at most two of
+/// centre, surround, height and the two balances are carried.
+#[test]
+fn trim_groups() {
+    let modes = shortest(6, trim::trim_modes);
+    assert_eq!(modes.len(), 2 * 3);
+    assert_eq!(agree(&modes, |sink, m| put::trim_modes(sink, *m)), 6);
+    let configs = shortest(17, trim::trim_config);
+    let values = [16, 12, 12, 32, 32];
+    let pairs = (0..5).flat_map(|a| (0..a).map(move |b| values[a] * values[b]));
+    let count = 3 + values.iter().sum::<usize>() + pairs.sum::<usize>();
+    assert_eq!(configs.len(), count);
+    assert_eq!(agree(&configs, put::trim_config), 17);
 }
 
 /// The rule for ramps is not the fewest bits: 11 bits stand before an index.

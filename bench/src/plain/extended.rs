@@ -2,7 +2,6 @@
 
 use super::bits::{Bits, Refusal};
 use super::record::*;
-use super::refusal;
 
 /// extended_object_element: fills bytes 17 to 23 of active dynamic records.
 pub fn extended_object_element(bits: &mut Bits, records: &mut [Record]) -> Result<(), Refusal> {
@@ -34,13 +33,7 @@ pub fn obj_div_block(bits: &mut Bits, record: &mut Record) -> Result<(), Refusal
     match record[DIVERGENCE_MODE] {
         0 => record[DIVERGENCE_VALUE] = bits.byte(2)?,
         1 => {}
-        _ => {
-            let place = bits.place();
-            record[DIVERGENCE_VALUE] = bits.byte(6)?;
-            if record[DIVERGENCE_VALUE] == 0 {
-                return Err(Refusal::new(refusal::RESERVED, place));
-            }
-        }
+        _ => record[DIVERGENCE_VALUE] = bits.from(6, 1)?,
     }
     Ok(())
 }

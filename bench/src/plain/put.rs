@@ -1,7 +1,8 @@
-//! The fields of the two known elements in the one written form.
+//! The fields of the three known elements in the one written form.
 
 use super::record::*;
 use super::sink::Sink;
+use super::trim::*;
 use super::Timing;
 
 /// md_update_info (5.5.6): sample offset by code 0 or 2.
@@ -149,6 +150,54 @@ pub fn ext_prec_pos_block<S: Sink>(sink: &mut S, r: &Record) {
             if r[PRESENCE] & bit != 0 {
                 sink.put(2, u32::from(r[code]));
             }
+        }
+    }
+}
+
+/// trim_element (5.5.12): what the table holds, and nothing is left to choose.
+pub fn trim_element<S: Sink>(sink: &mut S, table: &[u8]) {
+    trim_modes(sink, [table[WARP], table[GLOBAL]]);
+    if table[GLOBAL] == GLOBAL_CUSTOM {
+        let configs = &table[FIRST_CONFIG..PER_OBJECT];
+        for config in configs.as_chunks::<CONFIG_BYTES>().0 {
+            trim_config(sink, config);
+        }
+    }
+    sink.put(1, u32::from(table[PER_OBJECT]));
+    if table[PER_OBJECT] != 0 {
+        for flag in &table[FIRST_FLAG..] {
+            sink.put(1, u32::from(*flag));
+        }
+    }
+}
+
+/// warp_mode and global_trim_mode, the reserved bits between 0.
+pub fn trim_modes<S: Sink>(sink: &mut S, [warp, global]: [u8; 2]) {
+    sink.put(2, u32::from(warp));
+    sink.put(2, 0);
+    sink.put(2, u32::from(global));
+}
+
+/// The fields of one configuration.
+pub fn trim_config<S: Sink>(sink: &mut S, config: &Config) {
+    sink.put(1, u32::from(config[DEFAULT]));
+    if config[DEFAULT] != 0 {
+        return;
+    }
+    sink.put(1, u32::from(config[DISABLE]));
+    if config[DISABLE] != 0 {
+        return;
+    }
+    sink.put(5, u32::from(config[BALANCE]));
+    for (bit, width, value) in [
+        (HAS_CENTRE, 4, config[CENTRE]),
+        (HAS_SURROUND, 4, config[SURROUND]),
+        (HAS_HEIGHT, 4, config[TRIM_HEIGHT]),
+        (HAS_TB, 5, config[SIGN_TB] << 4 | config[AMOUNT_TB]),
+        (HAS_LIS, 5, config[SIGN_LIS] << 4 | config[AMOUNT_LIS]),
+    ] {
+        if config[BALANCE] & bit != 0 {
+            sink.put(width, u32::from(value));
         }
     }
 }

@@ -4,19 +4,31 @@ use super::assignment::program_assignment;
 use super::bits::{Bits, Refusal};
 use super::extended::extended_object_element;
 use super::object::object_element;
-use super::record::Record;
-use super::{needed, refusal, Programme, Timing, MAX_PAYLOAD};
+use super::record::{Record, RECORD_BYTES};
+use super::trim::{trim_element, PRESENT};
+use super::{needed, refusal, trim_needed};
+use super::{Programme, Timing, MAX_PAYLOAD, MAX_RECORD_BYTES, MAX_TRIM_BYTES};
 
-/// What has been read so far, the records left out.
+/// What has been read so far, the records and the trim table left out.
 pub struct Tables {
     pub programme: Programme,
     pub timing: Timing,
     pub unknown: u32,
 }
 
-/// Reads a payload into `records`, which has room for those of every payload;
-/// `room` is that of the lent buffer.
-pub fn payload(bytes: &[u8], room: usize, records: &mut [Record]) -> Result<Tables, Refusal> {
+/// Room for the records and the trim table of every payload.
+pub struct Scratch {
+    pub records: [Record; MAX_RECORD_BYTES / RECORD_BYTES],
+    pub trim: [u8; MAX_TRIM_BYTES],
+}
+
+/// Reads a payload into `scratch`, which holds zeros. The rooms are those of the
+/// lent buffers, of records and of trim: refusal 9 last of all, records first.
+pub fn payload(
+    bytes: &[u8],
+    (records_room, trim_room): (usize, usize),
+    scratch: &mut Scratch,
+) -> Result<Tables, Refusal> {
     if bytes.len() > MAX_PAYLOAD {
         return Err(Refusal::new(refusal::TOO_LONG, bytes.len()));
     }
@@ -26,9 +38,13 @@ pub fn payload(bytes: &[u8], room: usize, records: &mut [Record]) -> Result<Tabl
     }
     let objects = bits.grown(5, 7)? + 1;
     let programme = program_assignment(&mut bits, objects)?;
-    let tables = elements(&mut bits, programme, records)?;
+    let tables = elements(&mut bits, programme, scratch)?;
     let needed = needed(&tables.programme, &tables.timing);
-    if room < needed {
+    if records_room < needed {
+        return Err(Refusal::new(refusal::ROOM, needed));
+    }
+    let needed = trim_needed(&tables.programme);
+    if trim_room < needed {
         return Err(Refusal::new(refusal::ROOM, needed));
     }
     Ok(tables)
@@ -37,8 +53,10 @@ pub fn payload(bytes: &[u8], room: usize, records: &mut [Record]) -> Result<Tabl
 fn elements(
     bits: &mut Bits,
     programme: Programme,
-    records: &mut [Record],
+    scratch: &mut Scratch,
 ) -> Result<Tables, Refusal> {
+    let Scratch { records, trim } = scratch;
+    let trim = &mut trim[..trim_needed(&programme)];
     let mut tables = Tables {
         programme,
         timing: Timing::default(),
@@ -53,6 +71,7 @@ fn elements(
         match kind {
             Kind::Object if blocks != 0 => return Err(Refusal::new(refusal::TWICE, place)),
             Kind::Extended if extended => return Err(Refusal::new(refusal::TWICE, place)),
+            Kind::Trim if trim[PRESENT] != 0 => return Err(Refusal::new(refusal::TWICE, place)),
             Kind::Extended if blocks == 0 => return Err(Refusal::new(refusal::ORDER, place)),
             Kind::Object => tables.timing = object_element(&mut body, &programme, records)?,
             Kind::Extended => {
@@ -60,6 +79,7 @@ fn elements(
                 let count = usize::from(programme.objects) * blocks;
                 extended_object_element(&mut body, &mut records[..count])?;
             }
+            Kind::Trim => trim_element(&mut body, trim)?,
             Kind::Unknown => tables.unknown += 1,
         }
     }
@@ -69,6 +89,7 @@ fn elements(
 /// The kind of an element (point 16).
 enum Kind {
     Object,
+    Trim,
     Extended,
     Unknown,
 }
@@ -87,6 +108,7 @@ fn element<'a>(bits: &mut Bits<'a>, alternate: bool) -> Result<(Kind, Bits<'a>),
     body.flag()?;
     let kind = match (id, alternate_id) {
         (1, 0) => Kind::Object,
+        (2, 0) => Kind::Trim,
         (5, 0) => Kind::Extended,
         _ => Kind::Unknown,
     };

@@ -1,6 +1,7 @@
 //! Which tables are valid (document 01, "The written form"; points 24, 25).
 
 use super::record::*;
+use super::trim::*;
 use super::{Bed, Programme, Timing};
 
 /// A programme that some accepted payload gives, the reserved content flag
@@ -113,4 +114,48 @@ fn divergence(r: &Record) -> bool {
 fn precise(r: &Record) -> bool {
     let code = |bit: u8, code: u8| code <= if r[PRESENCE] & bit != 0 { 3 } else { 0 };
     r[PRESENCE] < 8 && code(1, r[PRECISE_X]) && code(2, r[PRECISE_Y]) && code(4, r[PRECISE_Z])
+}
+
+/// A trim table that some accepted payload gives with as many objects as it has
+/// flags (document 02, item 1).
+pub fn trim(table: &[u8]) -> bool {
+    let (configs, rest) = table[FIRST_CONFIG..].split_at(CONFIGS * CONFIG_BYTES);
+    let configs = configs.as_chunks::<CONFIG_BYTES>().0;
+    let flags = &rest[1..];
+    match table[PRESENT] {
+        0 => table.iter().fold(0, |all, byte| all | byte) == 0,
+        1 => {
+            table[WARP] < WARP_RESERVED
+                && table[GLOBAL] < GLOBAL_RESERVED
+                && match table[GLOBAL] {
+                    GLOBAL_CUSTOM => configs.iter().all(trim_config),
+                    _ => *configs == [Config::default(); CONFIGS],
+                }
+                && rest[0] <= 1
+                && flags.iter().all(|flag| *flag <= rest[0])
+        }
+        _ => false,
+    }
+}
+
+/// One configuration of custom_trim: what is not carried is 0.
+fn trim_config(config: &Config) -> bool {
+    match config[..=DISABLE] {
+        [1, 0] | [0, 1] => config[BALANCE..] == Config::default()[BALANCE..],
+        [0, 0] => {
+            let within = |bit: u8, least: u8, most: u8, value: u8| match config[BALANCE] & bit {
+                0 => value == 0,
+                _ => (least..=most).contains(&value),
+            };
+            config[BALANCE] < 32
+                && within(HAS_CENTRE, 0, 15, config[CENTRE])
+                && within(HAS_SURROUND, LEAST_TRIM, 15, config[SURROUND])
+                && within(HAS_HEIGHT, LEAST_TRIM, 15, config[TRIM_HEIGHT])
+                && within(HAS_TB, 0, 1, config[SIGN_TB])
+                && within(HAS_TB, 0, 15, config[AMOUNT_TB])
+                && within(HAS_LIS, 0, 1, config[SIGN_LIS])
+                && within(HAS_LIS, 0, 15, config[AMOUNT_LIS])
+        }
+        _ => false,
+    }
 }

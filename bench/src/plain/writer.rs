@@ -5,10 +5,12 @@ use super::extended::extends;
 use super::put;
 use super::record::*;
 use super::sink::{Count, Pen, Sink};
-use super::{needed, refusal, valid, Programme, Timing, MAX_PAYLOAD, RECORD_BYTES};
+use super::trim::PRESENT;
+use super::{needed, refusal, trim_needed, valid, Programme, Timing, MAX_PAYLOAD, RECORD_BYTES};
 
 /// Values of oa_element_id_idx (Table 26).
 const OBJECT_ID: u32 = 1;
+const TRIM_ID: u32 = 2;
 const EXTENDED_ID: u32 = 5;
 
 /// Writes the tables into `out` and answers the length in bytes.
@@ -16,9 +18,10 @@ pub fn payload(
     programme: &Programme,
     timing: &Timing,
     records: &[u8],
+    trim: &[u8],
     out: &mut [u8],
 ) -> Result<usize, Refusal> {
-    let form = Form::new(programme, timing, records)?;
+    let form = Form::new(programme, timing, records, trim)?;
     let length = form.bits().div_ceil(8);
     if length > out.len().min(MAX_PAYLOAD) {
         return Err(Refusal::new(refusal::FORM, length));
@@ -34,6 +37,7 @@ struct Form<'a> {
     programme: &'a Programme,
     timing: &'a Timing,
     records: &'a [Record],
+    trim: &'a [u8],
     /// b_obj_div_block: some record carries divergence.
     divergence: bool,
     /// b_ext_prec_pos_block: some record carries a precise position.
@@ -42,6 +46,8 @@ struct Form<'a> {
     object_bits: usize,
     /// Bits of the extended element from its discard flag on, 0 without one.
     extended_bits: usize,
+    /// Bits of the trim element from its discard flag on, 0 without one.
+    trim_bits: usize,
 }
 
 impl<'a> Form<'a> {
@@ -50,6 +56,7 @@ impl<'a> Form<'a> {
         programme: &'a Programme,
         timing: &'a Timing,
         records: &'a [u8],
+        trim: &'a [u8],
     ) -> Result<Self, Refusal> {
         let bad = |place| Refusal::new(refusal::TABLES, place);
         let needed = needed(programme, timing);
@@ -63,14 +70,20 @@ impl<'a> Form<'a> {
         if let Some(index) = all.position(|(index, r)| !valid::record(r, class(index))) {
             return Err(bad(1 + index));
         }
+        let trim = match trim.get(..trim_needed(programme)) {
+            Some(trim) if valid::trim(trim) => trim,
+            _ => return Err(bad(1 + records.len())),
+        };
         let mut form = Self {
             programme,
             timing,
             records,
+            trim,
             divergence: records.iter().any(|r| r[DIVERGENCE] != 0),
             precise: records.iter().any(|r| r[PRESENCE] != 0),
             object_bits: 0,
             extended_bits: 0,
+            trim_bits: 0,
         };
         form.measure();
         Ok(form)
@@ -86,6 +99,11 @@ impl<'a> Form<'a> {
             let mut count = Count::default();
             self.extended_object_element(&mut count);
             self.extended_bits = count.0;
+        }
+        if self.trim[PRESENT] != 0 {
+            let mut count = Count::default();
+            self.trim_element(&mut count);
+            self.trim_bits = count.0;
         }
     }
 
@@ -107,7 +125,8 @@ impl<'a> Form<'a> {
             element_head(sink, id, bits);
             match id {
                 OBJECT_ID => self.object_element(sink),
-                _ => self.extended_object_element(sink),
+                EXTENDED_ID => self.extended_object_element(sink),
+                _ => self.trim_element(sink),
             }
             element_padding(sink, bits);
         }
@@ -115,11 +134,12 @@ impl<'a> Form<'a> {
 
     /// Id and bits of each element there is.
     fn elements(&self) -> impl Iterator<Item = (u32, usize)> {
-        let both = [
+        let all = [
             (OBJECT_ID, self.object_bits),
             (EXTENDED_ID, self.extended_bits),
+            (TRIM_ID, self.trim_bits),
         ];
-        both.into_iter().filter(|(_, bits)| *bits > 0)
+        all.into_iter().filter(|(_, bits)| *bits > 0)
     }
 
     /// All that stands before the first element.
@@ -160,6 +180,12 @@ impl<'a> Form<'a> {
                 put::ext_prec_pos_block(sink, record);
             }
         }
+    }
+
+    /// The discard flag and trim_element (5.5.12).
+    fn trim_element<S: Sink>(&self, sink: &mut S) {
+        sink.flag(false);
+        put::trim_element(sink, self.trim);
     }
 }
 

@@ -35,9 +35,10 @@ impl Server {
     }
 }
 
-/// Sends a request; takes the fields of its answer, `bytes` long, and the buffer.
-fn ask(request: &[u8], bytes: usize, buffer: &mut [u8]) -> Answer {
-    let mut all = vec![0; bytes + buffer.len()];
+/// Sends a request; takes the fields of its answer, `bytes` long, and the lent buffers.
+fn ask(request: &[u8], bytes: usize, buffers: &mut [&mut [u8]]) -> Answer {
+    let lent: usize = buffers.iter().map(|buffer| buffer.len()).sum();
+    let mut all = vec![0; bytes + lent];
     SERVER
         .with_borrow_mut(|server| {
             let asked = server.requests.write_all(request);
@@ -47,18 +48,29 @@ fn ask(request: &[u8], bytes: usize, buffer: &mut [u8]) -> Answer {
             eprintln!("the server does not answer: {error}");
             std::process::exit(1)
         });
-    buffer.copy_from_slice(&all[bytes..]);
+    let mut from = bytes;
+    for buffer in buffers {
+        buffer.copy_from_slice(&all[from..from + buffer.len()]);
+        from += buffer.len();
+    }
     Answer { bytes: all, at: 0 }
 }
 
-/// Adds both slices of a call to its request, and how the buffer lies in memory.
-fn add_slices(request: &mut Vec<u8>, given: &[u8], buffer: &[u8]) {
-    let skew = buffer.as_ptr() as usize % 16;
-    for number in [given.len(), buffer.len(), skew] {
-        let number = u32::try_from(number).expect("a length below 2^32");
-        request.extend(number.to_le_bytes());
-    }
+fn add_number(request: &mut Vec<u8>, number: usize) {
+    let number = u32::try_from(number).expect("a length below 2^32");
+    request.extend(number.to_le_bytes());
+}
+
+/// Adds what a call looks at to its request.
+fn add_given(request: &mut Vec<u8>, given: &[u8]) {
+    add_number(request, given.len());
     request.extend(given);
+}
+
+/// Adds a lent buffer, and how it lies in memory.
+fn add_lent(request: &mut Vec<u8>, buffer: &[u8]) {
+    add_number(request, buffer.len());
+    add_number(request, buffer.as_ptr() as usize % 16);
     request.extend(buffer);
 }
 
@@ -128,10 +140,12 @@ pub fn version() -> u32 {
 }
 
 /// Reads one payload with the proved library.
-pub fn read(payload: &[u8], records: &mut [u8]) -> ReadAnswer {
+pub fn read(payload: &[u8], records: &mut [u8], trim: &mut [u8]) -> ReadAnswer {
     let mut request = b"r".to_vec();
-    add_slices(&mut request, payload, records);
-    let mut answer = ask(&request, READ_ANSWER_BYTES, records);
+    add_given(&mut request, payload);
+    add_lent(&mut request, records);
+    add_lent(&mut request, trim);
+    let mut answer = ask(&request, READ_ANSWER_BYTES, &mut [records, trim]);
     ReadAnswer {
         place: answer.u64(),
         refusal: answer.u8(),
@@ -142,7 +156,13 @@ pub fn read(payload: &[u8], records: &mut [u8]) -> ReadAnswer {
 }
 
 /// Writes tables with the proved library.
-pub fn write(p: Programme, t: Timing, records: &[u8], payload: &mut [u8]) -> WriteAnswer {
+pub fn write(
+    p: Programme,
+    t: Timing,
+    records: &[u8],
+    trim: &[u8],
+    payload: &mut [u8],
+) -> WriteAnswer {
     let mut request = b"w".to_vec();
     request.extend([p.objects, p.dynonly, p.lfe, p.content, p.distribute]);
     request.extend([p.multiple, p.instances, p.bedcount, p.isf, p.dynamics]);
@@ -155,8 +175,10 @@ pub fn write(p: Programme, t: Timing, records: &[u8], payload: &mut [u8]) -> Wri
         request.extend(update.start.to_le_bytes());
         request.extend(update.ramp.to_le_bytes());
     }
-    add_slices(&mut request, records, payload);
-    let mut answer = ask(&request, WRITE_ANSWER_BYTES, payload);
+    add_given(&mut request, records);
+    add_given(&mut request, trim);
+    add_lent(&mut request, payload);
+    let mut answer = ask(&request, WRITE_ANSWER_BYTES, &mut [payload]);
     WriteAnswer {
         place: answer.u64(),
         length: answer.u32(),

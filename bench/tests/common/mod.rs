@@ -30,10 +30,16 @@ pub fn element(id: u32, content: &str) -> String {
     format!("{id:04b} {size} {bits} ")
 }
 
-/// Reads with room for every payload.
+/// Reads with room for every payload: the answer, the records and trim.
+pub fn read_both(payload: &[u8]) -> (Answer, Vec<u8>, Vec<u8>) {
+    let (mut records, mut trim) = (vec![0xEE; 30_720], vec![0xEE; 253]);
+    let answer = read(payload, &mut records, &mut trim);
+    (answer, records, trim)
+}
+
+/// The same without trim.
 pub fn read_all(payload: &[u8]) -> (Answer, Vec<u8>) {
-    let mut records = vec![0xEE; 30_720];
-    let answer = read(payload, &mut records);
+    let (answer, records, _) = read_both(payload);
     (answer, records)
 }
 

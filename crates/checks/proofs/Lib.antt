@@ -1,2 +1,3 @@
 pub mod Entries
 pub mod Search
+pub mod Sent

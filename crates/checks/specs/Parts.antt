@@ -1,15 +1,15 @@
--- The tails of two long tests of writer, under names, so that code can make them by parts.
+-- The tails of long tests of written, under names, so that code can make them by parts.
 use mathlib.Core.Path.{_≡_, refl}
 use mathlib.Core.Bool.{Bool, true, not}
-use Prim.Native.Nat.{ℕ}
 use lib.Dec.{eqb}
 use lib.ListN.{length}
 use Rattle.oamd.specs.declared.Programme.{Programme}
 use Rattle.oamd.specs.declared.Scene.{Scene}
+use Rattle.oamd.specs.declared.TrimConfig.{TrimConfig}
 use Rattle.oamd.specs.Tables.{mostObjects, mostBeds}
 use Rattle.oamd.specs.Programme.{set?, clear?, hasBeds, hasIsf, hasDynamic, hasReserved, bedInstances, agrees}
-use Rattle.oamd.specs.Record.{carries}
-use Rattle.written.specs.Valid.{_and_, ranged, entriesValid, bedValid, programmeValid, placeValid, volumeValid, zoneValid, screenValid, sceneValid}
+use Rattle.oamd.specs.Trim.{hasCentre, hasSurround, hasHeight, hasTb, hasLis}
+use Rattle.written.specs.Valid.{_and_, ranged, entriesValid, bedValid, programmeValid, placeValid, volumeValid, zoneValid, screenValid}
 
 -- what stands behind the beds, and that all together name the object count
 unfoldable pub othersValid : Programme → Bool
@@ -45,3 +45,19 @@ renderedValid sent s =
     and zoneValid sent (s .zone)
     and screenValid sent (s .screen)
     and ranged sent 0 1 0 (s .snap)
+
+-- of a trim configuration: the two balances
+unfoldable pub balancesValid : TrimConfig → Bool
+balancesValid c =
+    ranged (hasTb (c .presence)) 0 1 0 (c .tbsign)
+    and ranged (hasTb (c .presence)) 0 15 0 (c .tbamount)
+    and ranged (hasLis (c .presence)) 0 1 0 (c .lissign)
+    and ranged (hasLis (c .presence)) 0 15 0 (c .lisamount)
+
+-- the three trims, and the balances
+unfoldable pub trimsValid : TrimConfig → Bool
+trimsValid c =
+    ranged (hasCentre (c .presence)) 0 15 0 (c .centre)
+    and ranged (hasSurround (c .presence)) 4 15 0 (c .surround)
+    and ranged (hasHeight (c .presence)) 4 15 0 (c .height)
+    and balancesValid c

@@ -15,15 +15,15 @@ use oamd::Screen;
 use oamd::Volume;
 use oamd::Zone;
 
-// Whether a whole record begins at a byte.
-fn whole(records: &[u8], at: usize) -> bool
-    ensures yes { λ r. ⌜ (r ≡ true → at + recordStride ≤ length (now (records .entry))) ⌝ }
-    ensures no { λ r. ⌜ (r ≡ false → length (now (records .entry)) < at + recordStride) ⌝ }
+// Whether there are n bytes from `at` on.
+pub fn whole(bytes: &[u8], at: usize, n: usize) -> bool
+    ensures yes { λ r. ⌜ (r ≡ true → at + n ≤ length (now (bytes .entry))) ⌝ }
+    ensures no { λ r. ⌜ (r ≡ false → length (now (bytes .entry)) < at + n) ⌝ }
 {
-    if records.len() < at {
+    if bytes.len() < at {
         return false;
     }
-    if records.len() - at < 24 {
+    if bytes.len() - at < n {
         return false;
     }
     true
@@ -121,7 +121,7 @@ pub fn scene_at(records: &[u8], at: usize) -> Scene
     ensures there { λ r. ⌜ (at + recordStride ≤ length (now (records .entry)) → r ≡ sceneAt (now (records .entry)) at) ⌝ }
     ensures absent { λ r. ⌜ (length (now (records .entry)) < at + recordStride → r ≡ idle 0) ⌝ }
 {
-    if whole(records, at) {
+    if whole(records, at, 24) {
         return scene_of(records, at);
     }
     meaning::idle(0)
@@ -131,7 +131,7 @@ pub fn divergence_at(records: &[u8], at: usize) -> Divergence
     ensures there { λ r. ⌜ (at + recordStride ≤ length (now (records .entry)) → r ≡ divergenceAt (now (records .entry)) at) ⌝ }
     ensures absent { λ r. ⌜ (length (now (records .entry)) < at + recordStride → r ≡ noDivergence) ⌝ }
 {
-    if whole(records, at) {
+    if whole(records, at, 24) {
         return divergence_of(records, at);
     }
     Divergence {
@@ -145,7 +145,7 @@ pub fn precise_at(records: &[u8], at: usize) -> Precise
     ensures there { λ r. ⌜ (at + recordStride ≤ length (now (records .entry)) → r ≡ preciseAt (now (records .entry)) at) ⌝ }
     ensures absent { λ r. ⌜ (length (now (records .entry)) < at + recordStride → r ≡ noPrecise) ⌝ }
 {
-    if whole(records, at) {
+    if whole(records, at, 24) {
         return precise_of(records, at);
     }
     Precise {

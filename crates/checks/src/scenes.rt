@@ -14,7 +14,7 @@ use oamd::Zone;
 use oamd::both;
 
 // An active block of a dynamic object carries all that a record can hold.
-fn carries(s: Scene) -> bool
+pub fn carries(s: Scene) -> bool
     ensures { λ r. ⌜ r ≡ carries s ⌝ }
 {
     both(s.active == 1, s.class == 2)

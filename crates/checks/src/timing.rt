@@ -45,7 +45,7 @@ fn updates_valid(offset: u16, updates: [Update; 8], blocks: u8) -> bool
 }
 
 // What the first start leaves by 32.
-fn sample_offset(updates: [Update; 8]) -> u16
+pub fn sample_offset(updates: [Update; 8]) -> u16
     ensures { λ r. ⌜ r ≡ firstStart updates % 32 ⌝ }
 {
     let first = updates[0];

@@ -19,6 +19,8 @@ pub const BLOCK: [u8; 6] = *b"block=";
 
 pub const RECORD: [u8; 7] = *b"record=";
 
+pub const TRIM: [u8; 5] = *b"trim=";
+
 pub const VECTOR: [u8; 7] = *b"vector=";
 
 pub const WRITTEN: [u8; 8] = *b"written=";

@@ -156,8 +156,16 @@ pub fn answer(a: ReadAnswer, records: &[u8]) {
 // Reads a payload and prints what it answers.
 pub fn list(payload: &[u8]) {
     let mut records = [0u8; 30720];
-    let a = reader::read(payload, &mut records);
+    let mut trim = [0u8; 253];
+    let a = reader::read(payload, &mut records, &mut trim);
     answer(a, &records);
+}
+
+// A trim table, as hex digits.
+pub fn trim(table: &[u8]) {
+    io::write_all(OUT, &keys::TRIM);
+    print_hex(table);
+    io::write_all(OUT, b"\n");
 }
 
 // A written payload, as hex digits.

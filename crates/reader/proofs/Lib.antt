@@ -6,5 +6,6 @@ pub mod Pass
 pub mod Accepted
 pub mod Extending
 pub mod Gates
+pub mod TrimLoop
 pub mod ElementLoop
 pub mod Whole

@@ -1,4 +1,4 @@
--- The payload, and the four ways out of `read`. Assumes nothing.
+-- The payload, and the five ways out of `read`. Assumes nothing.
 use mathlib.Core.Path.{_≡_, refl, sym, ap, _∙_, subst₂}
 use mathlib.Core.Bool.{not}
 use mathlib.Core.List.{List, _++_}
@@ -6,7 +6,7 @@ use Prim.Native.Nat.{ℕ, _+_, _*_, _≤_, _<_}
 use native.Mathlib.Omega.{arith}
 use native.Mathlib.Nat.{mul-le-mul-right}
 use lib.ListN.{length, take, drop, length-append}
-use lib.Seq.{take-length, take-append-seam}
+use lib.Seq.{take-length, take-at}
 use borrow.Author.Tests.{le-leb, lt-leb, ne-eqb}
 use Rattle.bits.specs.declared.Cur.{Cur}
 use Rattle.bits.specs.declared.Limit.{Limit}
@@ -20,6 +20,7 @@ use Rattle.oamd.specs.declared.Shares.{Shares}
 use Rattle.oamd.specs.Tables.{mostBytes, mostObjects, recordStride, roomBytes}
 use Rattle.oamd.specs.Programme.{program-assignment, agrees, shares}
 use Rattle.oamd.specs.Record.{Record, bytesOf, onto}
+use Rattle.oamd.specs.Trim.{trimOf, trimBytesOf, trimNeeded}
 use Rattle.oamd.specs.Element.{scenes}
 use Rattle.oamd.specs.Payload.{oa-md-version, object-count, oa-element-count, header, object-audio-metadata-payload, timing, records, tables}
 use Rattle.oamd.specs.Answer.{refused, acceptedWith, housed, reading}
@@ -39,10 +40,10 @@ header-read {p = p} r₁ r₂ r₃ r₄ r₅ few small =
     record { reads = bind r₁ (bind r₂ (bind r₃ (bind (regiven (not (agrees p)) (numberOf Counts) 0 r₄) (bind r₅ plain)))); few = few; bit = small }
 
 -- the whole payload
-pub payload-read : {s out out' : List ℕ} {h : HeaderStep} {c₀ c : Cur} {l : Limit} {sh : Shares} {n : ℕ} {r : StateStep} → l ≡ wholeOf s → c₀ ≡ startCur → sh ≡ shares (h .programme)
+pub payload-read : {s out out' table' : List ℕ} {h : HeaderStep} {c₀ c : Cur} {l : Limit} {sh : Shares} {n : ℕ} {r : StateStep} → l ≡ wholeOf s → c₀ ≡ startCur → sh ≡ shares (h .programme)
     → HeaderRead (bit s) c₀ l h → Reads oa-element-count (bit s) (h .cur) l n c
-    → ElementsRead n (record { objects = h .programme .objects; shares = sh; alternate = h .alternate }) (bit s) c l out r out'
-    → length out ≡ roomBytes → PayloadRead s out (record { programme = h .programme; state = r .state; cur = r .cur }) out'
+    → ElementsRead n (record { objects = h .programme .objects; shares = sh; alternate = h .alternate }) (bit s) c l out r out' table'
+    → length out ≡ roomBytes → PayloadRead s out (record { programme = h .programme; state = r .state; cur = r .cur }) out' table'
 unfolding object-audio-metadata-payload
 payload-read {s} {h = h} {c₀} {l = l} {r = r} el ec es x q e m =
     let u = e .went (h .programme) (refl, sym es) m in
@@ -52,6 +53,7 @@ payload-read {s} {h = h} {c₀} {l = l} {r = r} el ec es x q e m =
       reads = subst₂ (λ (k : Limit) (d : Cur). Reads object-audio-metadata-payload (bit s) d k (record { programme = h .programme; known = u .known; unknown = r .state .unknown }) (r .cur)) el ec reads;
       holding = u .holding;
       size = e .size;
+      width = e .width;
       few = x .few;
       little = e .few;
     }
@@ -60,44 +62,61 @@ payload-read {s} {h = h} {c₀} {l = l} {r = r} el ec es x q e m =
 pub small : (a b : ℕ) → a ≤ 159 → b ≤ 8 → a * b ≤ 1272
 small a b h k = let m : a * b ≤ 159 * b = mul-le-mul-right b h in omega arith
 
-module _ (s buffer : List ℕ) where
-  pub too-long : mostBytes < length s → refused buffer (numberOf TooLong) (length s) ≡ reading s buffer
+-- the front of bytes, copied over others
+copied : (front t out other last : List ℕ) (n : ℕ) → length front ≡ n → out ≡ onto front t
+    → (let bytes = take n out in last ≡ take (length bytes) bytes ++ drop (length bytes) other) → last ≡ onto front other
+unfolding onto
+copied front t out other last n e h k = rw (ap (take n) h ∙ take-at front _ n e, take-length front) at k
+
+-- the bytes that the records of a payload take
+abbrev needOf : PayloadStep → ℕ
+needOf r = recordStride * (r .programme .objects * r .state .timing .blocks)
+
+module _ {s out out' table' : List ℕ} {r : PayloadStep} (x : PayloadRead s out r out' table') where
+  -- the trim table stands in its room
+  pub trim-fits : trimNeeded (r .programme .objects) ≤ length table'
+  trim-fits = omega (arith, x .width, x .few)
+
+  module _ (z : r .cur .no ≡ 0) where
+    abbrev rs : List Record
+    rs = records (scenes (x .known .object)) (x .known .extended)
+
+    all-bytes : length (bytesOf rs) ≡ needOf r
+    all-bytes = length-bytes (records (scenes (x .known .object)) (x .known .extended)) ∙ omega (arith, x .holding z .full, x .holding z .many)
+
+    -- the records stand in theirs
+    pub fits : needOf r ≤ length out'
+    unfolding onto
+    fits = omega (arith, all-bytes, ap length (x .holding z .stand) ∙ length-append (bytesOf rs) _)
+
+module _ (s buffer trim : List ℕ) where
+  pub too-long : mostBytes < length s → refused buffer trim (numberOf TooLong) (length s) ≡ reading s buffer trim
   unfolding reading
   too-long h = simp (lt-leb _ _ h)
 
-  module _ {out out' : List ℕ} {r : PayloadStep} (h : length s ≤ mostBytes) (x : PayloadRead s out r out') where
-    pub stopped : (r .cur .no ≡ 0 → ⊥) → refused buffer (r .cur .no) (r .cur .at .0) ≡ reading s buffer
+  module _ {out out' table' : List ℕ} {r : PayloadStep} (h : length s ≤ mostBytes) (x : PayloadRead s out r out' table') where
+    pub stopped : (r .cur .no ≡ 0 → ⊥) → refused buffer trim (r .cur .no) (r .cur .at .0) ≡ reading s buffer trim
     unfolding reading
     stopped z = rw (le-leb (length s) mostBytes h, ← x .reads .same, ne-eqb (r .cur .no) 0 z)
 
     module _ (z : r .cur .no ≡ 0) where
-      abbrev pub need : ℕ
-      need = recordStride * (r .programme .objects * r .state .timing .blocks)
-
-      abbrev rs : List Record
-      rs = records (scenes (x .known .object)) (x .known .extended)
-
-      all-bytes : length (bytesOf rs) ≡ need
-      all-bytes = length-bytes (records (scenes (x .known .object)) (x .known .extended)) ∙ omega (arith, x .holding z .full, x .holding z .many)
-
-      -- the records stand in the room
-      pub fits : recordStride * (r .programme .objects * r .state .timing .blocks) ≤ length out'
-      unfolding onto
-      fits = omega (arith, all-bytes, ap length (x .holding z .stand) ∙ length-append (bytesOf rs) _)
-
-      -- the bytes that are copied
-      front : take need out' ≡ bytesOf rs
-      unfolding onto
-      front = rw (← all-bytes, x .holding z .stand) (take-append-seam (bytesOf rs) _)
-
-      pub no-room : length buffer < recordStride * (r .programme .objects * r .state .timing .blocks)
-          → refused buffer (numberOf Room) (recordStride * (r .programme .objects * r .state .timing .blocks)) ≡ reading s buffer
+      pub no-room : length buffer < needOf r → refused buffer trim (numberOf Room) (needOf r) ≡ reading s buffer trim
       unfolding reading housed tables
       no-room f = rw (le-leb (length s) mostBytes h, ← x .reads .same, z, ← x .holding z .timed, lt-leb _ _ f)
 
-      pub stored : {last : List ℕ} → recordStride * (r .programme .objects * r .state .timing .blocks) ≤ length buffer
-          → last ≡ take (length (take need out')) (take need out') ++ drop (length (take need out')) buffer
-          → record { answer = acceptedWith (r .programme) (r .state .timing) (r .state .unknown); buffer = last } ≡ reading s buffer
-      unfolding reading housed tables onto
-      stored f e =
-          rw (le-leb (length s) mostBytes h, ← x .reads .same, z, ← x .holding z .timed, le-leb _ _ f, e, front, take-length (bytesOf rs))
+      module _ (f : needOf r ≤ length buffer) where
+        pub no-trim-room : length trim < trimNeeded (r .programme .objects)
+            → refused buffer trim (numberOf Room) (trimNeeded (r .programme .objects)) ≡ reading s buffer trim
+        unfolding reading housed tables
+        no-trim-room g = rw (le-leb (length s) mostBytes h, ← x .reads .same, z, ← x .holding z .timed, le-leb _ _ f, lt-leb _ _ g)
+
+        pub stored : {first last : List ℕ} → trimNeeded (r .programme .objects) ≤ length trim
+            → (let bytes = take (needOf r) out' in first ≡ take (length bytes) bytes ++ drop (length bytes) buffer)
+            → (let bytes = take (trimNeeded (r .programme .objects)) table' in last ≡ take (length bytes) bytes ++ drop (length bytes) trim)
+            → record { answer = acceptedWith (r .programme) (r .state .timing) (r .state .unknown); buffer = first; trim = last } ≡ reading s buffer trim
+        unfolding reading housed tables
+        stored {first} {last} g e k =
+            let y = x .holding z in
+            let records-copied = copied (bytesOf (records (scenes (x .known .object)) (x .known .extended))) _ out' buffer first _ (all-bytes x z) (y .stand) e in
+            let trim-copied = copied (trimBytesOf (trimOf (r .programme .objects) (x .known .trim))) _ table' trim last _ (y .trim .long) (y .trim .stand) k in
+            rw (le-leb (length s) mostBytes h, ← x .reads .same, z, ← y .timed, le-leb _ _ f, le-leb _ _ g, records-copied, trim-copied)

@@ -1,13 +1,13 @@
 -- What each private function of the reader promises.
 use mathlib.Core.Path.{_≡_}
 use mathlib.Core.Bool.{Bool, false}
-use mathlib.Core.List.{List, [], _∷_}
-use mathlib.Core.Option.{none, some}
+use mathlib.Core.List.{List, [], _∷_, _++_}
+use mathlib.Core.Option.{Option, none, some}
 use Prim.Native.Nat.{ℕ, _+_, _*_, _≤_, _<_}
 use lib.ListN.{length, replicate}
 use Rattle.bits.specs.declared.Cur.{Cur}
 use Rattle.bits.specs.declared.Limit.{Limit}
-use Rattle.bits.specs.Language.{P, Bits, when, each, for, bit}
+use Rattle.bits.specs.Language.{P, Bits, bits, when, each, for, bit}
 use Rattle.bits.specs.View.{Reads}
 use Rattle.oamd.specs.declared.Block.{Block}
 use Rattle.oamd.specs.declared.Divergence.{Divergence}
@@ -16,11 +16,12 @@ use Rattle.oamd.specs.declared.Precise.{Precise}
 use Rattle.oamd.specs.declared.Programme.{Programme}
 use Rattle.oamd.specs.declared.Scene.{Scene}
 use Rattle.oamd.specs.declared.Shares.{Shares}
-use Rattle.oamd.specs.Tables.{recordStride, roomBytes, mostBlocks, mostObjects}
+use Rattle.oamd.specs.Tables.{recordStride, roomBytes, mostBlocks, mostObjects, trimConfigs, configBytes, trimFixed, mostTrim}
 use Rattle.oamd.specs.Programme.{shares, classOf}
 use Rattle.oamd.specs.Timing.{MdUpdateInfo, md-update-info, timingOf}
 use Rattle.oamd.specs.ObjectElement.{ObjectElement, object-data, object-element}
 use Rattle.oamd.specs.Extended.{Extension, extended-object-element}
+use Rattle.oamd.specs.Trim.{Trim, trim-config, noConfig, trim-element, trimOf, configsBytesOf, trimBytesOf, trimNeeded}
 use Rattle.oamd.specs.Meaning.{allScenes, idle}
 use Rattle.oamd.specs.Record.{Record, recordOf, carries, allCarry, plainRecords, extendedRecords, bytesOf, onto}
 use Rattle.oamd.specs.Element.{Known, nothing, there, scenes, oa-element, oa-element-md, elements}
@@ -31,6 +32,7 @@ use Rattle.reader.specs.declared.State.{State}
 use Rattle.reader.specs.declared.StateStep.{StateStep}
 use Rattle.reader.specs.declared.HeaderStep.{HeaderStep}
 use Rattle.reader.specs.declared.PayloadStep.{PayloadStep}
+use Rattle.reader.specs.Layout.{noTrimBytes}
 use Rattle.reader.specs.Running.{withBlocks}
 
 -- ---- the object element
@@ -121,10 +123,40 @@ pub record ExtendedRead (n : ℕ) (b : Bits) (c : Cur) (l : Limit) (out : List �
   pub size : length out' ≡ roomBytes
   pub went : (ss : List Scene) (t : List ℕ) → Standing ss t out → length ss ≡ n → Extending ss b c l t d out'
 
+-- ---- the trim element
+
+-- a list is read and its n bytes are laid out behind `from` bytes, whatever these are, where all was 0
+pub record PartRead {X : Type 0} (p : P (List X)) (bytes : List X → List ℕ) (n from : ℕ) (b : Bits) (c : Cur) (l : Limit) (out : List ℕ) (d : Cur) (out' : List ℕ) : Type 0 where
+  pub value : List X
+  pub reads : Reads p b c l value d
+  pub long : length (bytes value) ≡ n
+  pub size : length out' ≡ mostTrim
+  pub stand : (front : List ℕ) → length front ≡ from → out ≡ onto front noTrimBytes → out' ≡ onto (front ++ bytes value) noTrimBytes
+
+abbrev pub ConfigsRead : Bool → Bits → Cur → Limit → List ℕ → Cur → List ℕ → Type 0
+ConfigsRead on b c l out d out' =
+    PartRead (when on (for trimConfigs (λ cfg. trim-config)) (replicate trimConfigs noConfig)) configsBytesOf (configBytes * trimConfigs) 3 b c l out d out'
+
+abbrev pub FlagsRead : Bool → ℕ → Bits → Cur → Limit → List ℕ → Cur → List ℕ → Type 0
+FlagsRead on n b c l out d out' = PartRead (when on (for n (λ obj. bits 1)) (replicate n 0)) (λ flags. flags) n trimFixed b c l out d out'
+
+pub record TrimRead (objects : ℕ) (b : Bits) (c : Cur) (l : Limit) (out : List ℕ) (d : Cur) (out' : List ℕ) : Type 0 where
+  pub value : Trim
+  pub reads : Reads (trim-element objects) b c l value d
+  pub long : length (trimBytesOf value) ≡ trimNeeded objects
+  pub size : length out' ≡ mostTrim
+  pub stand : out ≡ noTrimBytes → out' ≡ onto (trimBytesOf value) noTrimBytes
+
 -- ---- the elements
 
+-- what a flag and the bytes hold of the trim element, read or not
+pub record TrimHeld (objects : ℕ) (element : Option Trim) (read : Bool) (table : List ℕ) : Type 0 where
+  pub told : read ≡ there element
+  pub long : length (trimBytesOf (trimOf objects element)) ≡ trimNeeded objects
+  pub stand : table ≡ onto (trimBytesOf (trimOf objects element)) noTrimBytes
+
 -- what the state and the bytes hold of the known elements that have been read
-pub record Holding (objects : ℕ) (known : Known) (t : List ℕ) (st : State) (out : List ℕ) : Type 0 where
+pub record Holding (objects : ℕ) (known : Known) (t : List ℕ) (st : State) (out table : List ℕ) : Type 0 where
   pub object : st .object ≡ there (known .object)
   pub extended : st .extended ≡ there (known .extended)
   pub ordered : known .object ≡ none → known .extended ≡ none
@@ -132,39 +164,49 @@ pub record Holding (objects : ℕ) (known : Known) (t : List ℕ) (st : State) (
   pub many : length (scenes (known .object)) ≡ objects * st .timing .blocks
   pub full : length (records (scenes (known .object)) (known .extended)) ≡ length (scenes (known .object))
   pub stand : out ≡ onto (bytesOf (records (scenes (known .object)) (known .extended))) t
+  pub trim : TrimHeld objects (known .trim) (st .trim) table
 
 -- a state of the definition: the known elements, and the count that the code's state holds
 abbrev pub stateOf : Known → ℕ → Rattle.oamd.specs.Element.State
 stateOf known unknown = record { known = known; unknown = unknown }
 
 -- what reading p from a state gives
-pub record Went-on (w : Scope) (p : P Rattle.oamd.specs.Element.State) (b : Bits) (c : Cur) (l : Limit) (t : List ℕ) (r : StateStep) (out' : List ℕ) : Type 0 where
+pub record Went-on (w : Scope) (p : P Rattle.oamd.specs.Element.State) (b : Bits) (c : Cur) (l : Limit) (t : List ℕ) (r : StateStep) (out' table' : List ℕ) : Type 0 where
   pub known : Known
   pub reads : Reads p b c l (stateOf known (r .state .unknown)) (r .cur)
-  pub holding : r .cur .no ≡ 0 → Holding (w .objects) known t (r .state) out'
+  pub holding : r .cur .no ≡ 0 → Holding (w .objects) known t (r .state) out' table'
 
 -- the programme by which the elements are read
 abbrev pub Scoped : Programme → Scope → Type 0
 Scoped p w = (p .objects ≡ w .objects) × (shares p ≡ w .shares)
 
 -- what a function promises that reads p from a state, whatever has been read so far
-pub record Goes-on (w : Scope) (st : State) (p : Programme → Rattle.oamd.specs.Element.State → P Rattle.oamd.specs.Element.State) (b : Bits) (c : Cur) (l : Limit) (out : List ℕ) (r : StateStep) (out' : List ℕ) : Type 0 where
+pub record Goes-on (w : Scope) (st : State) (p : Programme → Rattle.oamd.specs.Element.State → P Rattle.oamd.specs.Element.State) (b : Bits) (c : Cur) (l : Limit) (out table : List ℕ) (r : StateStep) (out' table' : List ℕ) : Type 0 where
   pub size : length out' ≡ roomBytes
+  pub width : length table' ≡ mostTrim
   pub few : r .state .timing .blocks ≤ mostBlocks
   pub next : r .state .unknown ≤ st .unknown + 1
-  pub went : (q : Programme) (known : Known) (t : List ℕ) → Scoped q w → length t ≡ roomBytes → (c .no ≡ 0 → Holding (w .objects) known t st out)
-      → Went-on w (p q (stateOf known (st .unknown))) b c l t r out'
+  pub went : (q : Programme) (known : Known) (t : List ℕ) → Scoped q w → length t ≡ roomBytes → (c .no ≡ 0 → Holding (w .objects) known t st out table)
+      → Went-on w (p q (stateOf known (st .unknown))) b c l t r out' table'
 
-abbrev pub BodyRead : Kind → ℕ → Scope → State → Bits → Cur → Limit → List ℕ → StateStep → List ℕ → Type 0
-BodyRead k back w st b c l out r out' = Goes-on w st (λ q s. oa-element q back s k) b c l out r out'
+abbrev pub BodyRead : Kind → ℕ → Scope → State → Bits → Cur → Limit → List ℕ → List ℕ → StateStep → List ℕ → List ℕ → Type 0
+BodyRead k back w st b c l out table r out' table' = Goes-on w st (λ q s. oa-element q back s k) b c l out table r out' table'
 
-abbrev pub OneRead : Scope → State → Bits → Cur → Limit → List ℕ → StateStep → List ℕ → Type 0
-OneRead w st b c l out r out' = Goes-on w st (λ q s. oa-element-md q (w .alternate) s) b c l out r out'
+-- the same of an element that gives nothing to the trim table, whatever stands there, and of one that gives nothing to the records
+abbrev pub RecordsBody : Kind → ℕ → Scope → State → Bits → Cur → Limit → List ℕ → StateStep → List ℕ → Type 0
+RecordsBody k back w st b c l out r out' = (table : List ℕ) → length table ≡ mostTrim → BodyRead k back w st b c l out table r out' table
 
-pub record ElementsRead (n : ℕ) (w : Scope) (b : Bits) (c : Cur) (l : Limit) (out : List ℕ) (r : StateStep) (out' : List ℕ) : Type 0 where
+abbrev pub TableBody : Kind → ℕ → Scope → State → Bits → Cur → Limit → List ℕ → StateStep → List ℕ → Type 0
+TableBody k back w st b c l table r table' = (out : List ℕ) → length out ≡ roomBytes → BodyRead k back w st b c l out table r out table'
+
+abbrev pub OneRead : Scope → State → Bits → Cur → Limit → List ℕ → List ℕ → StateStep → List ℕ → List ℕ → Type 0
+OneRead w st b c l out table r out' table' = Goes-on w st (λ q s. oa-element-md q (w .alternate) s) b c l out table r out' table'
+
+pub record ElementsRead (n : ℕ) (w : Scope) (b : Bits) (c : Cur) (l : Limit) (out : List ℕ) (r : StateStep) (out' table' : List ℕ) : Type 0 where
   pub size : length out' ≡ roomBytes
+  pub width : length table' ≡ mostTrim
   pub few : r .state .timing .blocks ≤ mostBlocks
-  pub went : (q : Programme) → Scoped q w → length out ≡ roomBytes → Went-on w (elements q (w .alternate) n (stateOf nothing 0)) b c l out r out'
+  pub went : (q : Programme) → Scoped q w → length out ≡ roomBytes → Went-on w (elements q (w .alternate) n (stateOf nothing 0)) b c l out r out' table'
 
 -- ---- the payload
 
@@ -179,11 +221,12 @@ pub record HeaderRead (b : Bits) (c : Cur) (l : Limit) (r : HeaderStep) : Type 0
   pub few : r .programme .objects ≤ mostObjects
   pub bit : r .alternate < 2
 
-pub record PayloadRead (s out : List ℕ) (r : PayloadStep) (out' : List ℕ) : Type 0 where
+pub record PayloadRead (s out : List ℕ) (r : PayloadStep) (out' table' : List ℕ) : Type 0 where
   pub known : Known
   pub reads : Reads object-audio-metadata-payload (bit s) startCur (wholeOf s)
       (record { programme = r .programme; known = known; unknown = r .state .unknown }) (r .cur)
-  pub holding : r .cur .no ≡ 0 → Holding (r .programme .objects) known out (r .state) out'
+  pub holding : r .cur .no ≡ 0 → Holding (r .programme .objects) known out (r .state) out' table'
   pub size : length out' ≡ roomBytes
+  pub width : length table' ≡ mostTrim
   pub few : r .programme .objects ≤ mostObjects
   pub little : r .state .timing .blocks ≤ mostBlocks

@@ -4,14 +4,17 @@ ghost use Prim.Native.Nat.{_+_, _≤_, _<_};
 ghost use lib.ListN.{length};
 ghost use Rattle.bits.specs.Language.{bit};
 ghost use Rattle.oamd.specs.Element.{headBits};
-ghost use Rattle.oamd.specs.Tables.{mostElements, mostObjects, mostBlocks, roomBytes};
-ghost use Rattle.reader.specs.Steps.{BodyRead, OneRead, ElementsRead};
+ghost use Rattle.oamd.specs.Tables.{mostElements, mostObjects, mostBlocks, roomBytes, mostTrim};
+ghost use Rattle.reader.specs.Layout.{noTrimBytes};
+ghost use Rattle.reader.specs.Steps.{BodyRead, RecordsBody, TableBody, OneRead, ElementsRead};
 use crate::ROOM;
 use crate::Scope;
 use crate::State;
 use crate::StateStep;
+use crate::TRIM;
 use crate::extended::read_extended;
 use crate::objects::read_object_element;
+use crate::trim::read_trim;
 use bits::Cur;
 use bits::Limit;
 use bits::Refusal;
@@ -29,7 +32,7 @@ fn read_first_object(
     out: &mut [u8; ROOM],
 ) -> StateStep
     requires { ⌜ (w .objects ≤ mostObjects) × (st .timing .blocks ≤ mostBlocks) × (length (now out) ≡ roomBytes) ⌝ }
-    ensures { λ r. ⌜ BodyRead Kind.Object back w st (bit (now (s .entry))) c l (now (out .entry)) r (now (out .exit)) ⌝ }
+    ensures { λ r. ⌜ RecordsBody Kind.Object back w st (bit (now (s .entry))) c l (now (out .entry)) r (now (out .exit)) ⌝ }
 {
     let first = bits::refuse_if(st.object, s, l, c, Refusal::Second, back);
     if first.no != 0 {
@@ -45,6 +48,41 @@ fn read_first_object(
         state: State {
             timing,
             object: true,
+            trim: st.trim,
+            extended: st.extended,
+            unknown: st.unknown,
+        },
+        cur,
+    }
+}
+
+// A trim element behind its discard flag.
+fn read_first_trim(
+    s: &[u8],
+    l: Limit,
+    c: Cur,
+    w: Scope,
+    st: State,
+    back: u32,
+    table: &mut [u8; TRIM],
+) -> StateStep
+    requires { ⌜ (w .objects ≤ mostObjects) × (st .timing .blocks ≤ mostBlocks) × (length (now table) ≡ mostTrim) ⌝ }
+    ensures { λ r. ⌜ TableBody Kind.Trim back w st (bit (now (s .entry))) c l (now (table .entry)) r (now (table .exit)) ⌝ }
+{
+    let first = bits::refuse_if(st.trim, s, l, c, Refusal::Second, back);
+    if first.no != 0 {
+        return StateStep {
+            state: st,
+            cur: first,
+        };
+    }
+    let timing = st.timing;
+    let cur = read_trim(s, l, first, w.objects, table);
+    StateStep {
+        state: State {
+            timing,
+            object: st.object,
+            trim: true,
             extended: st.extended,
             unknown: st.unknown,
         },
@@ -63,7 +101,7 @@ fn read_first_extended(
     out: &mut [u8; ROOM],
 ) -> StateStep
     requires { ⌜ (w .objects ≤ mostObjects) × (st .timing .blocks ≤ mostBlocks) × (length (now out) ≡ roomBytes) ⌝ }
-    ensures { λ r. ⌜ BodyRead Kind.Extended back w st (bit (now (s .entry))) c l (now (out .entry)) r (now (out .exit)) ⌝ }
+    ensures { λ r. ⌜ RecordsBody Kind.Extended back w st (bit (now (s .entry))) c l (now (out .entry)) r (now (out .exit)) ⌝ }
 {
     let first = bits::refuse_if(st.extended, s, l, c, Refusal::Second, back);
     let timely = bits::refuse_if(!st.object, s, l, first, Refusal::Early, back);
@@ -79,6 +117,7 @@ fn read_first_extended(
         state: State {
             timing,
             object: true,
+            trim: st.trim,
             extended: true,
             unknown: st.unknown,
         },
@@ -96,9 +135,10 @@ fn read_body(
     kind: Kind,
     back: u32,
     out: &mut [u8; ROOM],
+    table: &mut [u8; TRIM],
 ) -> StateStep
-    requires { ⌜ (w .objects ≤ mostObjects) × (st .timing .blocks ≤ mostBlocks) × (st .unknown < 255) × (length (now out) ≡ roomBytes) ⌝ }
-    ensures { λ r. ⌜ BodyRead kind back w st (bit (now (s .entry))) c l (now (out .entry)) r (now (out .exit)) ⌝ }
+    requires { ⌜ (w .objects ≤ mostObjects) × (st .timing .blocks ≤ mostBlocks) × (st .unknown < 255) × (length (now out) ≡ roomBytes) × (length (now table) ≡ mostTrim) ⌝ }
+    ensures { λ r. ⌜ BodyRead kind back w st (bit (now (s .entry))) c l (now (out .entry)) (now (table .entry)) r (now (out .exit)) (now (table .exit)) ⌝ }
 {
     let timing = st.timing;
     match kind {
@@ -106,12 +146,14 @@ fn read_body(
             state: State {
                 timing,
                 object: st.object,
+                trim: st.trim,
                 extended: st.extended,
                 unknown: st.unknown + 1,
             },
             cur: c,
         },
         Kind::Object => read_first_object(s, l, c, w, st, back, out),
+        Kind::Trim => read_first_trim(s, l, c, w, st, back, table),
         Kind::Extended => read_first_extended(s, l, c, w, st, back, out),
     }
 }
@@ -124,9 +166,17 @@ fn head_bits(alternate: u32) -> u32
 }
 
 // An element: id, size, which must fit, and, held to its declared end, alternate id, discard flag and fields.
-fn read_element(s: &[u8], l: Limit, c: Cur, w: Scope, st: State, out: &mut [u8; ROOM]) -> StateStep
-    requires { ⌜ (w .objects ≤ mostObjects) × (w .alternate < 2) × (st .timing .blocks ≤ mostBlocks) × (st .unknown < 255) × (length (now out) ≡ roomBytes) ⌝ }
-    ensures { λ r. ⌜ OneRead w st (bit (now (s .entry))) c l (now (out .entry)) r (now (out .exit)) ⌝ }
+fn read_element(
+    s: &[u8],
+    l: Limit,
+    c: Cur,
+    w: Scope,
+    st: State,
+    out: &mut [u8; ROOM],
+    table: &mut [u8; TRIM],
+) -> StateStep
+    requires { ⌜ (w .objects ≤ mostObjects) × (w .alternate < 2) × (st .timing .blocks ≤ mostBlocks) × (st .unknown < 255) × (length (now out) ≡ roomBytes) × (length (now table) ≡ mostTrim) ⌝ }
+    ensures { λ r. ⌜ OneRead w st (bit (now (s .entry))) c l (now (out .entry)) (now (table .entry)) r (now (out .exit)) (now (table .exit)) ⌝ }
 {
     let id = bits::take(s, l, c, 4);
     let step = bits::read_size(s, l, id);
@@ -140,7 +190,7 @@ fn read_element(s: &[u8], l: Limit, c: Cur, w: Scope, st: State, out: &mut [u8; 
     let discard = bits::take(s, held, other, 1);
     let kind = oamd::kind_of(id.v, other.v);
     let back = 4 + counted + head_bits(w.alternate);
-    let body = read_body(s, held, discard, w, st, kind, back, out);
+    let body = read_body(s, held, discard, w, st, kind, back, out, table);
     let state = body.state;
     let inside = body.cur;
     StateStep {
@@ -157,14 +207,16 @@ pub fn read_elements(
     w: Scope,
     n: u32,
     out: &mut [u8; ROOM],
+    table: &mut [u8; TRIM],
 ) -> StateStep
-    requires { ⌜ (w .objects ≤ mostObjects) × (w .alternate < 2) × (n ≤ mostElements) × (length (now out) ≡ roomBytes) ⌝ }
-    ensures { λ r. ⌜ ElementsRead n w (bit (now (s .entry))) c l (now (out .entry)) r (now (out .exit)) ⌝ }
+    requires { ⌜ (w .objects ≤ mostObjects) × (w .alternate < 2) × (n ≤ mostElements) × (length (now out) ≡ roomBytes) × (now table ≡ noTrimBytes) ⌝ }
+    ensures { λ r. ⌜ ElementsRead n w (bit (now (s .entry))) c l (now (out .entry)) r (now (out .exit)) (now (table .exit)) ⌝ }
 {
     let timing = meaning::no_timing();
     let mut state = State {
         timing,
         object: false,
+        trim: false,
         extended: false,
         unknown: 0,
     };
@@ -174,7 +226,7 @@ pub fn read_elements(
         if cur.no != 0 {
             return StateStep { state, cur };
         }
-        let step = read_element(s, l, cur, w, state, out);
+        let step = read_element(s, l, cur, w, state, out, table);
         state = step.state;
         cur = step.cur;
         i = i + 1;

@@ -1,4 +1,4 @@
-// `read`: a payload's bytes, and a lent buffer, to an answer and records.
+// `read`: a payload's bytes, and two lent buffers, to an answer, records and the trim table.
 ghost use mathlib.Core.Path.{_≡_};
 ghost use Rattle.oamd.specs.Answer.{reading};
 use bits::Cur;
@@ -11,6 +11,7 @@ mod timing; // timing.rt: starts and ramps of all blocks
 mod layout; // layout.rt: a record's bytes among the records
 mod objects; // objects.rt: the object element
 mod extended; // extended.rt: the extended object element
+mod trim; // trim.rt: the trim element
 mod elements; // elements.rt: one element after the other
 mod payload; // payload.rt: the whole payload
 mod answers; // answers.rt: what is answered
@@ -20,6 +21,12 @@ const ROOM: usize = 30720;
 
 // From one record to the next.
 const STRIDE: usize = 24;
+
+// Room for the trim table of every payload.
+const TRIM: usize = 253;
+
+// The bytes of the trim table before the flags of the objects.
+const TRIM_FIXED: usize = 94;
 
 pub struct TimingStep {
     pub timing: Timing,
@@ -33,10 +40,11 @@ pub struct Scope {
     pub alternate: u32,
 }
 
-// What has been read of the elements, beside the records.
+// What has been read of the elements, beside the records and the trim table.
 pub struct State {
     pub timing: Timing,
     pub object: bool,
+    pub trim: bool,
     pub extended: bool,
     pub unknown: u8,
 }
@@ -58,16 +66,17 @@ pub struct PayloadStep {
     pub cur: Cur,
 }
 
-// Reads a payload. Accepted: the records are the first bytes of the lent buffer, and no other byte of it changes. Refused: none changes.
-pub fn read(payload: &[u8], records: &mut [u8]) -> ReadAnswer
-    ensures { λ r. ⌜ (record { answer = r; buffer = now (records .exit) }) ≡ reading (now (payload .entry)) (now (records .entry)) ⌝ }
+// Reads a payload. Accepted: the records and the trim table are the first bytes of the lent buffers, and no other byte of them changes. Refused: none changes.
+pub fn read(payload: &[u8], records: &mut [u8], trim: &mut [u8]) -> ReadAnswer
+    ensures { λ r. ⌜ (record { answer = r; buffer = now (records .exit); trim = now (trim .exit) }) ≡ reading (now (payload .entry)) (now (records .entry)) (now (trim .entry)) ⌝ }
 {
     let len = payload.len();
     if 4096 < len {
         return answers::refused(1, len as u64);
     }
     let mut scratch = layout::no_records();
-    let step = payload::read_payload(payload, &mut scratch);
+    let mut table = trim::no_trim();
+    let step = payload::read_payload(payload, &mut scratch, &mut table);
     let cur = step.cur;
     if cur.no != 0 {
         return answers::refused(cur.no, cur.at.raw() as u64);
@@ -79,6 +88,11 @@ pub fn read(payload: &[u8], records: &mut [u8]) -> ReadAnswer
     if records.len() < need {
         return answers::refused(9, need as u64);
     }
+    let taken = TRIM_FIXED + programme.objects as usize;
+    if trim.len() < taken {
+        return answers::refused(9, taken as u64);
+    }
     bytes::copy(&scratch[..need], records);
+    bytes::copy(&table[..taken], trim);
     answers::accepted(programme, timing, state.unknown)
 }

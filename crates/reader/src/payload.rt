@@ -4,11 +4,13 @@ ghost use Prim.Native.Nat.{_≤_};
 ghost use lib.ListN.{length};
 ghost use Rattle.bits.specs.Language.{bit};
 ghost use Rattle.oamd.specs.Tables.{mostBytes, roomBytes};
+ghost use Rattle.reader.specs.Layout.{noTrimBytes};
 ghost use Rattle.reader.specs.Steps.{wholeOf, HeaderRead, PayloadRead};
 use crate::HeaderStep;
 use crate::PayloadStep;
 use crate::ROOM;
 use crate::Scope;
+use crate::TRIM;
 use crate::elements::read_elements;
 use bits::Cur;
 use bits::Limit;
@@ -52,9 +54,9 @@ fn limit_of(s: &[u8]) -> Limit
     }
 }
 
-pub fn read_payload(s: &[u8], out: &mut [u8; ROOM]) -> PayloadStep
-    requires { ⌜ (length (now s) ≤ mostBytes) × (length (now out) ≡ roomBytes) ⌝ }
-    ensures { λ r. ⌜ PayloadRead (now (s .entry)) (now (out .entry)) r (now (out .exit)) ⌝ }
+pub fn read_payload(s: &[u8], out: &mut [u8; ROOM], table: &mut [u8; TRIM]) -> PayloadStep
+    requires { ⌜ (length (now s) ≤ mostBytes) × (length (now out) ≡ roomBytes) × (now table ≡ noTrimBytes) ⌝ }
+    ensures { λ r. ⌜ PayloadRead (now (s .entry)) (now (out .entry)) r (now (out .exit)) (now (table .exit)) ⌝ }
 {
     let l = limit_of(s);
     let c = Cur {
@@ -71,7 +73,7 @@ pub fn read_payload(s: &[u8], out: &mut [u8; ROOM]) -> PayloadStep
         shares: meaning::shares(programme),
         alternate: head.alternate,
     };
-    let step = read_elements(s, l, count, w, count.v, out);
+    let step = read_elements(s, l, count, w, count.v, out, table);
     let state = step.state;
     let cur = step.cur;
     PayloadStep {

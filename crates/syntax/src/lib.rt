@@ -15,6 +15,7 @@ use oamd::Programme;
 use oamd::Render;
 use oamd::Screen;
 use oamd::Status;
+use oamd::TrimConfig;
 use oamd::Zone;
 
 mod header; // header.rt: what stands before the elements
@@ -24,6 +25,7 @@ mod levels; // levels.rt: statuses and basic info
 mod render; // render.rt: render info
 mod block; // block.rt: a block of an object
 mod extended; // extended.rt: divergence and precise positions
+mod trim; // trim.rt: a trim configuration
 
 pub use block::read_block;
 pub use extended::read_divergence;
@@ -34,6 +36,7 @@ pub use header::read_version;
 pub use programme::read_assignment;
 pub use timing::read_offset;
 pub use timing::read_update;
+pub use trim::read_trim_config;
 
 // Each step: what was read, and where reading stands behind it.
 pub struct BedStep {
@@ -117,5 +120,16 @@ pub struct DivergenceStep {
 
 pub struct PreciseStep {
     pub precise: Precise,
+    pub cur: Cur,
+}
+
+pub struct BalanceStep {
+    pub sign: u8,
+    pub amount: u8,
+    pub cur: Cur,
+}
+
+pub struct TrimConfigStep {
+    pub config: TrimConfig,
     pub cur: Cur,
 }

@@ -1,5 +1,5 @@
-// Lists every payload of data/payloads: two bytes of length, the higher first, and the payload, one after the other. The tables of each that is
-// accepted are written, and what is written is read back; tables with the reserved content flag have no written form.
+// Lists every payload of data/payloads: two bytes of length, the higher first, and the payload, one after the other. Of each that is accepted the trim
+// table follows, if it is not all 0; its tables are written, and what is written is read back; tables with the reserved content flag have no written form.
 ghost use mathlib.Core.Path.{_≡_};
 ghost use Prim.Native.Nat.{_<_};
 use oamd::ReadAnswer;
@@ -9,6 +9,12 @@ mod same; // same.rt: whether two tables are the same
 // The reserved content flag, the first of the four that are sent.
 const RESERVED: u8 = 8;
 
+// The bytes of a trim table before the flags of the objects.
+const TRIM_FIXED: usize = 94;
+
+// The bytes of a trim table, at the most.
+const TRIM_MOST: usize = 253;
+
 fn wide(x: u8) -> usize
     ensures { λ r. ⌜ (r ≡ x) × (r < 256) ⌝ }
 {
@@ -16,22 +22,26 @@ fn wide(x: u8) -> usize
 }
 
 // Whether a written payload gives the tables that it was written from, and no unknown element.
-fn reads_back(a: ReadAnswer, records: &[u8], payload: &[u8]) -> bool {
+fn reads_back(a: ReadAnswer, records: &[u8], trim: &[u8], payload: &[u8]) -> bool {
     let mut again = [0u8; 30720];
-    let b = reader::read(payload, &mut again);
+    let mut trim_again = [255u8; 253];
+    let b = reader::read(payload, &mut again, &mut trim_again);
     if b.refusal != 0 {
         return false;
     }
     if b.unknown != 0 {
         return false;
     }
+    if !same::same_bytes(trim, &trim_again, TRIM_MOST) {
+        return false;
+    }
     same::tables(a, records, b, &again)
 }
 
 // Writes the tables of an accepted payload over ones, and reads them back.
-fn write_back(a: ReadAnswer, records: &[u8]) {
+fn write_back(a: ReadAnswer, records: &[u8], trim: &[u8]) {
     let mut payload = [255u8; 4096];
-    let w = writer::write(a.programme, a.timing, records, &mut payload);
+    let w = writer::write(a.programme, a.timing, records, trim, &mut payload);
     if w.refusal != 0 {
         printing::not_written(w.refusal, w.place);
         return;
@@ -42,19 +52,34 @@ fn write_back(a: ReadAnswer, records: &[u8]) {
         return;
     }
     printing::written(&payload[0..n]);
-    let back = reads_back(a, records, &payload[0..n]);
+    let back = reads_back(a, records, trim, &payload[0..n]);
     printing::line(&keys::READ_BACK, back as u64);
 }
 
-// Reads a payload, prints what it answers, and writes its tables again.
+// The trim table of so many objects, unless it is all 0, as it is without a trim element.
+fn list_trim(objects: u8, trim: &[u8]) {
+    let none = [0u8; 253];
+    let n = TRIM_FIXED + wide(objects);
+    if same::same_bytes(trim, &none, n) {
+        return;
+    }
+    if trim.len() < n {
+        return;
+    }
+    printing::trim(&trim[0..n]);
+}
+
+// Reads a payload, prints what it answers, and writes its tables again. The trim buffer holds ones before.
 fn list_one(payload: &[u8]) {
     let mut records = [0u8; 30720];
-    let a = reader::read(payload, &mut records);
+    let mut trim = [255u8; 253];
+    let a = reader::read(payload, &mut records, &mut trim);
     printing::answer(a, &records);
     let programme = a.programme;
     if a.refusal == 0 {
+        list_trim(programme.objects, &trim);
         if programme.content < RESERVED {
-            write_back(a, &records);
+            write_back(a, &records, &trim);
         }
     }
 }

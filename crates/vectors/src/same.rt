@@ -1,4 +1,4 @@
-// Whether two tables are the same: programme, timing and records.
+// Whether two tables are the same: programme, timing, records and trim.
 use oamd::Bed;
 use oamd::Programme;
 use oamd::ReadAnswer;
@@ -101,7 +101,7 @@ fn same_timing(a: Timing, b: Timing) -> bool {
 }
 
 // Whether the first n bytes are there and the same.
-fn same_bytes(a: &[u8], b: &[u8], n: usize) -> bool {
+pub fn same_bytes(a: &[u8], b: &[u8], n: usize) -> bool {
     let mut i: usize = 0;
     while i < n {
         if a.len() <= i {
@@ -118,7 +118,7 @@ fn same_bytes(a: &[u8], b: &[u8], n: usize) -> bool {
     true
 }
 
-// The tables of two answers, each with a buffer of records that held zeros before.
+// Programme, timing and records of two answers, each with a buffer of records that held zeros before.
 pub fn tables(a: ReadAnswer, records: &[u8], b: ReadAnswer, others: &[u8]) -> bool {
     if !same_programme(a.programme, b.programme) {
         return false;

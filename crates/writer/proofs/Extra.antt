@@ -1,19 +1,21 @@
 -- The extended element's fields, from the records' bytes. Assumes nothing.
-use mathlib.Core.Path.{_≡_, refl, ap, ap₂, _∙_}
+use mathlib.Core.Path.{_≡_, refl, ap, ap₂, _∙_, subst}
 use mathlib.Core.Bool.{Bool, true, false}
 use mathlib.Core.List.{List}
 use Prim.Native.Nat.{ℕ, suc, _+_, _-_, _≤_, _<_}
 use native.Mathlib.Omega.{arith}
 use Rattle.bits.specs.Language.{pick}
 use Rattle.bits.specs.Writes.{only, toBits, eachBits}
+use Rattle.writer.specs.declared.Groups.{Groups}
 use Rattle.writer.specs.Laying.{Laid}
+use Rattle.writer.specs.Parts.{Needed}
 use Rattle.writer.proofs.LayLaws.{laid-bind, laid-is}
 use Rattle.oamd.specs.declared.Scene.{Scene}
 use Rattle.oamd.specs.declared.Divergence.{Divergence}
 use Rattle.oamd.specs.declared.Precise.{Precise}
 use Rattle.oamd.specs.Record.{Record, carries}
 use Rattle.written.specs.Coded.{asFlag}
-use Rattle.written.specs.Form.{divergenceBits, preciseBits, any, diverges, refines, extendedElementBits}
+use Rattle.written.specs.Form.{divergenceBits, preciseBits, any, diverges, refines, extendedElementBits, hasExtended}
 use Rattle.written.specs.Answer.{sceneAt, divergenceAt, preciseAt, recordAt, recordsAt}
 
 module _ (s t bytes : List ℕ) (at r k : ℕ) (scene : Scene) (sent : Bool) where
@@ -46,6 +48,14 @@ module _ (test : Record → Bool) (s : List ℕ) (n i k : ℕ) (seen : Bool) whe
       ended : (x : Bool) → x ≡ pick x true false
       ended true = refl
       ended false = refl
+
+-- as many records, counted in another way
+pub needed-of : {g : Groups} {n m : ℕ} (s : List ℕ) → n ≡ m → Needed (recordsAt s n 0) g → Needed (recordsAt s m 0) g
+needed-of {g} s e h = subst (λ (k : ℕ). Needed (recordsAt s k 0) g) e h
+
+pub extended-there : {rs : List Record} {g : Groups} {some : Bool} → Needed rs g → some ≡ pick (g .diverges) true (g .refines) → some ≡ hasExtended rs
+unfolding hasExtended
+extended-there h e = e ∙ ap₂ (λ (x y : Bool). pick x true y) (h .diverges) (h .refines)
 
 pub extended-laid : (s t u v w : List ℕ) (at p q o r : ℕ) (rs : List Record) (first second : Bool) (one two : ℕ) → first ≡ any diverges rs → second ≡ any refines rs
     → one ≡ asFlag first → two ≡ asFlag second → Laid s t at p (toBits 1 one)

@@ -1,15 +1,14 @@
 -- Where the code computes a value first, of what stands before the objects: what is laid with it is what the definition says. Assumes nothing.
-use mathlib.Core.Path.{_≡_, refl, sym, ap, _∙_}
+use mathlib.Core.Path.{_≡_, ap, _∙_}
 use mathlib.Core.Bool.{Bool, not}
-use mathlib.Core.List.{List, [], _∷_, _++_}
-use Prim.Native.Nat.{ℕ, _+_, _-_, _/_, _%_, _<_}
-use native.Mathlib.Omega.{arith}
+use mathlib.Core.List.{List, _++_}
+use Prim.Native.Nat.{ℕ, _-_, _/_, _%_}
 use lib.Dec.{leb, ltb, eqb}
-use lib.ListN.{length, getD, take}
+use lib.ListN.{take}
 use Rattle.bits.specs.Language.{pick, both}
 use Rattle.bits.specs.Writes.{only, toBits, eachBits}
 use Rattle.writer.specs.Laying.{Laid}
-use Rattle.writer.proofs.LayLaws.{laid-bind, laid-is}
+use Rattle.writer.proofs.LayLaws.{laid-bind, laid-is, laid-only}
 use Rattle.oamd.specs.declared.Programme.{Programme}
 use Rattle.oamd.specs.declared.Offset.{Offset}
 use Rattle.oamd.specs.declared.Update.{Update}
@@ -19,12 +18,9 @@ use Rattle.written.specs.Valid.{firstStart, sampleOffset}
 use Rattle.written.specs.Coded.{codedOffset, rampCode, codedUpdate}
 use Rattle.written.specs.Form.{countBits, bedBits, bedsBits, assignmentBits, headerBits, offsetBits, updateBits, timingBits, groupBits, sizeBits}
 
--- the same field, of another name for its value or its test
+-- the same field, under another name for its value
 value : {s t : List ℕ} {at r x y : ℕ} (w : ℕ) → x ≡ y → Laid s t at r (toBits w x) → Laid s t at r (toBits w y)
 value w e h = laid-is (ap (toBits w) e) h
-
-test : {s t : List ℕ} {at r : ℕ} {on t' : Bool} (l : List ℕ) → on ≡ t' → Laid s t at r (only on l) → Laid s t at r (only t' l)
-test l e h = laid-is (ap (λ (b : Bool). only b l) e) h
 
 pub count-laid : (s t u : List ℕ) (at p r n low more : ℕ) → low ≡ pick (ltb n 31) n 31 → more ≡ n - 31
     → Laid s t at p (toBits 5 low) → Laid t u p r (only (not (ltb n 31)) (toBits 7 more)) → Laid s u at r (countBits n)
@@ -37,12 +33,12 @@ pub beds-laid : (s t u v w : List ℕ) (at p q o r : ℕ) (z : Programme) (on : 
     → Laid u v q o (only (set? (z .multiple)) (toBits 3 (z .instances))) → Laid v w o r (eachBits (λ i b. bedBits b) 0 (take (z .bedcount) (z .beds)))
     → Laid s w at r (bedsBits z)
 unfolding bedsBits
-beds-laid s t u v w at p q o r z on e a b c d = laid-bind (test (toBits 1 (z .distribute)) e a) (laid-bind (test (toBits 1 (z .multiple)) e b) (laid-bind c d))
+beds-laid s t u v w at p q o r z on e a b c d = laid-bind (laid-only (toBits 1 (z .distribute)) e a) (laid-bind (laid-only (toBits 1 (z .multiple)) e b) (laid-bind c d))
 
 pub others-laid : (s t u : List ℕ) (at p r : ℕ) (z : Programme) (spatial dynamic : Bool) → spatial ≡ hasIsf (z .content) → dynamic ≡ hasDynamic (z .content)
     → Laid s t at p (only spatial (toBits 3 (z .isf))) → Laid t u p r (only dynamic (countBits (z .dynamics)))
     → Laid s u at r (only (hasIsf (z .content)) (toBits 3 (z .isf)) ++ only (hasDynamic (z .content)) (countBits (z .dynamics)))
-others-laid s t u at p r z spatial dynamic e f a b = laid-bind (test (toBits 3 (z .isf)) e a) (test (countBits (z .dynamics)) f b)
+others-laid s t u at p r z spatial dynamic e f a b = laid-bind (laid-only (toBits 3 (z .isf)) e a) (laid-only (countBits (z .dynamics)) f b)
 
 pub header-laid : (s t u v w : List ℕ) (at p q o r : ℕ) (z : Programme) (more : ℕ) → more ≡ z .objects - 1
     → Laid s t at p (toBits 2 0) → Laid t u p q (countBits more) → Laid u v q o (assignmentBits z) → Laid v w o r (toBits 1 0) → Laid s w at r (headerBits z)
@@ -66,13 +62,6 @@ update-laid s t u at p r z start ramp code indexed index bits e f g h i j x y =
     ∙ ap (λ (k : ℕ). toBits 2 (rampCode (z .ramp .0)) ++ (only (eqb (rampCode (z .ramp .0)) 3) (toBits 1 k) ++ (only (set? k) (toBits 4 index) ++ only (both (eqb (rampCode (z .ramp .0)) 3) (clear? k)) (toBits 11 bits)))) h'
     ∙ ap (λ (k : ℕ). toBits 2 (rampCode (z .ramp .0)) ++ (only (eqb (rampCode (z .ramp .0)) 3) (toBits 1 (pick (ltb (z .ramp .0) 2048) 0 1)) ++ (only (set? (pick (ltb (z .ramp .0) 2048) 0 1)) (toBits 4 k) ++ only (both (eqb (rampCode (z .ramp .0)) 3) (clear? (pick (ltb (z .ramp .0) 2048) 0 1))) (toBits 11 bits)))) i'
     ∙ ap (λ (k : ℕ). toBits 2 (rampCode (z .ramp .0)) ++ (only (eqb (rampCode (z .ramp .0)) 3) (toBits 1 (pick (ltb (z .ramp .0) 2048) 0 1)) ++ (only (set? (pick (ltb (z .ramp .0) 2048) 0 1)) (toBits 4 (pick (ltb (z .ramp .0) 2048) 0 15)) ++ only (both (eqb (rampCode (z .ramp .0)) 3) (clear? (pick (ltb (z .ramp .0) 2048) 0 1))) (toBits 11 k)))) j') y)
-
-first-start : (us : List Update) (d : Update) → 0 < length us → firstStart us ≡ getD us 0 d .start .0
-first-start [] d h = absurd (omega arith)
-first-start (u ∷ us) d h = refl
-
-pub first-offset : (us : List Update) (d : Update) (start : ℕ) → length us ≡ 8 → start ≡ getD us 0 d .start .0 → start % 32 ≡ firstStart us % 32
-first-offset us d start n e = ap (λ (x : ℕ). x % 32) (e ∙ sym (first-start us d (omega arith)))
 
 pub timing-laid : (s t u v : List ℕ) (at p q r : ℕ) (z : Timing) (first more : ℕ) (offset : Offset) → first ≡ firstStart (z .updates) % 32
     → offset ≡ codedOffset first → more ≡ z .blocks - 1

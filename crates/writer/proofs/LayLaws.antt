@@ -169,6 +169,10 @@ laid-off l on e = rw e laid-nil
 pub laid-is : {s t : List ℕ} {at r : ℕ} {l m : List ℕ} → l ≡ m → Laid s t at r l → Laid s t at r m
 laid-is {s} {t} {at} {r} e h = subst (λ (x : List ℕ). Laid s t at r x) e h
 
+-- the same bits, under another name for their test
+pub laid-only : {s t : List ℕ} {at r : ℕ} {on test : Bool} (l : List ℕ) → on ≡ test → Laid s t at r (only on l) → Laid s t at r (only test l)
+laid-only l e h = laid-is (ap (λ (b : Bool). only b l) e) h
+
 -- the rules by which a function that lays one field after the other meets its definition: for `search`
 pub lay-then : (s t u : List ℕ) (at p r : ℕ) (l m : List ℕ) → Laid s t at p l → Laid t u p r m → Laid s u at r (l ++ m)
 lay-then s t u at p r l m f g = laid-bind f g

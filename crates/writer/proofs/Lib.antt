@@ -5,5 +5,6 @@ pub mod Entries
 pub mod Heads
 pub mod Records
 pub mod Extra
+pub mod Trims
 pub mod Around
 pub mod Whole

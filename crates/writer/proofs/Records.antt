@@ -9,7 +9,8 @@ use lib.Dec.{ltb}
 use lib.ListN.{length, take, drop, length-append}
 use Rattle.bits.specs.Writes.{only, toBits, eachBits, length-toBits}
 use Rattle.writer.specs.Laying.{Laid}
-use Rattle.writer.proofs.LayLaws.{laid-bind, laid-is}
+use Rattle.writer.proofs.Entries.{steps-more, steps-none}
+use Rattle.writer.proofs.LayLaws.{laid-bind, laid-is, laid-only}
 use Rattle.oamd.specs.declared.Precise.{Precise}
 use Rattle.oamd.specs.Record.{Record}
 use Rattle.oamd.specs.Payload.{Tables}
@@ -20,12 +21,12 @@ use Rattle.written.specs.Answer.{recordAt, recordsAt}
 
 module _ (f : ℕ → Record → List ℕ) (s : List ℕ) (n i k : ℕ) where
   pub records-more : i < n → eachBits f i (recordsAt s (n - i) k) ≡ f i (recordAt s k) ++ eachBits f (i + 1) (recordsAt s (n - (i + 1)) (k + 24))
-  unfolding eachBits recordsAt
-  records-more h = ap (λ (m : ℕ). eachBits f i (recordsAt s m k)) (let e : n - i ≡ suc (n - (i + 1)) = omega arith in e) ∙ rw add-one
+  unfolding recordsAt
+  records-more = steps-more f (recordAt s) 24 (recordsAt s) (λ m j. refl) n i k
 
   pub records-none : n ≤ i → eachBits f i (recordsAt s (n - i) k) ≡ []
-  unfolding eachBits recordsAt
-  records-none h = ap (λ (m : ℕ). eachBits f i (recordsAt s m k)) (let e : n - i ≡ 0 = omega arith in e)
+  unfolding recordsAt
+  records-none = steps-none f (recordsAt s) (λ j. refl) n i k
 
 -- counted up to an entry, and what is still to come
 pub count-more : (l a m : List ℕ) (total width whole : ℕ) → l ≡ a ++ m → width ≡ length a → total + length l ≡ whole → total + width + length m ≡ whole
@@ -79,13 +80,10 @@ module _ (s : List ℕ) (m n i k : ℕ) where
   unfolding eachBits byObject
   objects-none h = ap (λ (j : ℕ). objectsFrom s m i j k) (let e : n - i ≡ 0 = omega arith in e)
 
-test : {s t : List ℕ} {at r : ℕ} {on t' : Bool} (l : List ℕ) → on ≡ t' → Laid s t at r (only on l) → Laid s t at r (only t' l)
-test l e h = laid-is (ap (λ (b : Bool). only b l) e) h
-
 pub axes-laid : (s t u v : List ℕ) (at p q r : ℕ) (z : Precise) (x y w : Bool) → x ≡ hasX (z .presence) → y ≡ hasY (z .presence) → w ≡ hasZ (z .presence)
     → Laid s t at p (only x (toBits 2 (z .x))) → Laid t u p q (only y (toBits 2 (z .y))) → Laid u v q r (only w (toBits 2 (z .z)))
     → Laid s v at r (only (hasX (z .presence)) (toBits 2 (z .x)) ++ (only (hasY (z .presence)) (toBits 2 (z .y)) ++ only (hasZ (z .presence)) (toBits 2 (z .z))))
-axes-laid s t u v at p q r z x y w e f g a b c = laid-bind (test (toBits 2 (z .x)) e a) (laid-bind (test (toBits 2 (z .y)) f b) (test (toBits 2 (z .z)) g c))
+axes-laid s t u v at p q r z x y w e f g a b c = laid-bind (laid-only (toBits 2 (z .x)) e a) (laid-bind (laid-only (toBits 2 (z .y)) f b) (laid-only (toBits 2 (z .z)) g c))
 
 pub precise-laid : (s t u v : List ℕ) (at p q r : ℕ) (sent : Bool) (z : Precise) (some : ℕ) → some ≡ asFlag (ltb 0 (z .presence))
     → Laid s t at p (only sent (toBits 1 some)) → Laid t u p q (only (ltb 0 (z .presence)) (toBits 3 (z .presence)))

@@ -1,6 +1,6 @@
 -- The whole form: its length, its bits, and what is answered of it. Assumes nothing.
 use mathlib.Core.Path.{_≡_, refl, sym, ap, ap₂, _∙_, subst}
-use mathlib.Core.Bool.{Bool, true, false, not, true≢false}
+use mathlib.Core.Bool.{Bool, true, false}
 use mathlib.Core.List.{List, _++_}
 use Prim.Native.Nat.{ℕ, _+_, _-_, _*_, _/_, _≤_, _<_}
 use native.Mathlib.Omega.{arith}
@@ -16,13 +16,15 @@ use Rattle.oamd.specs.declared.WriteAnswer.{WriteAnswer}
 use Rattle.oamd.specs.Tables.{mostBytes, recordStride}
 use Rattle.oamd.specs.Programme.{shares}
 use Rattle.oamd.specs.Record.{onto}
+use Rattle.oamd.specs.Trim.{trimNeeded}
 use Rattle.oamd.specs.Payload.{Tables}
 use Rattle.written.specs.Coded.{asFlag}
-use Rattle.written.specs.Form.{headerBits, objectElementBits, extendedElementBits, sizeBits, sizeFor, framedBits, elementBits, hasObject, hasExtended, formBits, form}
-use Rattle.written.specs.Valid.{programmeValid, timingValid, firstBad, recordCount}
-use Rattle.written.specs.Answer.{Written, recordsAt, tablesOf, refusedTo, fitted, judged, writing}
+use Rattle.written.specs.Form.{headerBits, objectElementBits, extendedElementBits, trimElementBits, sizeBits, sizeFor, framedBits, elementBits, hasObject, hasExtended, hasTrim, formBits, form}
+use Rattle.written.specs.Valid.{_and_, programmeValid, timingValid, firstBad, trimValid, recordCount}
+use Rattle.written.specs.Answer.{Written, recordsAt, trimAt, tablesOf, refusedTo, fitted, trimmed, judged, writing}
 use Rattle.writer.specs.Laying.{Laid, Bytes}
-use Rattle.writer.proofs.LayLaws.{laid-bind, laid-is, laid-bytes}
+use Rattle.writer.specs.Parts.{objectBits}
+use Rattle.writer.proofs.LayLaws.{laid-bind, laid-is, laid-only, laid-bytes}
 
 abbrev pub gives : WriteAnswer → List ℕ → Written
 gives a out = record { answer = a; out = out }
@@ -46,32 +48,43 @@ element-length id n fields true e =
     let h = length-toBits 1 0 in
     ap framed e ∙ omega arith
 
-module _ (t : Tables) (some : Bool) (e : some ≡ hasExtended (t .records)) where
-  pub form-length : (header object extended first second : ℕ) → header ≡ length (headerBits (t .programme))
-      → object ≡ 1 + length (objectElementBits t) → extended ≡ 1 + length (extendedElementBits (t .records))
-      → first ≡ pick (hasObject t) (framed object) 0 → second ≡ pick some (framed extended) 0 → header + 4 + first + second ≡ length (formBits t)
+-- the object element's fields look at no trim table
+pub object-any : (q : Programme) (t : Timing) (s x : List ℕ) → objectBits q t s ≡ objectElementBits (tablesOf q t s x)
+unfolding objectElementBits
+object-any q t s x = refl
+
+module _ (t : Tables) (some there : Bool) (e : some ≡ hasExtended (t .records)) (z : there ≡ hasTrim (t .trim)) where
+  pub form-length : (header object extended trim first second third : ℕ) → header ≡ length (headerBits (t .programme))
+      → object ≡ 1 + length (objectElementBits t) → extended ≡ 1 + length (extendedElementBits (t .records)) → trim ≡ 1 + length (trimElementBits (t .trim))
+      → first ≡ pick (hasObject t) (framed object) 0 → second ≡ pick some (framed extended) 0 → third ≡ pick there (framed trim) 0
+      → header + 4 + first + second + third ≡ length (formBits t)
   unfolding formBits
-  form-length header object extended first second a b c f g =
+  form-length header object extended trim first second third a b c d f g h =
       let one : List ℕ = only (hasObject t) (elementBits 1 (objectElementBits t)) in
       let two : List ℕ = only (hasExtended (t .records)) (elementBits 5 (extendedElementBits (t .records))) in
-      let count : List ℕ = toBits 4 (asFlag (hasObject t) + asFlag (hasExtended (t .records))) in
-      let h : first ≡ length one = f ∙ element-length 1 object (objectElementBits t) (hasObject t) b in
-      let i : second ≡ length two = g ∙ ap (λ (x : Bool). pick x (framed extended) 0) e ∙ element-length 5 extended (extendedElementBits (t .records)) (hasExtended (t .records)) c in
-      let j = length-append (headerBits (t .programme)) (count ++ (one ++ two)) in
-      let k = length-append count (one ++ two) in
-      let l = length-append one two in
-      let m = length-toBits 4 (asFlag (hasObject t) + asFlag (hasExtended (t .records))) in
+      let three : List ℕ = only (hasTrim (t .trim)) (elementBits 2 (trimElementBits (t .trim))) in
+      let count : List ℕ = toBits 4 (asFlag (hasObject t) + asFlag (hasExtended (t .records)) + asFlag (hasTrim (t .trim))) in
+      let i : first ≡ length one = f ∙ element-length 1 object (objectElementBits t) (hasObject t) b in
+      let j : second ≡ length two = g ∙ ap (λ (x : Bool). pick x (framed extended) 0) e ∙ element-length 5 extended (extendedElementBits (t .records)) (hasExtended (t .records)) c in
+      let k : third ≡ length three = h ∙ ap (λ (x : Bool). pick x (framed trim) 0) z ∙ element-length 2 trim (trimElementBits (t .trim)) (hasTrim (t .trim)) d in
+      let l = length-append (headerBits (t .programme)) (count ++ (one ++ (two ++ three))) in
+      let m = length-append count (one ++ (two ++ three)) in
+      let n = length-append one (two ++ three) in
+      let o = length-append two three in
+      let p = length-toBits 4 (asFlag (hasObject t) + asFlag (hasExtended (t .records)) + asFlag (hasTrim (t .trim))) in
       omega arith
 
-  pub form-laid : (s u v w x : List ℕ) (at p q o r one two : ℕ) → at ≡ 0 → one ≡ asFlag (hasObject t) → two ≡ asFlag some → Laid s u at p (headerBits (t .programme))
-      → Laid u v p q (toBits 4 (one + two)) → Laid v w q o (only (hasObject t) (elementBits 1 (objectElementBits t)))
-      → Laid w x o r (only some (elementBits 5 (extendedElementBits (t .records)))) → Laid s x 0 r (formBits t)
+  pub form-laid : {s u v w x y : List ℕ} {at p q o n r one two three : ℕ} → at ≡ 0 → one ≡ asFlag (hasObject t) → two ≡ asFlag some → three ≡ asFlag there
+      → Laid s u at p (headerBits (t .programme)) → Laid u v p q (toBits 4 (one + two + three))
+      → Laid v w q o (only (hasObject t) (elementBits 1 (objectElementBits t))) → Laid w x o n (only some (elementBits 5 (extendedElementBits (t .records))))
+      → Laid x y n r (only there (elementBits 2 (trimElementBits (t .trim)))) → Laid s y 0 r (formBits t)
   unfolding formBits
-  form-laid s u v w x at p q o r one two z f g a b c d =
-      subst (λ (k : ℕ). Laid s x k r (formBits t)) z
+  form-laid {s = s} {y = y} {r = r} i f g h a b c d l =
+      let m = ap₂ (λ (x y : Bool). asFlag (hasObject t) + asFlag x + asFlag y) e z in
+      subst (λ (k : ℕ). Laid s y k r (formBits t)) i
       (laid-bind a
-      (laid-bind (laid-is (ap₂ (λ (k n : ℕ). toBits 4 (k + n)) f (g ∙ ap (λ (y : Bool). asFlag y) e)) b)
-      (laid-bind c (laid-is (ap (λ (y : Bool). only y (elementBits 5 (extendedElementBits (t .records)))) e) d))))
+      (laid-bind (laid-is (ap (toBits 4) (omega (arith, f, g, h, m))) b)
+      (laid-bind c (laid-bind (laid-only (elementBits 5 (extendedElementBits (t .records))) e d) (laid-only (elementBits 2 (trimElementBits (t .trim))) z l)))))
 
 -- the answer, by the room
 module _ (out : List ℕ) (t : Tables) (bytes : ℕ) (e : bytes ≡ (length (formBits t) + 7) / 8) where
@@ -99,35 +112,37 @@ module _ (out : List ℕ) (t : Tables) (bytes : ℕ) (e : bytes ≡ (length (for
       ap₂ (λ (n : ℕ) (x : List ℕ). gives (record { place = 0; length = record { 0 = n }; refusal = 0 }) x) (q ∙ form-bytes) (laid-bytes out u r (formBits t) pad bytes l b i j g)
       ∙ sym (rw (le-leb (length (form t)) (length out) (let f = form-bytes in omega arith), le-leb (length (form t)) mostBytes (let f = form-bytes in omega arith)) refl)
 
--- a test that is asked the other way round
-pub is-off : (x : Bool) → not x ≡ true → x ≡ false
-is-off true e = absurd (true≢false (sym e))
-is-off false e = refl
-
-pub is-on : (x : Bool) → not x ≡ false → x ≡ true
-is-on true e = refl
-is-on false e = absurd (true≢false e)
-
 -- the answer, by the tables
-module _ (p : Programme) (t : Timing) (s out : List ℕ) where
-  pub bad-programme : programmeValid p ≡ false → refusedTo out 10 0 ≡ writing p t s out
+module _ (p : Programme) (t : Timing) (s x out : List ℕ) where
+  pub bad-programme : programmeValid p ≡ false → refusedTo out 10 0 ≡ writing p t s x out
   unfolding writing
   bad-programme a = sym (rw a refl)
 
-  pub bad-timing : programmeValid p ≡ true → timingValid t ≡ false → refusedTo out 10 0 ≡ writing p t s out
+  pub bad-timing : programmeValid p ≡ true → timingValid t ≡ false → refusedTo out 10 0 ≡ writing p t s x out
   unfolding writing
   bad-timing a b = sym (rw (a, b) refl)
 
-  pub few-bytes : programmeValid p ≡ true → timingValid t ≡ true → length s < recordStride * recordCount p t → refusedTo out 10 0 ≡ writing p t s out
+  pub few-bytes : programmeValid p ≡ true → timingValid t ≡ true → length s < recordStride * recordCount p t → refusedTo out 10 0 ≡ writing p t s x out
   unfolding writing
   few-bytes a b c = sym (rw (a, b, lt-leb (recordStride * recordCount p t) (length s) c) refl)
 
   module _ (a : programmeValid p ≡ true) (b : timingValid t ≡ true) (c : recordStride * recordCount p t ≤ length s)
       (bad : ℕ) (d : bad ≡ firstBad (shares p) (t .blocks) 0 (recordsAt s (recordCount p t) 0)) where
-    pub bad-record : bad < recordCount p t → refusedTo out 10 (1 + bad) ≡ writing p t s out
+    pub bad-record : bad < recordCount p t → refusedTo out 10 (1 + bad) ≡ writing p t s x out
     unfolding writing judged
     bad-record h = sym (rw (a, b, le-leb (recordStride * recordCount p t) (length s) c, ← d, lt-ltb bad (recordCount p t) h) refl)
 
-    pub good-records : recordCount p t ≤ bad → fitted out (form (tablesOf p t s)) ≡ writing p t s out
-    unfolding writing judged
-    good-records h = sym (rw (a, b, le-leb (recordStride * recordCount p t) (length s) c, ← d, le-ltb bad (recordCount p t) h) refl)
+    module _ (h : recordCount p t ≤ bad) where
+      good-records : trimmed out (tablesOf p t s x) (leb (trimNeeded (p .objects)) (length x)) ≡ writing p t s x out
+      unfolding writing judged
+      good-records = sym (rw (a, b, le-leb (recordStride * recordCount p t) (length s) c, ← d, le-ltb bad (recordCount p t) h) refl)
+
+      pub bad-trim : (leb (trimNeeded (p .objects)) (length x) and trimValid (p .objects) (trimAt (p .objects) x)) ≡ false
+          → refusedTo out 10 (1 + recordCount p t) ≡ writing p t s x out
+      unfolding trimmed
+      bad-trim e = sym (rw e refl) ∙ good-records
+
+      pub good-trim : (leb (trimNeeded (p .objects)) (length x) and trimValid (p .objects) (trimAt (p .objects) x)) ≡ true
+          → fitted out (form (tablesOf p t s x)) ≡ writing p t s x out
+      unfolding trimmed
+      good-trim e = sym (rw e refl) ∙ good-records

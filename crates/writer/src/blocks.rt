@@ -5,21 +5,14 @@ ghost use mathlib.Core.List.{_++_};
 ghost use Prim.Native.Nat.{_+_, _≤_};
 ghost use lib.ListN.{length};
 ghost use Rattle.bits.specs.Writes.{only};
-ghost use Rattle.oamd.specs.Record.{carries};
 ghost use Rattle.coding.specs.Packing.{openingBits, endingBits};
 ghost use Rattle.written.specs.Form.{blockBits};
 ghost use Rattle.writer.specs.Laying.{Laid};
 ghost use Rattle.writer.specs.Parts.{middleBits};
 use crate::putting::put_packed;
+use checks::carries;
 use oamd::Scene;
 use units::BitPos;
-
-// Whether a scene can carry divergence and a precise position.
-pub fn carries_of(s: Scene) -> bool
-    ensures { λ r. ⌜ r ≡ carries s ⌝ }
-{
-    oamd::both(s.active == 1, s.class == 2)
-}
 
 // Render info up to the size.
 fn put_middle(first: bool, out: &mut [u8], at: BitPos, s: Scene) -> BitPos
@@ -53,7 +46,7 @@ pub fn put_block(first: bool, out: &mut [u8], at: BitPos, s: Scene) -> BitPos
     ensures { λ r. ⌜ Laid (now (out .entry)) (now (out .exit)) (at .0) (r .0) (blockBits first s) ⌝ }
     ensures { λ r. ⌜ r .0 ≤ at .0 + 77 ⌝ }
 {
-    if carries_of(s) {
+    if carries(s) {
         return put_full(first, out, at, s);
     }
     let all = coding::short(first, s);
@@ -76,7 +69,7 @@ fn middle_width(on: bool, first: bool, s: Scene) -> u32
 pub fn block_width(first: bool, s: Scene) -> u32
     ensures { λ r. ⌜ (r ≡ length (blockBits first s)) × (r ≤ 77) ⌝ }
 {
-    let sent = carries_of(s);
+    let sent = carries(s);
     let opening = coding::opening(first, s);
     let ending = coding::ending(sent, s);
     let middle = middle_width(sent, first, s);

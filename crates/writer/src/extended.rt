@@ -1,6 +1,6 @@
 // The extended object element's fields (5.5.13 to 5.5.15).
 ghost use mathlib.Core.Path.{_≡_};
-ghost use Prim.Native.Nat.{_+_, _≤_, _<_};
+ghost use Prim.Native.Nat.{_+_, _≤_};
 ghost use Rattle.writer.specs.Laying.{Laid};
 ghost use mathlib.Core.List.{_++_};
 ghost use Rattle.bits.specs.Writes.{toBits, only};
@@ -15,7 +15,6 @@ ghost use Rattle.written.specs.Form.{divergenceBits, preciseBits, extendedEleme
 ghost use Rattle.writer.specs.Parts.{extraBits, Needed};
 ghost use Rattle.written.specs.Answer.{sceneAt, divergenceAt, preciseAt, recordAt, recordsAt};
 use crate::Groups;
-use crate::blocks::carries_of;
 use crate::putting::put;
 use crate::putting::put_both;
 use crate::putting::put_if;
@@ -69,7 +68,7 @@ fn put_divergence_at(out: &mut [u8], at: BitPos, records: &[u8], k: usize) -> Bi
     ensures { λ r. ⌜ r .0 ≤ at .0 + 11 ⌝ }
 {
     let s = scene_at(records, k);
-    let sent = carries_of(s);
+    let sent = checks::carries(s);
     let d = divergence_at(records, k);
     put_divergence(sent, out, at, d)
 }
@@ -81,7 +80,7 @@ fn put_precise_at(out: &mut [u8], at: BitPos, records: &[u8], k: usize) -> BitPo
     ensures { λ r. ⌜ r .0 ≤ at .0 + 10 ⌝ }
 {
     let s = scene_at(records, k);
-    let sent = carries_of(s);
+    let sent = checks::carries(s);
     let d = precise_at(records, k);
     put_precise(sent, out, at, d)
 }

@@ -4,20 +4,23 @@ ghost use Prim.Native.Nat.{_+_, _*_, _≤_};
 ghost use lib.ListN.{length};
 ghost use Rattle.bits.specs.Language.{pick};
 ghost use Rattle.written.specs.Form.{headerBits, sizeBits, sizeFor, formBits};
-ghost use Rattle.written.specs.Answer.{recordsAt, tablesOf};
+ghost use Rattle.written.specs.Answer.{tablesOf};
 ghost use Rattle.writer.specs.Laying.{Laid};
-ghost use Rattle.writer.specs.Parts.{Needed, Measured};
-use crate::Groups;
+ghost use Rattle.writer.specs.Parts.{Enough, Measured};
 use crate::Measures;
 use crate::extended::either;
+use crate::extended::groups_of;
 use crate::frames::extended_inside;
 use crate::frames::object_inside;
 use crate::frames::put_extended_element_if;
 use crate::frames::put_object_element_if;
+use crate::frames::put_trim_element_if;
+use crate::frames::trim_inside;
 use crate::head::put_header;
 use crate::putting::put;
 use crate::sizes::put_size;
 use crate::sizes::size_for;
+use checks::record_count;
 use coding::as_flag;
 use oamd::Programme;
 use oamd::Timing;
@@ -48,19 +51,25 @@ fn element_bits(on: bool, n: u32) -> u32
 }
 
 // How long the form and its parts are, before a byte is written.
-pub fn measure(q: Programme, t: Timing, records: &[u8], count: usize, groups: Groups) -> Measures
-    requires { ⌜ (q .bedcount ≤ 9) × (t .blocks ≤ 8) × (count ≡ q .objects * (t .blocks)) × (count ≤ 2040) × (24 * count ≤ length (now records)) ⌝ }
-    requires { ⌜ Needed (recordsAt (now records) count 0) groups ⌝ }
-    ensures { λ r. ⌜ Measured (tablesOf q t (now (records .entry))) r ⌝ }
+pub fn measure(q: Programme, t: Timing, records: &[u8], trim: &[u8]) -> Measures
+    requires { ⌜ Enough q t (now records) (now trim) ⌝ }
+    ensures { λ r. ⌜ Measured (tablesOf q t (now (records .entry)) (now (trim .entry))) r ⌝ }
 {
+    let count = record_count(q.objects, t.blocks);
+    let groups = groups_of(records, count);
     let object = object_inside(q, t, records);
     let extended = extended_inside(records, count, groups);
+    let trims = trim_inside(trim, q.objects);
     let first = element_bits(0 < t.blocks, object);
     let second = element_bits(either(groups.diverges, groups.refines), extended);
+    let third = element_bits(trim[0] == 1, trims);
     Measures {
+        count,
+        groups,
         object,
         extended,
-        whole: header_bits(q) + 4 + first + second,
+        trim: trims,
+        whole: header_bits(q) + 4 + first + second + third,
     }
 }
 
@@ -70,19 +79,22 @@ pub fn put_form(
     q: Programme,
     t: Timing,
     records: &[u8],
-    count: usize,
-    groups: Groups,
+    trim: &[u8],
     m: Measures,
 ) -> BitPos
-    requires { ⌜ (q .bedcount ≤ 9) × (t .blocks ≤ 8) × (count ≡ q .objects * (t .blocks)) × (count ≤ 2040) × (24 * count ≤ length (now records)) ⌝ }
-    requires { ⌜ Needed (recordsAt (now records) count 0) groups × Measured (tablesOf q t (now records)) m ⌝ }
-    ensures { λ r. ⌜ Laid (now (out .entry)) (now (out .exit)) 0 (r .0) (formBits (tablesOf q t (now (records .entry)))) ⌝ }
+    requires { ⌜ Enough q t (now records) (now trim) ⌝ }
+    requires { ⌜ Measured (tablesOf q t (now records) (now trim)) m ⌝ }
+    ensures { λ r. ⌜ Laid (now (out .entry)) (now (out .exit)) 0 (r .0) (formBits (tablesOf q t (now (records .entry)) (now (trim .entry)))) ⌝ }
 {
+    let groups = m.groups;
     let some = either(groups.diverges, groups.refines);
+    let there = trim[0] == 1;
     let one = as_flag(0 < t.blocks);
     let two = as_flag(some);
-    let p = put_header(out, BitPos::new(0), q);
-    let p = put(out, p, 4, one as u32 + two as u32);
-    let p = put_object_element_if(0 < t.blocks, out, p, q, t, records, m.object);
-    put_extended_element_if(some, out, p, records, count, groups, m.extended)
+    let three = as_flag(there);
+    let header = put_header(out, BitPos::new(0), q);
+    let count = put(out, header, 4, one as u32 + two as u32 + three as u32);
+    let object = put_object_element_if(0 < t.blocks, out, count, q, t, records, m.object);
+    let extended = put_extended_element_if(some, out, object, records, m.count, groups, m.extended);
+    put_trim_element_if(there, out, extended, trim, q.objects, m.trim)
 }

@@ -1,13 +1,13 @@
-// The two elements: id, size, and inside it the discard flag 0, the fields, and zeros up to its end (5.5.1, 5.5.4).
+// The elements: id, size, and inside it the discard flag 0, the fields, and zeros up to its end (5.5.1, 5.5.4).
 ghost use mathlib.Core.Path.{_≡_};
-ghost use Prim.Native.Nat.{_+_, _*_, _≤_, _<_};
+ghost use Prim.Native.Nat.{_+_, _*_, _≤_};
 ghost use Rattle.writer.specs.Laying.{Laid};
 ghost use mathlib.Core.List.{_++_};
 ghost use lib.ListN.{length};
 ghost use Rattle.bits.specs.Writes.{toBits, only};
-ghost use Rattle.written.specs.Form.{sizeBits, objectElementBits, extendedElementBits, elementBits};
-ghost use Rattle.written.specs.Answer.{recordsAt, tablesOf};
-ghost use Rattle.writer.specs.Parts.{Needed};
+ghost use Rattle.written.specs.Form.{sizeBits, extendedElementBits, trimElementBits, elementBits};
+ghost use Rattle.written.specs.Answer.{recordsAt, trimAt};
+ghost use Rattle.writer.specs.Parts.{objectBits, Needed};
 use crate::Groups;
 use crate::extended::put_extended_fields;
 use crate::objects::objects_width;
@@ -18,6 +18,7 @@ use crate::sizes::minus;
 use crate::sizes::put_size;
 use crate::sizes::size_for;
 use crate::timing::put_timing;
+use crate::trim::put_trim_fields;
 use oamd::Programme;
 use oamd::Timing;
 use units::BitPos;
@@ -35,7 +36,7 @@ fn put_front(out: &mut [u8], at: BitPos, id: u32, v: u32) -> BitPos
 // The bits inside the object element: the discard flag, the timing, laid where there is no room, the flag for reserved data, and the objects.
 pub fn object_inside(q: Programme, t: Timing, records: &[u8]) -> u32
     requires { ⌜ (t .blocks ≤ 8) × (24 * (q .objects * (t .blocks)) ≤ length (now records)) ⌝ }
-    ensures { λ r. ⌜ (r ≡ 1 + length (objectElementBits (tablesOf q t (now (records .entry))))) × (r ≤ 206 + 616 * (q .objects)) ⌝ }
+    ensures { λ r. ⌜ (r ≡ 1 + length (objectBits q t (now (records .entry)))) × (r ≤ 206 + 616 * (q .objects)) ⌝ }
 {
     let mut scratch = [0u8; 1];
     let p = put_timing(&mut scratch, BitPos::new(0), t);
@@ -54,6 +55,16 @@ pub fn extended_inside(records: &[u8], count: usize, groups: Groups) -> u32
     1 + p.raw()
 }
 
+// And inside the trim element.
+pub fn trim_inside(trim: &[u8], objects: u8) -> u32
+    requires { ⌜ 94 + objects ≤ length (now trim) ⌝ }
+    ensures { λ r. ⌜ (r ≡ 1 + length (trimElementBits (trimAt objects (now (trim .entry))))) × (r ≤ 269 + objects) ⌝ }
+{
+    let mut scratch = [0u8; 1];
+    let p = put_trim_fields(&mut scratch, BitPos::new(0), trim, objects);
+    1 + p.raw()
+}
+
 // The object element, with n bits inside.
 fn put_object_element(
     out: &mut [u8],
@@ -65,8 +76,8 @@ fn put_object_element(
 ) -> BitPos
     requires { ⌜ at .0 ≤ 1300000 ⌝ }
     requires { ⌜ (t .blocks ≤ 8) × (24 * (q .objects * (t .blocks)) ≤ length (now records)) ⌝ }
-    requires { ⌜ (n ≤ 200000) × (n ≡ 1 + length (objectElementBits (tablesOf q t (now records)))) ⌝ }
-    ensures { λ r. ⌜ Laid (now (out .entry)) (now (out .exit)) (at .0) (r .0) (elementBits 1 (objectElementBits (tablesOf q t (now (records .entry))))) ⌝ }
+    requires { ⌜ (n ≤ 200000) × (n ≡ 1 + length (objectBits q t (now records))) ⌝ }
+    ensures { λ r. ⌜ Laid (now (out .entry)) (now (out .exit)) (at .0) (r .0) (elementBits 1 (objectBits q t (now (records .entry)))) ⌝ }
     ensures { λ r. ⌜ r .0 ≤ at .0 + 260 + 616 * (q .objects) ⌝ }
 {
     let v = size_for(n);
@@ -99,6 +110,21 @@ fn put_extended_element(
     put_zeros(out, p, pad)
 }
 
+// The trim element, with n bits inside.
+fn put_trim_element(out: &mut [u8], at: BitPos, trim: &[u8], objects: u8, n: u32) -> BitPos
+    requires { ⌜ at .0 ≤ 1600000 ⌝ }
+    requires { ⌜ 94 + objects ≤ length (now trim) ⌝ }
+    requires { ⌜ (n ≤ 200000) × (n ≡ 1 + length (trimElementBits (trimAt objects (now trim)))) ⌝ }
+    ensures { λ r. ⌜ Laid (now (out .entry)) (now (out .exit)) (at .0) (r .0) (elementBits 2 (trimElementBits (trimAt objects (now (trim .entry))))) ⌝ }
+    ensures { λ r. ⌜ r .0 ≤ at .0 + 300 + objects ⌝ }
+{
+    let v = size_for(n);
+    let pad = minus(8 * (v + 1), n);
+    let p = put_front(out, at, 2, v);
+    let p = put_trim_fields(out, p, trim, objects);
+    put_zeros(out, p, pad)
+}
+
 // Each where it is there.
 pub fn put_object_element_if(
     on: bool,
@@ -111,8 +137,8 @@ pub fn put_object_element_if(
 ) -> BitPos
     requires { ⌜ at .0 ≤ 1300000 ⌝ }
     requires { ⌜ (t .blocks ≤ 8) × (24 * (q .objects * (t .blocks)) ≤ length (now records)) ⌝ }
-    requires { ⌜ (n ≤ 200000) × (n ≡ 1 + length (objectElementBits (tablesOf q t (now records)))) ⌝ }
-    ensures { λ r. ⌜ Laid (now (out .entry)) (now (out .exit)) (at .0) (r .0) (only on (elementBits 1 (objectElementBits (tablesOf q t (now (records .entry)))))) ⌝ }
+    requires { ⌜ (n ≤ 200000) × (n ≡ 1 + length (objectBits q t (now records))) ⌝ }
+    ensures { λ r. ⌜ Laid (now (out .entry)) (now (out .exit)) (at .0) (r .0) (only on (elementBits 1 (objectBits q t (now (records .entry))))) ⌝ }
     ensures { λ r. ⌜ r .0 ≤ at .0 + 260 + 616 * (q .objects) ⌝ }
 {
     if on {
@@ -139,6 +165,26 @@ pub fn put_extended_element_if(
 {
     if on {
         return put_extended_element(out, at, records, count, groups, n);
+    }
+    at
+}
+
+pub fn put_trim_element_if(
+    on: bool,
+    out: &mut [u8],
+    at: BitPos,
+    trim: &[u8],
+    objects: u8,
+    n: u32,
+) -> BitPos
+    requires { ⌜ at .0 ≤ 1600000 ⌝ }
+    requires { ⌜ 94 + objects ≤ length (now trim) ⌝ }
+    requires { ⌜ (n ≤ 200000) × (n ≡ 1 + length (trimElementBits (trimAt objects (now trim)))) ⌝ }
+    ensures { λ r. ⌜ Laid (now (out .entry)) (now (out .exit)) (at .0) (r .0) (only on (elementBits 2 (trimElementBits (trimAt objects (now (trim .entry)))))) ⌝ }
+    ensures { λ r. ⌜ r .0 ≤ at .0 + 300 + objects ⌝ }
+{
+    if on {
+        return put_trim_element(out, at, trim, objects, n);
     }
     at
 }

@@ -1,6 +1,5 @@
 // What stands before the elements (5.5.2, 5.5.3).
-ghost use mathlib.Core.Path.{_≡_};
-ghost use Prim.Native.Nat.{_+_, _≤_, _<_};
+ghost use Prim.Native.Nat.{_+_, _≤_};
 ghost use Rattle.writer.specs.Laying.{Laid};
 ghost use mathlib.Core.List.{_++_};
 ghost use lib.ListN.{take};

@@ -1,10 +1,9 @@
-// `write`: a programme, a timing and record bytes to a payload in a lent buffer, in the one form of document 01. The parts lay their fields clause by
-// clause of the definition; what does not fit is not stored, so that a part laid over no room gives its length.
+// `write`: a programme, a timing, record bytes and a trim table to a payload in a lent buffer, in the one form of documents 01 and 02. The parts lay their
+// fields clause by clause of the definition; what does not fit is not stored, so that a part laid over no room gives its length.
 ghost use mathlib.Core.Path.{_≡_};
-ghost use Prim.Native.Nat.{_*_, _≤_};
-ghost use lib.ListN.{length};
 ghost use Rattle.written.specs.Form.{form};
 ghost use Rattle.written.specs.Answer.{tablesOf, refusedWrite, fitted, writing};
+ghost use Rattle.writer.specs.Parts.{Enough};
 use oamd::Programme;
 use oamd::Timing;
 use oamd::WriteAnswer;
@@ -16,8 +15,9 @@ mod head; // head.rt: what stands before the elements
 mod timing; // timing.rt: the timing
 mod objects; // objects.rt: the object element's fields
 mod extended; // extended.rt: the extended object element's fields
+mod trim; // trim.rt: the trim element's fields
 mod sizes; // sizes.rt: an element's size
-mod frames; // frames.rt: the two elements
+mod frames; // frames.rt: the elements
 mod form; // form.rt: the whole form
 
 // The longest payload.
@@ -29,10 +29,13 @@ pub struct Groups {
     pub refines: bool,
 }
 
-// Bits: inside the object element, inside the extended object element, and of the whole form.
+// Found before a bit is laid: how many records there are, which groups they need, the bits inside each element, and those of the whole form.
 pub struct Measures {
+    pub count: usize,
+    pub groups: Groups,
     pub object: u32,
     pub extended: u32,
+    pub trim: u32,
     pub whole: u32,
 }
 
@@ -47,13 +50,17 @@ fn refused(refusal: u8, place: u64) -> WriteAnswer
 }
 
 // Writes the form of valid tables, if there is room for all of it.
-fn write_form(q: Programme, t: Timing, records: &[u8], payload: &mut [u8]) -> WriteAnswer
-    requires { ⌜ (q .bedcount ≤ 9) × (t .blocks ≤ 8) × (24 * (q .objects * (t .blocks)) ≤ length (now records)) ⌝ }
-    ensures { λ r. ⌜ (record { answer = r; out = now (payload .exit) }) ≡ fitted (now (payload .entry)) (form (tablesOf q t (now (records .entry)))) ⌝ }
+fn write_form(
+    q: Programme,
+    t: Timing,
+    records: &[u8],
+    trim: &[u8],
+    payload: &mut [u8],
+) -> WriteAnswer
+    requires { ⌜ Enough q t (now records) (now trim) ⌝ }
+    ensures { λ r. ⌜ (record { answer = r; out = now (payload .exit) }) ≡ fitted (now (payload .entry)) (form (tablesOf q t (now (records .entry)) (now (trim .entry)))) ⌝ }
 {
-    let count = checks::record_count(q.objects, t.blocks);
-    let groups = extended::groups_of(records, count);
-    let m = form::measure(q, t, records, count, groups);
+    let m = form::measure(q, t, records, trim);
     let bytes = (m.whole + 7) / 8;
     if payload.len() < bytes as usize {
         return refused(11, bytes as u64);
@@ -61,7 +68,7 @@ fn write_form(q: Programme, t: Timing, records: &[u8], payload: &mut [u8]) -> Wr
     if MOST < bytes {
         return refused(11, bytes as u64);
     }
-    let p = form::put_form(payload, q, t, records, count, groups, m);
+    let p = form::put_form(payload, q, t, records, trim, m);
     putting::put_zeros(payload, p, 8 * bytes - m.whole);
     WriteAnswer {
         place: 0,
@@ -75,9 +82,10 @@ pub fn write(
     programme: Programme,
     timing: Timing,
     records: &[u8],
+    trim: &[u8],
     payload: &mut [u8],
 ) -> WriteAnswer
-    ensures { λ r. ⌜ (record { answer = r; out = now (payload .exit) }) ≡ writing programme timing (now (records .entry)) (now (payload .entry)) ⌝ }
+    ensures { λ r. ⌜ (record { answer = r; out = now (payload .exit) }) ≡ writing programme timing (now (records .entry)) (now (trim .entry)) (now (payload .entry)) ⌝ }
 {
     let count = checks::record_count(programme.objects, timing.blocks);
     if !checks::programme_valid(programme) {
@@ -93,5 +101,8 @@ pub fn write(
     if bad < count {
         return refused(10, 1 + bad as u64);
     }
-    write_form(programme, timing, records, payload)
+    if !checks::trim_valid(programme.objects, trim) {
+        return refused(10, 1 + count as u64);
+    }
+    write_form(programme, timing, records, trim, payload)
 }

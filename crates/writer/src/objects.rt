@@ -1,12 +1,13 @@
 // The object element's fields: the timing, and the blocks of all objects, read from the records' bytes (5.5.5, 5.5.8).
 ghost use mathlib.Core.Path.{_≡_};
-ghost use Prim.Native.Nat.{_+_, _≤_, _<_};
+ghost use Prim.Native.Nat.{_+_, _≤_};
 ghost use Rattle.writer.specs.Laying.{Laid};
 ghost use Prim.Native.Nat.{_*_};
 ghost use lib.ListN.{length};
 ghost use Rattle.bits.specs.Writes.{eachBits};
-ghost use Rattle.written.specs.Form.{byObject, objectDataBits, objectElementBits};
-ghost use Rattle.written.specs.Answer.{recordsAt, tablesOf};
+ghost use Rattle.written.specs.Form.{byObject, objectDataBits};
+ghost use Rattle.written.specs.Answer.{recordsAt};
+ghost use Rattle.writer.specs.Parts.{objectBits};
 use crate::blocks::block_width;
 use crate::blocks::put_block;
 use crate::putting::put;
@@ -100,7 +101,7 @@ pub fn put_object_fields(
 ) -> BitPos
     requires { ⌜ at .0 ≤ 1400000 ⌝ }
     requires { ⌜ (t .blocks ≤ 8) × (24 * (q .objects * (t .blocks)) ≤ length (now records)) ⌝ }
-    ensures { λ r. ⌜ Laid (now (out .entry)) (now (out .exit)) (at .0) (r .0) (objectElementBits (tablesOf q t (now (records .entry)))) ⌝ }
+    ensures { λ r. ⌜ Laid (now (out .entry)) (now (out .exit)) (at .0) (r .0) (objectBits q t (now (records .entry))) ⌝ }
     ensures { λ r. ⌜ r .0 ≤ at .0 + 205 + 616 * (q .objects) ⌝ }
 {
     let p = put_timing(out, at, t);

@@ -1,8 +1,8 @@
 // An element's size, in the fewest groups (5.5.4).
 ghost use mathlib.Core.Path.{_≡_};
-ghost use Prim.Native.Nat.{_+_, _*_, _≤_, _<_};
+ghost use Prim.Native.Nat.{_+_, _*_, _≤_};
 ghost use Rattle.writer.specs.Laying.{Laid};
-ghost use Prim.Native.Nat.{_-_, _/_};
+ghost use Prim.Native.Nat.{_-_};
 ghost use Rattle.bits.specs.Writes.{only};
 ghost use Rattle.written.specs.Form.{groupBits, sizeBits, sizeFor};
 use crate::putting::put;

@@ -1,6 +1,5 @@
 // The timing (5.5.6, 5.5.7).
-ghost use mathlib.Core.Path.{_≡_};
-ghost use Prim.Native.Nat.{_+_, _≤_, _<_};
+ghost use Prim.Native.Nat.{_+_, _≤_};
 ghost use Rattle.writer.specs.Laying.{Laid};
 ghost use mathlib.Core.List.{_++_};
 ghost use lib.Dec.{eqb};
@@ -8,13 +7,12 @@ ghost use lib.ListN.{take};
 ghost use Rattle.bits.specs.Language.{both};
 ghost use Rattle.bits.specs.Writes.{toBits, only, eachBits};
 ghost use Rattle.oamd.specs.Programme.{set?, clear?};
-ghost use Prim.Native.Nat.{_%_};
-ghost use Rattle.written.specs.Valid.{firstStart};
 ghost use Rattle.written.specs.Coded.{codedUpdate};
 ghost use Rattle.written.specs.Form.{offsetBits, updateBits, timingBits};
 use crate::putting::put;
 use crate::putting::put_both;
 use crate::putting::put_if;
+use checks::sample_offset;
 use coding::coded_offset;
 use coding::less;
 use coding::ramp_bits;
@@ -25,15 +23,6 @@ use oamd::Offset;
 use oamd::Timing;
 use oamd::Update;
 use units::BitPos;
-
-// What the first start leaves by 32.
-fn first_offset(updates: [Update; 8]) -> u8
-    ensures { λ r. ⌜ r ≡ firstStart updates % 32 ⌝ }
-{
-    let u = updates[0];
-    let start = u.start.raw();
-    (start % 32) as u8
-}
 
 fn put_offset(out: &mut [u8], at: BitPos, o: Offset) -> BitPos
     requires { ⌜ at .0 ≤ 2000000 ⌝ }
@@ -98,8 +87,8 @@ pub fn put_timing(out: &mut [u8], at: BitPos, t: Timing) -> BitPos
     ensures { λ r. ⌜ r .0 ≤ at .0 + 204 ⌝ }
 {
     let updates = t.updates;
-    let first = first_offset(updates);
-    let offset = coded_offset(first);
+    let first = sample_offset(updates);
+    let offset = coded_offset(first as u8);
     let more = less(t.blocks, 1);
     let p = put_offset(out, at, offset);
     let p = put(out, p, 3, more as u32);

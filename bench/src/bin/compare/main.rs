@@ -1,19 +1,19 @@
 //! The proved library against the plain reader and writer.
 //!
-//! `compare N [SEED]`: N generated payloads, valid, faulty and damaged; answers, places, tables and whole buffers, with canaries around them. The tables
-//! of each accepted payload are written, as they are and damaged, and so are N generated tables.
+//! `compare N [SEED]`: N generated payloads, valid, faulty and damaged; answers, places, tables and both whole buffers, with canaries around them. The
+//! tables of each accepted payload are written, as they are and damaged, and so are N generated tables.
 //! `compare --damaged N [SEED]`: N random and damaged inputs: the library ends, and touches nothing that it may not.
 
+mod lent;
 mod writes;
 
+use lent::Lent;
 use skriemelt_bench::gen::rng::Rng;
 use skriemelt_bench::gen::Gen;
 use skriemelt_bench::{plain, proved};
 use std::process::ExitCode;
-use writes::Writer;
+use writes::{Read, Writer};
 
-/// Canary bytes on each side of a lent buffer.
-const SIDE: usize = 64;
 const KINDS: [&str; 10] = [
     "accepted",
     "too long",
@@ -30,6 +30,8 @@ const KINDS: [&str; 10] = [
 /// What has been seen.
 struct Tally {
     refusals: [u64; 10],
+    /// Accepted payloads with a trim element.
+    trims: u64,
     differences: u64,
     writer: Writer,
 }
@@ -38,46 +40,40 @@ impl Tally {
     fn new(seed: u64) -> Self {
         Self {
             refusals: [0; 10],
+            trims: 0,
             differences: 0,
             writer: Writer::new(seed),
         }
     }
 }
 
-/// Bytes that a call is not likely to write by chance.
-fn lent(length: usize, fill: u8) -> Vec<u8> {
-    (0..length)
-        .map(|at| (at as u8).wrapping_mul(31) ^ fill)
-        .collect()
-}
-
-/// An answer that both give, and the records of an accepted payload.
-type Both = (plain::Answer, Vec<u8>);
-
-/// Reads with both and compares all that both give; `Err` says what differs.
-fn both(payload: &[u8], room: usize, skew: usize, fill: u8) -> Result<Both, String> {
-    let from = SIDE + skew;
-    let fresh = lent(from + room + SIDE, fill);
-    let (mut a, mut b) = (fresh.clone(), fresh.clone());
-    let answer = proved::read(payload, &mut a[from..from + room]).plain();
-    let other = plain::read(payload, &mut b[from..from + room]);
+/// Reads with both into buffers of these rooms, of records and of trim, and compares all that both give; `Err` says what differs.
+fn both(rng: &mut Rng, payload: &[u8], rooms: (usize, usize)) -> Result<Read, String> {
+    let (records, trim) = (Lent::new(rng, rooms.0), Lent::new(rng, rooms.1));
+    let (mut a, mut a_trim) = (records.clone(), trim.clone());
+    let (mut b, mut b_trim) = (records.clone(), trim.clone());
+    let answer = proved::read(payload, a.lend(), a_trim.lend()).plain();
+    let other = plain::read(payload, b.lend(), b_trim.lend());
     if answer != other {
         return Err(format!("proved {answer:?}\nplain  {other:?}"));
     }
-    if a != b {
-        let at = (0..a.len()).find(|at| a[*at] != b[*at]);
-        return Err(format!("buffers differ at {at:?}, buffer from {from}"));
-    }
-    let used = match answer.refusal {
-        0 => plain::needed(&answer.programme, &answer.timing),
-        _ => 0,
+    a.same(&b).map_err(|why| format!("records: {why}"))?;
+    a_trim.same(&b_trim).map_err(|why| format!("trim: {why}"))?;
+    let (used, trim_used) = match answer.refusal {
+        0 => (
+            plain::needed(&answer.programme, &answer.timing),
+            plain::trim_needed(&answer.programme),
+        ),
+        _ => (0, 0),
     };
-    if used > room || answer.refusal > 9 {
-        return Err(format!("{answer:?} with room {room}"));
+    if used > rooms.0 || trim_used > rooms.1 || answer.refusal > 9 {
+        return Err(format!("{answer:?} with rooms {rooms:?}"));
     }
-    if a[..from] != fresh[..from] || a[from + used..] != fresh[from + used..] {
-        return Err("bytes changed that are not the records'".into());
-    }
+    a.kept(&records, used)
+        .map_err(|why| format!("records: {why}"))?;
+    a_trim
+        .kept(&trim, trim_used)
+        .map_err(|why| format!("trim: {why}"))?;
     let bare = plain::Answer {
         refusal: answer.refusal,
         place: answer.place,
@@ -86,15 +82,25 @@ fn both(payload: &[u8], room: usize, skew: usize, fill: u8) -> Result<Both, Stri
     if answer.refusal != 0 && answer != bare {
         return Err(format!("refused, yet more is given: {answer:?}"));
     }
-    Ok((answer, a[from..from + used].to_vec()))
+    Ok(Read {
+        answer,
+        records: a.first(used).to_vec(),
+        trim: a_trim.first(trim_used).to_vec(),
+    })
 }
 
+/// A payload, with the rooms of its two buffers.
+type Input<'a> = (&'a [u8], (usize, usize));
+
 /// Counts what was read, and writes the tables of an accepted payload.
-fn count(tally: &mut Tally, index: u64, payload: &[u8], room: usize, result: Result<Both, String>) {
-    let result = result.and_then(|(answer, records)| {
-        tally.refusals[answer.refusal as usize] += 1;
-        match answer.refusal {
-            0 => tally.writer.rewrite(&answer, &records),
+fn count(tally: &mut Tally, index: u64, (payload, rooms): Input, result: Result<Read, String>) {
+    let result = result.and_then(|read| {
+        tally.refusals[read.answer.refusal as usize] += 1;
+        match read.answer.refusal {
+            0 => {
+                tally.trims += u64::from(read.trim[0]);
+                tally.writer.rewrite(&read)
+            }
             _ => Ok(()),
         }
     });
@@ -102,7 +108,7 @@ fn count(tally: &mut Tally, index: u64, payload: &[u8], room: usize, result: Res
         let hex: String = payload.iter().map(|b| format!("{b:02x}")).collect();
         differ(
             tally,
-            format!("payload {index}, room {room}: {message}\n{hex}"),
+            format!("payload {index}, rooms {rooms:?}: {message}\n{hex}"),
         );
     }
 }
@@ -117,18 +123,19 @@ fn differ(tally: &mut Tally, message: String) {
 
 fn generated(number: u64, seed: u64) -> Tally {
     let mut gen = Gen::new(seed);
+    let mut rng = Rng::new(seed ^ 0x1E27);
     let mut tally = Tally::new(seed);
     for index in 0..number {
         let case = gen.case();
-        let skew = index as usize % 16;
-        let mut result = both(&case.payload, case.room, skew, index as u8);
-        if let (Ok((answer, _)), Some(expect)) = (&result, case.expect) {
-            let got = (answer.refusal, answer.place);
+        let rooms = (case.room, case.trim_room);
+        let mut result = both(&mut rng, &case.payload, rooms);
+        if let (Ok(read), Some(expect)) = (&result, case.expect) {
+            let got = (read.answer.refusal, read.answer.place);
             if got != expect {
                 result = Err(format!("{got:?}, the generator says {expect:?}"));
             }
         }
-        count(&mut tally, index, &case.payload, case.room, result);
+        count(&mut tally, index, (&case.payload, rooms), result);
         if let Err(message) = tally.writer.generated() {
             differ(&mut tally, format!("generated tables {index}: {message}"));
         }
@@ -184,9 +191,10 @@ fn damaged(number: u64, seed: u64) -> Tally {
             _ => damage(&mut rng, &mut payload),
         }
         let most = rng.pick(&[1, 100, 3000, 30_721]);
-        let room = rng.below(most);
-        let result = both(&payload, room, rng.below(16), rng.byte());
-        count(&mut tally, index, &payload, room, result);
+        let trim = rng.pick(&[1, 96, 253, 253, 300, 300]);
+        let rooms = (rng.below(most), rng.below(trim) + trim / 2);
+        let result = both(&mut rng, &payload, rooms);
+        count(&mut tally, index, (&payload, rooms), result);
     }
     tally
 }
@@ -215,6 +223,7 @@ fn main() -> ExitCode {
     for (refusal, count) in tally.refusals.iter().enumerate() {
         println!("read, refusal {refusal} ({}): {count}", KINDS[refusal]);
     }
+    println!("read, accepted with a trim element: {}", tally.trims);
     tally.writer.writes.print();
     let what = if random { "damaged inputs" } else { "payloads" };
     println!("{number} {what}, {} differences", tally.differences);

@@ -1,26 +1,38 @@
 //! Tables written with both: answers and whole buffers, with canaries around them.
 
-use crate::{lent, SIDE};
+use crate::lent::Lent;
 use skriemelt_bench::gen::rng::Rng;
 use skriemelt_bench::gen::{longest, Gen, TableCase};
-use skriemelt_bench::plain::{self, needed, MAX_PAYLOAD};
+use skriemelt_bench::plain::{self, needed, trim_needed, MAX_PAYLOAD};
 use skriemelt_bench::proved;
+
+/// What both read of a payload: the answer, and the tables of an accepted one.
+pub struct Read {
+    pub answer: plain::Answer,
+    pub records: Vec<u8>,
+    pub trim: Vec<u8>,
+}
 
 /// How the writes ended.
 #[derive(Default)]
 pub struct Writes {
-    pub accepted: u64,
-    pub not_valid: u64,
-    pub bad_record: u64,
-    pub no_room: u64,
-    pub past_limit: u64,
+    accepted: u64,
+    with_trim: u64,
+    not_valid: u64,
+    bad_record: u64,
+    bad_trim: u64,
+    no_room: u64,
+    past_limit: u64,
 }
 
 impl Writes {
-    fn count(&mut self, answer: &plain::WriteAnswer) {
+    fn count(&mut self, case: &TableCase, answer: &plain::WriteAnswer) {
+        let records = u64::from(case.programme.objects) * u64::from(case.timing.blocks);
         let outcome = match (answer.refusal, answer.place) {
+            (0, _) if case.trim[0] != 0 => &mut self.with_trim,
             (0, _) => &mut self.accepted,
             (10, 0) => &mut self.not_valid,
+            (10, place) if place > records => &mut self.bad_trim,
             (10, _) => &mut self.bad_record,
             (_, place) if place <= MAX_PAYLOAD as u64 => &mut self.no_room,
             _ => &mut self.past_limit,
@@ -29,66 +41,55 @@ impl Writes {
     }
 
     pub fn print(&self) {
-        println!("written, refusal 0 (accepted): {}", self.accepted);
+        println!("written, refusal 0 (accepted, no trim): {}", self.accepted);
+        println!("written, refusal 0 (with trim): {}", self.with_trim);
         let text = "programme, timing or too few record bytes";
         println!("written, refusal 10, place 0 ({text}): {}", self.not_valid);
         println!("written, refusal 10 (a record): {}", self.bad_record);
+        println!("written, refusal 10 (trim table): {}", self.bad_trim);
         println!("written, refusal 11 (buffer too short): {}", self.no_room);
         println!("written, refusal 11 (above 4,096): {}", self.past_limit);
     }
 }
 
-/// What is written: the tables, and where in the lent bytes.
-struct Call<'a> {
-    case: &'a TableCase,
-    room: usize,
-    skew: usize,
-}
-
 /// Writes with both and compares all that both give; the answer and the payload.
-fn both(call: &Call) -> Result<(plain::WriteAnswer, Vec<u8>), String> {
-    let (case, room, from) = (call.case, call.room, SIDE + call.skew);
-    let fresh = lent(from + room + SIDE, case.records.len() as u8);
+fn both(case: &TableCase, fresh: Lent) -> Result<(plain::WriteAnswer, Vec<u8>), String> {
     let (mut a, mut b) = (fresh.clone(), fresh.clone());
     let (programme, timing) = ((&case.programme).into(), (&case.timing).into());
-    let lent = &mut a[from..from + room];
-    let answer = proved::write(programme, timing, &case.records, lent).plain();
-    let lent = &mut b[from..from + room];
-    let other = plain::write(&case.programme, &case.timing, &case.records, lent);
+    let (records, trim) = (&case.records, &case.trim);
+    let answer = proved::write(programme, timing, records, trim, a.lend()).plain();
+    let other = plain::write(&case.programme, &case.timing, records, trim, b.lend());
     if answer != other {
         return Err(format!("proved {answer:?}\nplain  {other:?}"));
     }
-    if a != b {
-        let at = (0..a.len()).find(|at| a[*at] != b[*at]);
-        return Err(format!("buffers differ at {at:?}, buffer from {from}"));
-    }
-    let used = answer.length as usize;
+    a.same(&b)?;
+    let (used, most) = (answer.length as usize, fresh.room().min(MAX_PAYLOAD));
     let sound = match answer.refusal {
-        0 => answer.place == 0 && used <= room.min(MAX_PAYLOAD),
+        0 => answer.place == 0 && used <= most,
         10 => used == 0,
-        11 => used == 0 && answer.place > room.min(MAX_PAYLOAD) as u64,
+        11 => used == 0 && answer.place > most as u64,
         _ => false,
     };
     if !sound {
-        return Err(format!("{answer:?} with room {room}"));
+        return Err(format!("{answer:?} with room {}", fresh.room()));
     }
-    if a[..from] != fresh[..from] || a[from + used..] != fresh[from + used..] {
-        return Err("bytes changed that are not the payload's".into());
-    }
-    Ok((answer, a[from..from + used].to_vec()))
+    a.kept(&fresh, used)?;
+    Ok((answer, a.first(used).to_vec()))
 }
 
 /// The payload, read with the proved library, gives the tables it was written from.
 fn reads_back(case: &TableCase, payload: &[u8]) -> Result<(), String> {
     let bytes = needed(&case.programme, &case.timing);
-    let mut records = vec![0; bytes];
-    let answer = proved::read(payload, &mut records).plain();
+    let trim_bytes = trim_needed(&case.programme);
+    let (mut records, mut trim) = (vec![0xC3; bytes], vec![0xC3; trim_bytes]);
+    let answer = proved::read(payload, &mut records, &mut trim).plain();
     let expected = plain::Answer {
         programme: case.programme,
         timing: case.timing,
         ..plain::Answer::default()
     };
-    if answer != expected || records != case.records[..bytes] {
+    let same = records == case.records[..bytes] && trim == case.trim[..trim_bytes];
+    if answer != expected || !same {
         return Err(format!("written and read back: {answer:?}"));
     }
     Ok(())
@@ -111,8 +112,8 @@ impl Writer {
     }
 
     fn written(&mut self, case: &TableCase, room: usize) -> Result<plain::WriteAnswer, String> {
-        let skew = self.rng.below(16);
-        let answer = both(&Call { case, room, skew }).and_then(|(answer, payload)| {
+        let fresh = Lent::new(&mut self.rng, room);
+        let answer = both(case, fresh).and_then(|(answer, payload)| {
             if answer.refusal == 0 {
                 reads_back(case, &payload)?;
             }
@@ -120,9 +121,10 @@ impl Writer {
         });
         let answer = answer.map_err(|message| {
             let (kind, programme, timing) = (case.kind, case.programme, case.timing);
-            format!("writing {kind}, room {room}: {message}\n{programme:?}\n{timing:?}")
+            let trim = &case.trim;
+            format!("writing {kind}, room {room}: {message}\n{programme:?}\n{timing:?}\n{trim:?}")
         })?;
-        self.writes.count(&answer);
+        self.writes.count(case, &answer);
         Ok(answer)
     }
 
@@ -144,12 +146,14 @@ impl Writer {
     }
 
     /// The tables of an accepted payload as they were read, then damaged.
-    pub fn rewrite(&mut self, answer: &plain::Answer, records: &[u8]) -> Result<(), String> {
+    pub fn rewrite(&mut self, read: &Read) -> Result<(), String> {
+        let answer = &read.answer;
         let mut case = TableCase {
             kind: "tables of a payload",
             programme: answer.programme,
             timing: answer.timing,
-            records: records.to_vec(),
+            records: read.records.clone(),
+            trim: read.trim.clone(),
             valid: None,
             place: None,
         };
@@ -182,7 +186,7 @@ impl Writer {
     /// The tables with the longest form of all.
     pub fn longest(&mut self) -> Result<(), String> {
         let answer = self.in_rooms(&longest())?;
-        if (answer.refusal, answer.place) != (11, 14_425) {
+        if (answer.refusal, answer.place) != (11, 14_481) {
             return Err(format!("the longest form: {answer:?}"));
         }
         Ok(())

@@ -1,9 +1,9 @@
 //! What is read and what is written, prepared before the clock starts.
 
-use crate::times::Work;
+use crate::times::{Buffers, Work};
 use skriemelt_bench::gen::rng::Rng;
 use skriemelt_bench::plain::{
-    self, needed, Programme, Record, Timing, Update, MAX_PAYLOAD, MAX_RECORD_BYTES, RECORD_BYTES,
+    self, needed, trim_needed, Programme, Record, Timing, Update, MAX_PAYLOAD, RECORD_BYTES,
 };
 use skriemelt_bench::proved;
 use std::hint::black_box;
@@ -15,49 +15,62 @@ pub struct Tables {
     proved_programme: proved::Programme,
     proved_timing: proved::Timing,
     pub records: Vec<u8>,
+    pub trim: Vec<u8>,
 }
 
 impl Tables {
     /// `None` if the payload is refused.
     pub fn of(payload: &[u8]) -> Option<Self> {
-        let mut records = vec![0; MAX_RECORD_BYTES];
-        let answer = plain::read(payload, &mut records);
-        records.truncate(needed(&answer.programme, &answer.timing));
+        let mut lent = Buffers::new();
+        let answer = plain::read(payload, &mut lent.bytes, &mut lent.trim);
         (answer.refusal == 0).then(|| Self {
             programme: answer.programme,
             timing: answer.timing,
             proved_programme: (&answer.programme).into(),
             proved_timing: (&answer.timing).into(),
-            records: records.as_slice().into(),
+            records: lent.bytes[..needed(&answer.programme, &answer.timing)].to_vec(),
+            trim: lent.trim[..trim_needed(&answer.programme)].to_vec(),
         })
     }
 
     /// Bytes of the form, 0 if it is refused.
     pub fn form_bytes(&self) -> usize {
         let mut out = [0; MAX_PAYLOAD];
-        plain::write(&self.programme, &self.timing, &self.records, &mut out).length as usize
+        self.write(&mut out).length as usize
+    }
+
+    /// Writes with the plain code.
+    fn write(&self, out: &mut [u8]) -> plain::WriteAnswer {
+        plain::write(
+            &self.programme,
+            &self.timing,
+            &self.records,
+            &self.trim,
+            out,
+        )
     }
 }
 
-pub fn reading() -> Work<impl Fn(&&[u8], &mut [u8]), impl Fn(&&[u8], &mut [u8])> {
+pub fn reading() -> Work<impl Fn(&&[u8], &mut Buffers), impl Fn(&&[u8], &mut Buffers)> {
     Work {
-        proved: |payload: &&[u8], buffer: &mut [u8]| {
-            black_box(proved::read(payload, buffer));
+        proved: |payload: &&[u8], lent: &mut Buffers| {
+            black_box(proved::read(payload, &mut lent.bytes, &mut lent.trim));
         },
-        plain: |payload: &&[u8], buffer: &mut [u8]| {
-            black_box(plain::read(payload, buffer));
+        plain: |payload: &&[u8], lent: &mut Buffers| {
+            black_box(plain::read(payload, &mut lent.bytes, &mut lent.trim));
         },
     }
 }
 
-pub fn writing() -> Work<impl Fn(&&Tables, &mut [u8]), impl Fn(&&Tables, &mut [u8])> {
+pub fn writing() -> Work<impl Fn(&&Tables, &mut Buffers), impl Fn(&&Tables, &mut Buffers)> {
     Work {
-        proved: |t: &&Tables, buffer: &mut [u8]| {
+        proved: |t: &&Tables, lent: &mut Buffers| {
             let (programme, timing) = (t.proved_programme, t.proved_timing);
-            black_box(proved::write(programme, timing, &t.records, buffer));
+            let out = &mut lent.bytes;
+            black_box(proved::write(programme, timing, &t.records, &t.trim, out));
         },
-        plain: |t: &&Tables, buffer: &mut [u8]| {
-            black_box(plain::write(&t.programme, &t.timing, &t.records, buffer));
+        plain: |t: &&Tables, lent: &mut Buffers| {
+            black_box(t.write(&mut lent.bytes));
         },
     }
 }
@@ -80,8 +93,9 @@ pub fn shaped(rng: &mut Rng, objects: usize, blocks: usize) -> Option<Vec<u8>> {
         };
     }
     let records: Vec<Record> = (0..objects * blocks).map(|_| active(rng)).collect();
+    let trim = vec![0; trim_needed(&programme)];
     let mut out = vec![0; MAX_PAYLOAD];
-    let answer = plain::write(&programme, &timing, &records.concat(), &mut out);
+    let answer = plain::write(&programme, &timing, &records.concat(), &trim, &mut out);
     out.truncate(answer.length as usize);
     (answer.refusal == 0).then_some(out)
 }

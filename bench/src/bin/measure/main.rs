@@ -8,8 +8,8 @@ mod times;
 
 use inputs::{reading, writing, Tables};
 use skriemelt_bench::gen::Gen;
-use skriemelt_bench::plain::{MAX_RECORD_BYTES, RECORD_BYTES};
-use times::{Times, PART};
+use skriemelt_bench::plain::RECORD_BYTES;
+use times::{Buffers, Times, PART};
 
 /// The payloads one behind the other, as in a file.
 struct Store {
@@ -44,11 +44,13 @@ fn describe(store: &Store, tables: &[Tables], rounds: usize) -> usize {
     let (count, bytes) = (store.spans.len(), store.bytes.len());
     let written = forms.iter().filter(|bytes| **bytes > 0).count();
     let written_bytes = forms.iter().sum();
+    let trims = tables.iter().filter(|t| t.trim[0] != 0).count();
     println!("read: {count} payloads, {bytes} bytes in memory");
     println!(
-        "write: the tables of the {} accepted ones, {records} records; {written} are accepted again, with {written_bytes} bytes",
+        "write: the tables of the {} accepted ones, {records} records, {trims} with a trim element",
         tables.len()
     );
+    println!("{written} of them are accepted again, with {written_bytes} bytes");
     println!("both at opt-level 3 for x86-64; {rounds} rounds each, by turns in parts of {PART}; best and median are sums over the parts; buffers are not cleared between calls");
     written_bytes
 }
@@ -68,11 +70,11 @@ fn main() {
         .filter_map(|payload| Tables::of(&payload).map(|tables| (payload, tables)))
         .unzip();
     let written_bytes = describe(&store, &tables, rounds);
-    let mut buffer = vec![0; MAX_RECORD_BYTES];
-    let read = Times::new(&store.payloads(), rounds, &mut buffer, &reading());
+    let mut lent = Buffers::new();
+    let read = Times::new(&store.payloads(), rounds, &mut lent, &reading());
     read.print("read", count, store.bytes.len());
     let tables: Vec<&Tables> = tables.iter().collect();
-    let write = Times::new(&tables, rounds, &mut buffer, &writing());
+    let write = Times::new(&tables, rounds, &mut lent, &writing());
     write.print("write", tables.len(), written_bytes);
     scaling::by_length(&accepted, rounds / 2);
     scaling::by_objects(rounds / 2);

@@ -1,9 +1,8 @@
 //! Time against the payload's length and the number of objects, reading and writing.
 
 use crate::inputs::{reading, shaped, writing, Tables};
-use crate::times::Times;
+use crate::times::{Buffers, Times};
 use skriemelt_bench::gen::rng::Rng;
-use skriemelt_bench::plain::MAX_RECORD_BYTES;
 
 /// Lengths in bytes, from and to.
 const LENGTHS: [(usize, usize); 9] = [
@@ -33,14 +32,14 @@ fn head(name: &str) {
 
 /// One line of a table: payloads read, and their tables written.
 fn line(name: &str, payloads: &[Vec<u8>], unit: &Unit, rounds: usize) {
-    let mut buffer = vec![0; MAX_RECORD_BYTES];
+    let mut lent = Buffers::new();
     let repeated = (500 / payloads.len()).max(1);
     let calls: Vec<&[u8]> = payloads.iter().map(Vec::as_slice).collect();
     let calls = calls.repeat(repeated);
     let tables: Vec<Tables> = payloads.iter().filter_map(|p| Tables::of(p)).collect();
-    let read = Times::new(&calls, rounds, &mut buffer, &reading());
+    let read = Times::new(&calls, rounds, &mut lent, &reading());
     let tables = tables.iter().collect::<Vec<_>>().repeat(repeated);
-    let write = Times::new(&tables, rounds, &mut buffer, &writing());
+    let write = Times::new(&tables, rounds, &mut lent, &writing());
     let bytes = payloads.iter().map(Vec::len).sum::<usize>() / payloads.len();
     print!("{name:>16} {bytes:7}");
     for times in [read, write] {
@@ -74,7 +73,7 @@ pub fn by_length(accepted: &[Vec<u8>], rounds: usize) {
 }
 
 pub fn by_objects(rounds: usize) {
-    println!("\nTime against objects: accepted payloads of dynamic objects, all active, and writing their tables.");
+    println!("\nTime against objects: accepted payloads of dynamic objects, all active, without trim, and writing their tables.");
     head("objects x blocks");
     let mut rng = Rng::new(3);
     for blocks in [1, 4, 8] {

@@ -1,12 +1,28 @@
 //! Two functions timed by turns on the same inputs.
 
+use skriemelt_bench::plain::{MAX_RECORD_BYTES, MAX_TRIM_BYTES};
 use std::hint::black_box;
 use std::time::Instant;
 
 /// Inputs in one part of the file: a part takes less time than a slice of the scheduler, so that a part's best time was not interrupted.
 pub const PART: usize = 50;
 
-/// The same work by the proved library and by the plain code, on an input and a lent buffer. Buffers are not cleared.
+/// What is lent to a call: the records or the payload, and the trim table. Buffers are not cleared.
+pub struct Buffers {
+    pub bytes: Vec<u8>,
+    pub trim: Vec<u8>,
+}
+
+impl Buffers {
+    pub fn new() -> Self {
+        Self {
+            bytes: vec![0; MAX_RECORD_BYTES],
+            trim: vec![0; MAX_TRIM_BYTES],
+        }
+    }
+}
+
+/// The same work by the proved library and by the plain code, on an input and lent buffers.
 pub struct Work<P, Q> {
     pub proved: P,
     pub plain: Q,
@@ -20,31 +36,31 @@ pub struct Times {
 }
 
 /// Nanoseconds of one pass over a part.
-fn pass<T>(part: &[T], buffer: &mut [u8], work: &impl Fn(&T, &mut [u8])) -> f64 {
+fn pass<T>(part: &[T], lent: &mut Buffers, work: &impl Fn(&T, &mut Buffers)) -> f64 {
     let start = Instant::now();
     for input in part {
-        work(black_box(input), buffer);
+        work(black_box(input), lent);
     }
     start.elapsed().as_nanos() as f64
 }
 
 impl Times {
     /// Each part is worked on by turns, one pass each; every second round begins with the other code.
-    pub fn new<T, P, Q>(inputs: &[T], rounds: usize, buffer: &mut [u8], work: &Work<P, Q>) -> Self
+    pub fn new<T, P, Q>(inputs: &[T], rounds: usize, lent: &mut Buffers, work: &Work<P, Q>) -> Self
     where
-        P: Fn(&T, &mut [u8]),
-        Q: Fn(&T, &mut [u8]),
+        P: Fn(&T, &mut Buffers),
+        Q: Fn(&T, &mut Buffers),
     {
         let parts: Vec<_> = inputs.chunks(PART).collect();
         let mut times = vec![(vec![], vec![]); parts.len()];
         for round in 0..rounds {
             for (part, (proved, plain)) in parts.iter().zip(&mut times) {
                 if round % 2 == 0 {
-                    proved.push(pass(part, buffer, &work.proved));
+                    proved.push(pass(part, lent, &work.proved));
                 }
-                plain.push(pass(part, buffer, &work.plain));
+                plain.push(pass(part, lent, &work.plain));
                 if round % 2 != 0 {
-                    proved.push(pass(part, buffer, &work.proved));
+                    proved.push(pass(part, lent, &work.proved));
                 }
             }
         }

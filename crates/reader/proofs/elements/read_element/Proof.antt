@@ -13,11 +13,11 @@ add-back-2 : tie.Need-add-back-2
 add-back-2 c = omega (arith, c .head-bits .ensures .1, c .before .before .before .before .before .before .before .before .before .before .before .before .read-size .ensures .1)
 
 read-body-requires : tie.Need-read-body-requires
-read-body-requires c κs = let p = c .before .before .before .before .before .before .before .before .before .before .before .before .before .before .before .before .pre in (p .0, p .2, p .3, p .4)
+read-body-requires c κs = let p = c .before .before .before .before .before .before .before .before .before .before .before .before .before .before .before .before .before .pre in (p .0, p .2, p .3, p .4, p .5)
 
 returns : tie.Need-returns
 returns c =
-    let h = c .before .before .before .before .before in
+    let h = c .before .before .before .before .before .before in
     let k = h .before in
     let a = k .before .before in
     let i = a .before .before in

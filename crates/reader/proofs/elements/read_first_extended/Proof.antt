@@ -12,7 +12,7 @@ returns c =
     let k = c .before .before .refuse-if2 .ensures in
     let g = c .before .before .before .before .refuse-if .ensures in
     let p = c .before .before .before .before .before .before .pre in
-    extended-refused _ _ _ (p .2) (p .1) (worth (sym (g .0)) (g .1)) (worth (sym (k .0)) (k .1)) (c .if1 .taken)
+    λ table m. extended-refused _ _ _ (p .2) m (p .1) (worth (sym (g .0)) (g .1)) (worth (sym (k .0)) (k .1)) (c .if1 .taken)
 
 mul-read-extended : tie.Need-mul-read-extended
 mul-read-extended c =
@@ -30,7 +30,7 @@ returns-2 c =
     let k = i .before .before .refuse-if2 .ensures in
     let g = i .before .before .before .before .refuse-if .ensures in
     let p = i .before .before .before .before .before .before .pre in
-    extended-read _ _ _ (p .2) (p .1) (worth (sym (g .0)) (g .1)) (worth (sym (k .0)) (k .1)) (i .if1 .left) (c .read-extended .ensures)
+    λ table m. extended-read _ _ _ (p .2) m (p .1) (worth (sym (g .0)) (g .1)) (worth (sym (k .0)) (k .1)) (i .if1 .left) (c .read-extended .ensures)
 
 pub read-first-extended-spec : {M : Type 1} → statement M
 read-first-extended-spec =

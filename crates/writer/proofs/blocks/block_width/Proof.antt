@@ -11,7 +11,7 @@ returns c =
     let opening = c .before .before .before .before .opening .ensures in
     let ending = c .before .before .before .ending .ensures in
     let middle = c .before .before .middle-width .ensures in (
-      block-length (a .first) (a .s) (c .before .before .before .before .before .carries-of .result) _ _ _ (c .before .before .before .before .before .carries-of .ensures) (packs-length (opening .0)) (middle .0) (packs-length (ending .0)),
+      block-length (a .first) (a .s) (c .before .before .before .before .before .carries .result) _ _ _ (c .before .before .before .before .before .carries .ensures) (packs-length (opening .0)) (middle .0) (packs-length (ending .0)),
       omega (arith, middle .1, opening .1 .1, ending .1 .1),
     )
 

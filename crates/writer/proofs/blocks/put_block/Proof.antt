@@ -11,14 +11,14 @@ returns : tie.Need-returns
 returns c =
     let a = c .before .before .before .before .before .before .before .args in
     let h = c .before .before .put-full .ensures in
-    (laid-is (block-parts (a .first) (a .s) true (sym (c .before .before .before .before .if1 .taken) ∙ c .before .before .before .before .before .carries-of .ensures)) (h .0), h .1)
+    (laid-is (block-parts (a .first) (a .s) true (sym (c .before .before .before .before .if1 .taken) ∙ c .before .before .before .before .before .carries .ensures)) (h .0), h .1)
 
 returns-2 : tie.Need-returns-2
 returns-2 c =
     let a = c .before .before .before .before .before .before .before .before .args in
     let all = c .before .before .before .before .short .ensures in
     let h = c .before .before .put-packed .ensures in
-    (laid-is (all .0 .same ∙ block-parts (a .first) (a .s) false (sym (c .before .before .before .before .before .if1 .left) ∙ c .before .before .before .before .before .before .carries-of .ensures)) (h .0), omega (arith, h .1, all .1 .1))
+    (laid-is (all .0 .same ∙ block-parts (a .first) (a .s) false (sym (c .before .before .before .before .before .if1 .left) ∙ c .before .before .before .before .before .before .carries .ensures)) (h .0), omega (arith, h .1, all .1 .1))
 
 pub put-block-spec : {M : Type 1} → statement M
 put-block-spec =

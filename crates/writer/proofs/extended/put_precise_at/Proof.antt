@@ -9,7 +9,7 @@ same-length : tie.Need-same-length
 same-length c = laid-length (c .before .before .put-precise .ensures .0)
 
 returns : tie.Need-returns
-returns c = (precise-at _ _ _ _ _ _ _ _ _ (c .before .before .before .before .before .before .scene-at .ensures .0 (search needs)) (c .before .before .before .before .before .carries-of .ensures) (c .before .before .before .before .precise-at .ensures .0 (search needs)) (c .before .before .put-precise .ensures .0), omega (arith, c .before .before .put-precise .ensures .1))
+returns c = (precise-at _ _ _ _ _ _ _ _ _ (c .before .before .before .before .before .before .scene-at .ensures .0 (search needs)) (c .before .before .before .before .before .carries .ensures) (c .before .before .before .before .precise-at .ensures .0 (search needs)) (c .before .before .put-precise .ensures .0), omega (arith, c .before .before .put-precise .ensures .1))
 
 pub put-precise-at-spec : {M : Type 1} → statement M
 put-precise-at-spec =

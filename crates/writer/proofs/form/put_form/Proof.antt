@@ -1,50 +1,90 @@
 -- `put_form` meets its contract: the parts of the form, laid in their order. Assumes nothing.
 use borrow.Author.Needs.{needs}
 use denote.Ref.{now}
-use mathlib.Core.Bool.{Bool, true}
-use mathlib.Core.Path.{sym, ap, ap₂, _∙_}
+use mathlib.Core.List.{List}
+use mathlib.Core.Path.{sym, ap, _∙_}
 use Prim.Native.Nat.{ℕ, _+_}
 use native.Mathlib.Omega.{arith}
+use lib.Dec.{ltb}
 use lib.ListN.{length}
-use Rattle.bits.specs.Language.{pick}
 use Rattle.bits.specs.Writes.{only}
-use Rattle.written.specs.Form.{extendedElementBits, elementBits, hasExtended}
+use Rattle.written.specs.Form.{extendedElementBits, elementBits}
 use Rattle.written.specs.Answer.{recordsAt, tablesOf}
 use Rattle.writer.proofs.LayLaws.{laid-is}
-use Rattle.writer.proofs.Whole.{form-laid}
+use Rattle.writer.proofs.Extra.{needed-of, extended-there}
+use Rattle.writer.proofs.Trims.{trim-there}
+use Rattle.writer.proofs.Whole.{object-any, form-laid}
 use Rattle.writer.proofs.form.put_form.Statement.{statement}
 use Rattle.writer.proofs.form.put_form.Tie as tie
 
+put-object-element-if-requires : tie.Need-put-object-element-if-requires
+put-object-element-if-requires c κs =
+    let count = c .before .before .before .before in
+    let header = count .before .before .before .before in
+    let zero = header .before in
+    let start = zero .before .before .before .before .before .before .before .before .before .before .before .before in
+    let a = start .args in
+    let e = start .pre .0 in
+    let m = start .pre .1 in
+    let n = ap (λ (l : List ℕ). 1 + length l) (sym (object-any (a .q) (a .t) (now (a .records)) (now (a .trim)))) in
+    (omega (arith, count .put .ensures .1, header .put-header .ensures .1, zero .new .ensures), ((e .blocks, e .records), (m .small .1, m .object ∙ n)))
+
 put-extended-element-if-requires : tie.Need-put-extended-element-if-requires
 put-extended-element-if-requires c κs =
-    let s = c .before .before .before .before .before .before .before .before .before .before .before .before .before .before .before .before .before .before .before .before .before in
-    let bytes = now (s .args .records) in
-    let m = s .pre .1 .1 in
-    let header = c .before .before .before .before .before .before .before .before .before .before .before .before .put-header .ensures .1 in
-    let count = c .before .before .before .before .before .before .before .before .put .ensures .1 in
-    let object = c .before .before .before .put-object-element-if .ensures .1 in
-    let start = c .before .before .before .before .before .before .before .before .before .before .before .before .before .new .ensures in
-    let n = ap (λ (k : ℕ). 1 + length (extendedElementBits (recordsAt bytes k 0))) (sym (s .pre .0 .2)) in
-    (omega arith, ((s .pre .0 .3, s .pre .0 .4), (s .pre .1 .0, (m .small .1, m .extended ∙ n))))
+    let object = c .before .before .before in
+    let count = object .before .before .before .before .before in
+    let header = count .before .before .before .before in
+    let zero = header .before in
+    let start = zero .before .before .before .before .before .before .before .before .before .before .before .before in
+    let records = now (start .args .records) in
+    let m = start .pre .1 in
+    let n = ap (λ (k : ℕ). 1 + length (extendedElementBits (recordsAt records k 0))) (sym (m .count)) in (
+      omega (arith, object .put-object-element-if .ensures .1, count .put .ensures .1, header .put-header .ensures .1, zero .new .ensures, start .good),
+      ((m .small .0, omega (arith, m .count, start .pre .0 .records)), (needed-of records (sym (m .count)) (m .needed), (m .small .2, m .extended ∙ n))),
+    )
+
+put-trim-element-if-requires : tie.Need-put-trim-element-if-requires
+put-trim-element-if-requires c κs =
+    let extended = c .before .before .before in
+    let object = extended .before .before .before .before in
+    let count = object .before .before .before .before .before in
+    let header = count .before .before .before .before in
+    let zero = header .before in
+    let start = zero .before .before .before .before .before .before .before .before .before .before .before .before in
+    let m = start .pre .1 in (
+      omega (arith, extended .put-extended-element-if .ensures .1, object .put-object-element-if .ensures .1, count .put .ensures .1, header .put-header .ensures .1, zero .new .ensures, m .small .0, start .good),
+      (start .pre .0 .trim, (m .small .3, m .trim)),
+    )
 
 returns : tie.Need-returns
-unfolding hasExtended
 returns c =
-    let s = c .before .before .before .before .before .before .before .before .before .before .before .before .before .before .before .before .before .before .before .before .before .before .before .before in
-    let a = s .args in
-    let bytes = now (a .records) in
-    let e = s .pre .0 .2 in
-    let some = c .before .before .before .before .before .before .before .before .before .before .before .before .before .before .before .before .before .before .before .before .before .either .ensures ∙ ap₂ (λ (x y : Bool). pick x true y) (s .pre .1 .0 .diverges) (s .pre .1 .0 .refines)
-    ∙ ap (λ (k : ℕ). hasExtended (recordsAt bytes k 0)) e in
-    form-laid (tablesOf (a .q) (a .t) bytes) _ some _ _ _ _ _ _ _ _ _ _ _ _ (c .before .before .before .before .before .before .before .before .before .before .before .before .before .before .before .before .new .ensures) (c .before .before .before .before .before .before .before .before .before .before .before .before .before .before .before .before .before .before .before .as-flag .ensures) (c .before .before .before .before .before .before .before .before .before .before .before .before .before .before .before .before .before .before .as-flag2 .ensures)
-    (c .before .before .before .before .before .before .before .before .before .before .before .before .before .before .before .put-header .ensures .0) (c .before .before .before .before .before .before .before .before .before .before .before .put .ensures .0) (c .before .before .before .before .before .before .put-object-element-if .ensures .0)
-    (laid-is (ap (λ (k : ℕ). only (c .before .before .before .before .before .before .before .before .before .before .before .before .before .before .before .before .before .before .before .before .before .either .result) (elementBits 5 (extendedElementBits (recordsAt bytes k 0)))) e) (c .before .before .put-extended-element-if .ensures .0))
+    let trim = c .before .before in
+    let extended = trim .before .before .before .before in
+    let object = extended .before .before .before .before in
+    let count = object .before .before .before .before .before in
+    let header = count .before .before .before .before in
+    let zero = header .before in
+    let three = zero .before .before in
+    let two = three .before in
+    let one = two .before in
+    let some = one .before .before .before in
+    let start = some .before .before .before .before .before in
+    let a = start .args in
+    let records = now (a .records) in
+    let m = start .pre .1 in
+    let n = ap (λ (k : ℕ). only (some .either .result) (elementBits 5 (extendedElementBits (recordsAt records k 0)))) (m .count) in
+    form-laid (tablesOf (a .q) (a .t) records (now (a .trim))) _ _ (extended-there (m .needed) (some .either .ensures)) (trim-there (a .q .objects) (now (a .trim)))
+    (zero .new .ensures) (one .as-flag .ensures) (two .as-flag2 .ensures) (three .as-flag3 .ensures) (header .put-header .ensures .0) (count .put .ensures .0)
+    (laid-is (ap (λ (l : List ℕ). only (ltb 0 (a .t .blocks)) (elementBits 1 l)) (object-any (a .q) (a .t) records (now (a .trim)))) (object .put-object-element-if .ensures .0))
+    (laid-is n (extended .put-extended-element-if .ensures .0)) (trim .put-trim-element-if .ensures .0)
 
 pub put-form-spec : {M : Type 1} → statement M
 put-form-spec =
     tie.close
     (tie.spec
     (λ c κs. search needs)
+    (λ c. search needs)
+    (λ c κs. search needs)
     (λ c κs. search needs)
     (λ c κs. search needs)
     (λ c κs. search needs)
@@ -52,8 +92,11 @@ put-form-spec =
     (λ c. search needs)
     (λ c. search needs)
     (λ c. search needs)
+    (λ c. search needs)
+    (λ c. search needs)
     (λ c κs. search needs)
-    (λ c κs. search needs)
+    put-object-element-if-requires
     put-extended-element-if-requires
+    put-trim-element-if-requires
     (λ c. search needs)
     returns)

@@ -1,5 +1,6 @@
 use borrow.Author.Needs.{needs}
 use denote.Ref.{now}
+use mathlib.Core.List.{[]}
 use native.Mathlib.Omega.{arith}
 use Rattle.written.specs.Answer.{tablesOf}
 use Rattle.writer.proofs.Records.{element-length}
@@ -13,7 +14,7 @@ returns c =
     let start = c .before .before .before .before .before .before .new .ensures in
     let objects = c .before .objects-width .ensures in
     let end = c .raw .ensures in
-    (element-length (tablesOf (a .q) (a .t) (now (a .records))) _ _ (omega (arith, timing .0 .next)) (objects .0), omega (arith, timing .1, objects .1))
+    (element-length (tablesOf (a .q) (a .t) (now (a .records)) []) _ _ (omega (arith, timing .0 .next)) (objects .0), omega (arith, timing .1, objects .1))
 
 pub object-inside-spec : {M : Type 1} → statement M
 object-inside-spec =

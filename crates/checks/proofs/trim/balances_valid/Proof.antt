@@ -1,0 +1,25 @@
+use borrow.Author.Needs.{needs}
+use Rattle.checks.specs.Parts.{balancesValid}
+use Rattle.checks.proofs.trim.balances_valid.Statement.{statement}
+use Rattle.checks.proofs.trim.balances_valid.Tie as tie
+
+returns : tie.Need-returns
+unfolding balancesValid
+returns c = cc
+
+pub balances-valid-spec : {M : Type 1} → statement M
+balances-valid-spec =
+    tie.close
+    (tie.spec
+    (λ c. search needs)
+    (λ c κs. search needs)
+    (λ c. search needs)
+    (λ c κs. search needs)
+    (λ c κs. search needs)
+    (λ c κs. search needs)
+    (λ c κs. search needs)
+    (λ c κs. search needs)
+    (λ c κs. search needs)
+    (λ c κs. search needs)
+    (λ c κs. search needs)
+    returns)

@@ -1,0 +1,25 @@
+use borrow.Author.Needs.{needs}
+use Rattle.written.specs.Valid.{configValid}
+use Rattle.checks.specs.Parts.{balancesValid, trimsValid}
+use Rattle.checks.proofs.trim.config_valid.Statement.{statement}
+use Rattle.checks.proofs.trim.config_valid.Tie as tie
+
+returns : tie.Need-returns
+unfolding configValid trimsValid balancesValid
+returns c = cc
+
+pub config-valid-spec : {M : Type 1} → statement M
+config-valid-spec =
+    tie.close
+    (tie.spec
+    (λ c κs. search needs)
+    (λ c κs. search needs)
+    (λ c κs. search needs)
+    (λ c κs. search needs)
+    (λ c κs. search needs)
+    (λ c κs. search needs)
+    (λ c κs. search needs)
+    (λ c κs. search needs)
+    (λ c κs. search needs)
+    (λ c κs. search needs)
+    returns)

@@ -1,0 +1,27 @@
+use borrow.Author.Needs.{needs}
+use Rattle.checks.specs.Parts.{trimsValid}
+use Rattle.checks.proofs.trim.trims_valid.Statement.{statement}
+use Rattle.checks.proofs.trim.trims_valid.Tie as tie
+
+returns : tie.Need-returns
+unfolding trimsValid
+returns c = cc
+
+pub trims-valid-spec : {M : Type 1} → statement M
+trims-valid-spec =
+    tie.close
+    (tie.spec
+    (λ c. search needs)
+    (λ c κs. search needs)
+    (λ c. search needs)
+    (λ c κs. search needs)
+    (λ c. search needs)
+    (λ c κs. search needs)
+    (λ c κs. search needs)
+    (λ c κs. search needs)
+    (λ c κs. search needs)
+    (λ c κs. search needs)
+    (λ c κs. search needs)
+    (λ c κs. search needs)
+    (λ c κs. search needs)
+    returns)

@@ -1,0 +1,48 @@
+-- `read_configs` meets its contract (`TrimLoop.antt`). Assumes nothing.
+use mathlib.Core.Path.{_≡_, refl}
+use Prim.Native.Nat.{_+_, _-_, _*_, _≤_}
+use native.Mathlib.Omega.{arith}
+use Rattle.bits.specs.Language.{bit}
+use Rattle.oamd.specs.Tables.{trimConfigs, configBytes}
+use Rattle.oamd.specs.Trim.{trim-config, configsBytesOf}
+use Rattle.reader.proofs.TrimLoop.{Laying, none-laid, one-laid, all-laid, count-configs, next-config}
+use borrow.Author.Needs.{needs}
+use Rattle.reader.proofs.trim.read_configs.Statement.{statement}
+use Rattle.reader.proofs.trim.read_configs.Tie as tie
+
+abbrev Inv-loop : tie.InvT-loop
+Inv-loop s l out₀ cur₀ at₀ i₀ out cur at i =
+    (i ≤ trimConfigs) × (at ≡ 3 + configBytes * i)
+    × Laying trimConfigs (λ cfg. trim-config) configsBytesOf configBytes 3 (bit s) cur₀ l out₀ count-configs i cur out
+
+abbrev μ-loop : tie.MeasureT-loop
+μ-loop s l out₀ cur₀ at₀ i₀ out cur at i = trimConfigs - i
+
+loop-holds : tie.Need-loop-holds Inv-loop μ-loop
+unfolding configsBytesOf
+loop-holds c = (omega arith, omega arith, none-laid _ _ _ _ _ _ _ _ _ _ refl (c .before .pre))
+
+loop-again : tie.Need-loop-again Inv-loop μ-loop
+loop-again c =
+    let r = c .before .before .before .before in
+    let w = r .before .before .loop in (
+      omega arith,
+      omega arith,
+      rw (c .before .store-config .ensures)
+          (one-laid _ _ _ _ _ _ _ _ _ _ (w .inv .2) _ (w .at) 0 (omega arith) (next-config _) (omega arith) (omega arith) (r .read-trim-config .ensures)),
+    )
+
+pub read-configs-spec : {M : Type 1} → statement M
+read-configs-spec =
+    tie.close
+    (tie.spec
+    Inv-loop
+    μ-loop
+    loop-holds
+    (λ c κs. search needs)
+    (λ c κs. search needs)
+    (λ c. search needs)
+    (λ c. search needs)
+    (λ c. search needs)
+    loop-again
+    (λ c. all-laid _ _ _ _ _ _ _ _ _ _ (c .before .loop .inv .2) (omega arith) refl))
