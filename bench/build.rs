@@ -1,4 +1,5 @@
-//! With the feature `proved` and without `served`, links the proved library: target/staticlib/libhost.a, which `rt staticlib host` writes.
+//! With the feature `proved` and without `served`, links the proved library: target/staticlib/libhost.a, which `rt staticlib host` writes. The paths are
+//! relative to this folder, so that a copied tree links its own library.
 
 use std::path::Path;
 
@@ -8,7 +9,7 @@ fn main() {
     if !has("CARGO_FEATURE_PROVED") || has("CARGO_FEATURE_SERVED") {
         return;
     }
-    let folder = Path::new(env!("CARGO_MANIFEST_DIR")).join("../target/staticlib");
+    let folder = Path::new("../target/staticlib");
     let library = folder.join("libhost.a");
     assert!(
         library.exists(),

@@ -29,6 +29,7 @@ import vectors_object      # noqa: E402,F401
 import vectors_status      # noqa: E402,F401
 import vectors_extended    # noqa: E402,F401
 import vectors_trim        # noqa: E402,F401
+import vectors_alternate   # noqa: E402,F401
 from form import form, tables_of  # noqa: E402
 from helpers import VECTORS, count_, dyn_only, pack, version  # noqa: E402
 from written import HAND, TABLES, check_hand, check_tables  # noqa: E402

@@ -121,11 +121,10 @@ vector("alternate-0", "alternate flag with alternate id 0: known, an object and 
 vector("alternate-unknown", "an id-1 element with alternate id 3 alone", "unknown: no blocks",
        [dyn_header(1, 1, alt=1), unknown(1, 2, alt=3, fill=1)],
        lines("refusal=0 place=0 objects=1 bed=0 isf=0 dynamic=1 blocks=0 unknown=1"))
-vector("alternate-mixed", "id 5 alternate 1 first, id 1 alternate 8, then known ones, then id 1 alternate 15, id 5 alternate 2",
-       "4 unknown: none of them counts for refusal 6 or 7 (open point 16)",
-       [dyn_header(1, 6, alt=1), unknown(5, 1, alt=1), unknown(1, 1, alt=8, fill=1), element(1, OBJ, alt=0),
-        element(5, EXT, alt=0), unknown(1, 17, alt=15, fill=1), unknown(5, 1, alt=2)],
-       lines("refusal=0 place=0 objects=1 bed=0 isf=0 dynamic=1 blocks=1 unknown=4", OBJ_LINES))
+vector("alternate-mixed", "refusal 7: id 5 alternate 1 first, then id 1 alternate 8, 0 and 15, id 5 alternate 0 and 2",
+       "the extended element is known whatever its alternate id (open point 16); its id is at 14",
+       [dyn_header(1, 6, alt=1), HERE, element(5, EXT, alt=1), unknown(1, 1, alt=8, fill=1), element(1, OBJ, alt=0),
+        element(5, EXT, alt=0), unknown(1, 17, alt=15, fill=1), element(5, EXT, alt=2)], refused(7, 14))
 vector("alternate-unknown-id", "an unknown id with alternate ids 0 and 5", "unknown whatever the alternate id",
        [dyn_header(1, 3, alt=1), unknown(3, 1, alt=0, fill=1), unknown(3, 1, alt=5), element(1, OBJ, alt=0)],
        lines("refusal=0 place=0 objects=1 bed=0 isf=0 dynamic=1 blocks=1 unknown=2", OBJ_LINES))

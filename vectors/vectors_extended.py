@@ -97,7 +97,7 @@ vector("extended-nobody", "both flags set where no record carries anything", "an
 # Status default in block 1 is active: fields are read for it.  Unknown element between, alternate ids 0, size of two groups.
 vector("extended-default-status", "an active block of status default carries extended fields; alternate ids, an element between",
        "activity decides, not the status; block 1 has the defaults of Tables 28 and 29 and its own bytes 17-23",
-       [dyn_header(1, 3, alt=1), element(1, [plain_timing(2), ACTIVE, block(0, [], 0)], alt=0), unknown(5, 2, alt=9, fill=1),
+       [dyn_header(1, 3, alt=1), element(1, [plain_timing(2), ACTIVE, block(0, [], 0)], alt=0), unknown(1, 2, alt=9, fill=1),
         element(5, [DIV_BLOCK, NO_DIV, div_code(33), PREC_BLOCK, NO_PREC, prec(y=0)], alt=0, discard=1, bytes_=17, pad=1)],
        lines("refusal=0 place=0 objects=1 bed=0 isf=0 dynamic=1 blocks=2 unknown=1 block=0,0,0 block=1,32,0",
              R(0, 0, 1, 2, **P), R(0, 1, 1, 2, div=1, mode=2, dval=33, pres=2)))

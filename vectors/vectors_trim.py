@@ -134,12 +134,12 @@ vector("trim-end-of-both", "the fields end at the element's end which is the pay
        [BED_HEADER, element(2, TRIM)], lines("refusal=0 place=0 objects=6 bed=6 isf=0 dynamic=0 blocks=0 unknown=0"), trim=T(6, 0, 0))
 vector("trim-alternate-0", "alternate flag with alternate id 0: known", "4 + 1 + 6 + 1 = 12 bits",
        [dyn_header(1, 1, alt=1), element(2, [modes(1, 1), NO_FLAGS], alt=0)], lines(ONE), trim=T(1, 1, 1))
-vector("trim-alternate-unknown", "id 2 with alternate id 1 alone, all ones", "unknown: its warp mode 3 is not looked at; no trim table",
-       [dyn_header(1, 1, alt=1), unknown(2, 1, alt=1, fill=1)],
-       lines("refusal=0 place=0 objects=1 bed=0 isf=0 dynamic=1 blocks=0 unknown=1"))
-vector("trim-alternate-mixed", "id 2 with alternate ids 1, 0 and 15", "2 unknown: they do not count for refusal 6",
-       [dyn_header(1, 3, alt=1), unknown(2, 2, alt=1, fill=1), element(2, [modes(0, 1), NO_FLAGS], alt=0), unknown(2, 1, alt=15)],
-       lines("refusal=0 place=0 objects=1 bed=0 isf=0 dynamic=1 blocks=0 unknown=2"), trim=T(1, 0, 1))
+vector("trim-alternate-1", "id 2 with alternate id 1 alone, reserved warp mode 3, padding of ones",
+       "known whatever its alternate id: refusal 5 at 14 + 4 + 5 + 4 + 1 = 28",
+       [dyn_header(1, 1, alt=1), element(2, [HERE, ("warp_mode", 2, 3)], alt=1, pad=1)], refused(5, 28))
+vector("trim-alternate-mixed", "id 2 with alternate ids 1, 0 and 15, the first with warp mode 3", "refused at the first, before refusal 6: 28",
+       [dyn_header(1, 3, alt=1), element(2, [HERE, modes(3, 3, reserved=3), ("b_disable_trim_per_obj", 1, 1)], alt=1, bytes_=2, pad=1),
+        element(2, [modes(0, 1), NO_FLAGS], alt=0), element(2, [], alt=15)], refused(5, 28))
 vector("trim-reserved-content", "a trim element in a programme with reserved content", "3 objects, 2 of them left over; no form",
        [version(), count_(2), content(reserved=1, dynamic=1), dyn_(0), reserved_content(0, 255), tail(1),
         element(2, [modes(0, 0), object_trims([0, 1, 1])])], lines(THREE), trim=T(3, 0, 0, flags=[0, 1, 1]))

@@ -415,6 +415,25 @@ hand_table("trim-objects", """
      byte 93: 01; b_disable_trim_per_obj 1
      objects 0 to 4: 01 00 00 01 01; b_disable_trim 1, 0, 0, 1, 1""")
 
+# ------------------------------------------------------------------------------- alternate ids
+
+# The object element as in plain: 6 bytes.  1 + 1 + 1 + 2 + 6 + 1 = 12 bits: 2 bytes, size 1.  14 + 57 + 25 = 96 bits.
+hand("alternate-divergence", "no alternate ids, though they were read; the divergence that stood behind one; no padding of the payload",
+     header("00000", "0", "0010") + """
+     element: oa_element_id_idx 0001, size read 0101, size b_read_more 0, b_discard_unknown_element 0
+     """ + TIMING1 + """
+     object 0: """ + PLAIN + """
+     end: padding 00
+     element: oa_element_id_idx 0101, size read 0001, size b_read_more 0, b_discard_unknown_element 0
+     extended: b_obj_div_block 1, b_object_divergence 1, object_div_mode 10, object_div_code 101000, b_ext_prec_pos_block 0
+     end: padding 0000""", "01085400045f7c0100a27500")
+hand_table("alternate-trim", """
+     byte 0: 01; the element is there; its alternate id 0101 has no byte
+     bytes 1 and 2: 01 01; warp_mode 01, global_trim_mode 01
+     configurations 0 to 8: """ + " ".join([ZEROS] * 9) + """; not carried: the mode is not 2
+     byte 93: 01; b_disable_trim_per_obj 1
+     objects 0 to 2: 00 01 01; b_disable_trim 0, 1, 1""")
+
 # ------------------------------------------------------------------------------- large
 
 # Object o is active if o is a multiple of 10, in block o mod 8, which is record 8 o + o mod 8: 0, 82, 164, 246, 320, 402, 484, 566,

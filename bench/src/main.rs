@@ -14,7 +14,8 @@ struct Tally {
     written: [u64; 12],
     rewritten: [u64; 12],
     kinds: BTreeMap<&'static str, [u64; 12]>,
-    /// Accepted undamaged payloads by branch.
+    /// Undamaged payloads by branch: accepted ones, but refused ones in the group
+    /// of refused elements.
     branches: Vec<[u64; 32]>,
     /// All undamaged payloads by number of size groups.
     groups: [u64; 6],
@@ -92,14 +93,17 @@ fn one(case: &Case, tally: &mut Tally) -> Result<(), String> {
     if let (9, Some(tables)) = (answer.refusal, &case.tables) {
         tally.no_room[usize::from(tables.records.len() <= case.room)] += 1;
     }
-    if answer.refusal != 0 {
-        return Ok(());
+    if answer.refusal == 0 {
+        let write = check_rewrite(case, &answer)?;
+        tally.rewritten[write.refusal as usize] += 1;
     }
-    let write = check_rewrite(case, &answer)?;
-    tally.rewritten[write.refusal as usize] += 1;
     for (group, (values, _)) in GROUPS.iter().enumerate() {
+        let counted = match answer.refusal {
+            6 | 7 => group == Group::RefusedAlternate as usize,
+            refusal => refusal == 0,
+        };
         for value in 0..*values {
-            if case.marks.has(group, value) {
+            if counted && case.marks.has(group, value) {
                 tally.branches[group][value] += 1;
             }
         }
@@ -127,7 +131,7 @@ fn report(tally: &Tally) -> ExitCode {
     println!("\nundamaged payloads, accepted or not, by size groups");
     println!("    {:?}", tally.groups);
     missed |= tally.groups[1..].contains(&0);
-    println!("\naccepted undamaged payloads by branch");
+    println!("\nundamaged payloads by branch: accepted ones, unless said otherwise");
     for (group, (values, text)) in GROUPS.iter().enumerate() {
         let counts = &tally.branches[group][..*values];
         println!("{text}\n    {counts:?}");

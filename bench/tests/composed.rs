@@ -53,8 +53,8 @@ fn moved_and_mixed() {
 }
 
 /// Bed (L/R, C, LFE), ISF 0 and two dynamic objects: 4 + 4 + 2, one block; gain
-/// index 3 down the objects; divergence and a precise position; an id-1 element
-/// of another alternate id before all.
+/// index 3 down the objects; divergence and a precise position behind an alternate
+/// id; an id-1 element of another alternate id before all.
 fn ten_objects() -> (Answer, Vec<u8>) {
     let header = "00 01001  0 0111  1 0  0 1 0000000111  000  00001  1 0011 ";
     let object = "0000 1  00 000 000000 01  1
@@ -65,7 +65,7 @@ fn ten_objects() -> (Answer, Vec<u8>) {
     let elements = [
         element(1, "0111 1 101"),
         element(1, object),
-        element(5, "0000 0  1  1 10 111111  0   1  1 101 01 10  0"),
+        element(5, "1001 0  1  1 10 111111  0   1  1 101 01 10  0"),
     ];
     let (answer, records) = read_all(&bytes(&format!("{header}{}", elements.concat())));
     assert_eq!((answer.refusal, answer.place, answer.unknown), (0, 0, 1));

@@ -100,22 +100,52 @@ fn twice_and_early() {
     assert_eq!(refusal(&format!("{ONE} 0001 0101 1111 0 0")), (2, 18));
 }
 
+/// One object with alternate ids.
+const ALTERNATE: &str = "00 00000 1 0 1 ";
+
+/// Of another alternate id an object element is unknown, an extended one is not.
 #[test]
 fn alternate_ids() {
-    let header = "00 00000 1 0 1 ";
     let known = element(1, &format!("0000 {INACTIVE}"));
     let other = element(1, "0001 0 111");
-    let extended = element(5, "0000 0 0 0");
-    let width = other.replace(' ', "").len() as u64;
-    let payload = format!("{header} 0011 {other}{known}{other}");
-    let (answer, _) = read_all(&bytes(&payload));
-    assert_eq!(
-        (answer.refusal, answer.unknown, answer.timing.blocks),
-        (0, 2, 1)
-    );
-    // An object element of another alternate id does not come before 7.
-    let payload = format!("{header} 0010 {other}{extended}");
-    assert_eq!(refusal(&payload), (7, 14 + width));
+    for id in ["0000", "0001", "1111"] {
+        let extended = element(5, &format!("{id} 0 0 0"));
+        let payload = format!("{ALTERNATE} 0100 {other}{known}{other}{extended}");
+        let (answer, _) = read_all(&bytes(&payload));
+        assert_eq!((answer.refusal, answer.unknown), (0, 2));
+        assert_eq!(answer.timing.blocks, 1);
+        assert_eq!(
+            refusal(&format!("{ALTERNATE} 0010 {extended}{known}")),
+            (7, 14)
+        );
+        // An object element of another alternate id does not come before 7.
+        let payload = format!("{ALTERNATE} 0010 {other}{extended}");
+        assert_eq!(refusal(&payload), (7, 14 + 17));
+        // The alternate ids of two extended elements need not be the same for 6.
+        for first in ["0000", "0001"] {
+            let first = element(5, &format!("{first} 0 0 0"));
+            let payload = format!("{ALTERNATE} 0011 {known}{first}{extended}");
+            assert_eq!(refusal(&payload), (6, 14 + 33 + 17));
+        }
+    }
+}
+
+/// Behind an alternate id the fields of an extended element are read as ever:
+/// the block flag is 4 bits further.
+#[test]
+fn reserved_divergence_behind_an_alternate_id() {
+    let object = "0000 0 00 000 000000 00 1  0 00 1  000000 000000 0 0000 0  000 0 00 0 0 0";
+    let object = element(1, object);
+    let base = 14 + object.replace(' ', "").len() as u64;
+    let at = |content: &str| {
+        let extended = element(5, content);
+        refusal(&format!("{ALTERNATE} 0010 {object}{extended}"))
+    };
+    assert_eq!(at("0111 0 1 1 11 000000 0"), (5, base + 9 + 7));
+    assert_eq!(at("0111 0 1 1 10 000000 0"), (5, base + 9 + 9));
+    // The second bit of the mode is past the element's end.
+    assert_eq!(at("0111 0 1 1 1"), (8, base + 9 + 7));
+    assert_eq!(at("0111 0 1 1 10 000001 0"), (0, 0));
 }
 
 #[test]

@@ -27,6 +27,9 @@ const CONFIG_BYTES: [[u8; 10]; 9] = [
 /// Three dynamic objects: 14 bits up to the first id.
 const THREE: &str = "00 00010 1 0 0 ";
 
+/// The same with alternate ids.
+const ALTERNATE: &str = "00 00010 1 0 1 ";
+
 /// A table of three objects, from its parts.
 fn table(modes: [u8; 2], configs: &[[u8; 10]; 9], objects: [u8; 4]) -> Vec<u8> {
     [&[1][..], &modes, configs.as_flattened(), &objects].concat()
@@ -91,11 +94,21 @@ fn without_the_element() {
     let none = format!("{THREE} 0000");
     assert_eq!(trim_of(&none), [0; 97]);
     assert_eq!(written(&[0; 97]), Ok(bytes(&none)));
-    // Of another alternate id it is unknown, whatever it holds.
-    let other = format!("00 00010 1 0 1 0001 {}", element(2, "0001 1 111"));
-    let (answer, _, trim) = read_both(&bytes(&other));
-    assert_eq!((answer.refusal, answer.unknown), (0, 1));
-    assert_eq!(trim[..97], [0; 97]);
+}
+
+/// Its alternate id is read and ignored (Table 27).
+#[test]
+fn every_alternate_id() {
+    let expected = table([1, 1], &[[0; 10]; 9], [1, 0, 1, 0]);
+    for id in 0..16 {
+        let trim = element(2, &format!("{id:04b} {TRIM}"));
+        let text = format!("{ALTERNATE} 0001 {trim}");
+        assert_eq!(trim_of(&text), expected);
+        assert_eq!(read_both(&bytes(&text)).0.unknown, 0);
+        // Its fields are looked at: warp 3, behind 14 + 9 + 5 bits.
+        let bad = element(2, &format!("{id:04b} 1 11 1"));
+        assert_eq!(refusal(&format!("{ALTERNATE} 0001 {bad}")), (5, 28));
+    }
 }
 
 /// An object element of three inactive objects in one block, an extended one.
@@ -132,10 +145,15 @@ fn twice() {
     // A size that does not fit comes first.
     let long = "0010 1111 0 0";
     assert_eq!(refusal(&format!("{THREE} 0010 {trim}{long}")), (2, 43));
-    // One of another alternate id does not count.
-    let (one, other) = (element(2, "0000 0 00 00 00 0"), element(2, "0011 0 111"));
-    let text = format!("00 00010 1 0 1 0010 {other}{one}");
-    assert_eq!(refusal(&text), (0, 0));
+    // One of another alternate id counts, in each order.
+    let [one, other] = ["0000", "0011"].map(|id| element(2, &format!("{id} 0 00 00 00 0")));
+    for elements in [[&one, &other], [&other, &one], [&other, &other]] {
+        let text = elements.map(String::as_str).concat();
+        assert_eq!(
+            refusal(&format!("{ALTERNATE} 0010 {text}")),
+            (6, 14 + 4 + 5 + 16)
+        );
+    }
 }
 
 #[test]
@@ -171,8 +189,10 @@ fn past_the_element() {
         ))
     };
     // With an alternate id 4 bits fewer are left: the reserved field is cut.
-    let alternate = "00 00010 1 0 1 0001 0010 0000 0  0000 0 01 00 00 1";
-    assert_eq!(refusal(alternate), (8, 23 + 7));
+    for id in ["0000", "1000"] {
+        let alternate = format!("{ALTERNATE} 0001 0010 0000 0  {id} 0 01 00 00 1");
+        assert_eq!(refusal(&alternate), (8, 23 + 7));
+    }
     // One byte: discard 1 and modes 6, then the first configuration's flag.
     assert_eq!(cut(1, "0 00 00 10 0 0"), (8, 31));
     assert_eq!(cut(1, "0 00 00 10 1 0"), (8, 31));

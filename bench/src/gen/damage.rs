@@ -152,13 +152,15 @@ impl Gen {
         draft.field(4, count);
         for index in 0..count {
             let ids = [[1, 1, 2, 5], [5, 5, 1, 2]][index.min(1)];
-            draft.field(4, self.rng.pick(&ids));
+            let id = self.rng.pick(&ids);
+            draft.field(4, id);
             let most = 4 + 12 * usize::from(programme.objects);
             let bytes = self.rng.within(1, most);
             draft.size(bytes);
             let mut width = 8 * bytes;
             if alternate {
-                draft.number(4, usize::from(self.rng.chance(10)));
+                let other = self.rng.chance(if id == 1 { 10 } else { 50 });
+                draft.number(4, if other { self.rng.within(1, 15) } else { 0 });
                 width -= 4;
             }
             for _ in 0..width {

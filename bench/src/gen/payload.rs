@@ -14,6 +14,9 @@ pub struct Whole {
     pub tables: Tables,
 }
 
+/// The mark of an object element of another alternate id.
+const OTHER_OBJECT: usize = 4;
+
 /// What stands in one place of the list of elements.
 #[derive(Clone, Copy, PartialEq)]
 enum Item {
@@ -220,7 +223,8 @@ impl Gen {
     }
 
     fn object_item(&mut self, draft: &mut Draft, elements: &mut Elements) {
-        let mut content = self.element_start(elements.alternate);
+        let alternate = self.alternate_id(elements, 1);
+        let mut content = self.element_start(alternate);
         if elements.object.is_some() {
             draft.fail(6);
             content.noise(&mut self.rng, 100);
@@ -234,14 +238,22 @@ impl Gen {
     }
 
     fn extended_item(&mut self, draft: &mut Draft, elements: &mut Elements) {
-        let mut content = self.element_start(elements.alternate);
+        let alternate = self.alternate_id(elements, 5);
+        let mut content = self.element_start(alternate);
         match &mut elements.object {
             Some(object) if !elements.extended => {
                 let records: &mut [Record] = &mut object.records;
                 self.extended_element(&mut content, records);
             }
             object => {
-                draft.fail(if object.is_some() { 6 } else { 7 });
+                let other = self.marks.has(Group::Element as usize, OTHER_OBJECT);
+                let (refusal, mark) = match (object.is_some(), other) {
+                    (true, _) => (6, 0),
+                    (false, false) => (7, 2),
+                    (false, true) => (7, 3),
+                };
+                draft.fail(refusal);
+                self.mark_refused(alternate, mark);
                 content.noise(&mut self.rng, 100);
             }
         }
@@ -250,9 +262,11 @@ impl Gen {
     }
 
     fn trim_item(&mut self, draft: &mut Draft, elements: &mut Elements) {
-        let mut content = self.element_start(elements.alternate);
+        let alternate = self.alternate_id(elements, 2);
+        let mut content = self.element_start(alternate);
         if elements.trim.is_some() {
             draft.fail(6);
+            self.mark_refused(alternate, 1);
             content.noise(&mut self.rng, 20);
         } else {
             let objects = usize::from(elements.programme.objects);
@@ -261,11 +275,35 @@ impl Gen {
         self.known(draft, 2, content);
     }
 
+    /// The alternate id of a known element, where such ids are sent: 0 for the
+    /// object element, any for the others (Table 27).
+    fn alternate_id(&mut self, elements: &Elements, id: usize) -> Option<usize> {
+        if !elements.alternate {
+            return None;
+        }
+        let other = id != 1 && self.rng.chance(50);
+        let mark = match id {
+            1 => 0,
+            5 => 1,
+            _ => 3,
+        };
+        self.marks
+            .set(Group::AlternateId, mark + usize::from(other));
+        Some(if other { self.rng.within(1, 15) } else { 0 })
+    }
+
+    /// Marks an element that is refused, if its alternate id is not 0.
+    fn mark_refused(&mut self, alternate: Option<usize>, mark: usize) {
+        if alternate.is_some_and(|id| id != 0) {
+            self.marks.set(Group::RefusedAlternate, mark);
+        }
+    }
+
     /// The alternate id of a known element and its discard flag.
-    fn element_start(&mut self, alternate: bool) -> Draft {
+    fn element_start(&mut self, alternate: Option<usize>) -> Draft {
         let mut content = Draft::default();
-        if alternate {
-            content.field(4, 0);
+        if let Some(id) = alternate {
+            content.field(4, id);
         }
         content.flag(self.rng.chance(50));
         content
@@ -318,32 +356,23 @@ impl Gen {
         }
     }
 
-    /// An element of another id, or of a known id with another alternate id.
+    /// An element of another id, or an object element of another alternate id.
     fn unknown(&mut self, draft: &mut Draft, alternate: bool, bytes: usize) {
-        let known = alternate && self.rng.chance(40);
-        let ids: &[usize] = if known {
-            &[1, 2, 5]
-        } else {
-            &[0, 3, 4, 6, 7, 8, 9, 10, 11, 12, 13, 14, 15]
-        };
-        let id = self.rng.pick(ids);
+        let object = alternate && self.rng.chance(40);
+        let ids = [0, 3, 4, 6, 7, 8, 9, 10, 11, 12, 13, 14, 15];
+        let id = if object { 1 } else { self.rng.pick(&ids) };
         draft.field(4, id);
         let groups = draft.size(bytes);
         self.marks.set(Group::SizeGroups, groups);
         let mut width = 8 * bytes;
         if alternate {
-            let least = usize::from(known);
+            let least = usize::from(object);
             let id = self.rng.within(least, 15);
             draft.number(4, id);
             width -= 4;
         }
         draft.noise(&mut self.rng, width);
-        let mark = match id {
-            1 => 4,
-            5 => 5,
-            2 => 6,
-            _ => 3,
-        };
+        let mark = if object { OTHER_OBJECT } else { 3 };
         self.marks.set(Group::Element, mark);
     }
 

@@ -106,10 +106,11 @@ fn element<'a>(bits: &mut Bits<'a>, alternate: bool) -> Result<(Kind, Bits<'a>),
     // The size counts from here (5.6.4.3): one byte holds both fields.
     let alternate_id = if alternate { body.take(4)? } else { 0 };
     body.flag()?;
+    // Table 27 gives the alternate id a meaning for the object element only.
     let kind = match (id, alternate_id) {
         (1, 0) => Kind::Object,
-        (2, 0) => Kind::Trim,
-        (5, 0) => Kind::Extended,
+        (2, _) => Kind::Trim,
+        (5, _) => Kind::Extended,
         _ => Kind::Unknown,
     };
     Ok((kind, body))

@@ -7,7 +7,7 @@ use lib.Dec.{eqb}
 use Rattle.bits.specs.declared.Size.{Size}
 use Rattle.bits.specs.declared.Refusal.the-variants.{Second, Early}
 use Rattle.bits.specs.Refusals.{numberOf}
-use Rattle.bits.specs.Language.{pick, P, give, within, _>>=_, bits, bitsIf, refuseIf}
+use Rattle.bits.specs.Language.{pick, both, P, give, within, _>>=_, bits, bitsIf, refuseIf}
 use Rattle.bits.specs.Size.{variable-bits-max}
 use Rattle.oamd.specs.declared.Kind.{Kind}
 use Rattle.oamd.specs.declared.Kind.the-variants.{Unknown, Object, Trim, Extended}
@@ -20,10 +20,11 @@ use Rattle.oamd.specs.Trim.{trim-element}
 use Rattle.oamd.specs.Meaning.{allScenes}
 use Rattle.oamd.specs.Record.{allCarry}
 
--- Table 26, as far as it is known here. An element with an alternate id other than 0 is unknown
+-- Table 26, as far as it is known here. Table 27 gives the alternate id a meaning for the object element only: with one other than 0 that element is
+-- unknown, and the other elements ignore it
 unfoldable pub kind : ℕ → ℕ → Kind
 kind oa-element-id-idx alternate =
-    pick (not (eqb alternate 0)) Unknown
+    pick (both (eqb oa-element-id-idx 1) (not (eqb alternate 0))) Unknown
     (pick (eqb oa-element-id-idx 1) Object (pick (eqb oa-element-id-idx 2) Trim (pick (eqb oa-element-id-idx 5) Extended Unknown)))
 
 -- oa_element_size in bits: bytes that begin at any bit, counted from the alternate id, or else from the discard flag (5.6.4.3)

@@ -23,11 +23,11 @@ pub fn both(a: bool, b: bool) -> bool
     if a { b } else { false }
 }
 
-// Known are the object element (id 1), the trim element (id 2) and the extended object element (id 5), each with no alternate id or with alternate id 0.
+// Known are the object element (id 1) with no alternate id or with alternate id 0, the trim element (id 2) and the extended object element (id 5).
 pub fn kind_of(id: u32, alternate: u32) -> Kind
     ensures { λ r. ⌜ r ≡ kind id alternate ⌝ }
 {
-    if alternate != 0 {
+    if both(id == 1, alternate != 0) {
         return Kind::Unknown;
     }
     match id {
