@@ -1,12 +1,20 @@
-use mathlib.Core.Path.{sym, _∙_}
+use mathlib.Core.Path.{_≡_, sym, _∙_}
+use mathlib.Core.Bool.{Bool, true}
 use borrow.Author.Tests.{ne-eqb}
+use Rattle.bits.specs.Language.{pick}
+use Rattle.oamd.specs.declared.Kind.{Kind}
+use Rattle.oamd.specs.declared.Kind.the-variants.{Unknown}
 use Rattle.oamd.specs.Element.{kind}
 use Rattle.oamd.proofs.choices.kind_of.Statement.{statement}
 use Rattle.oamd.proofs.choices.kind_of.Tie as tie
 
+-- the test that the code made is the first of the definition
+passed : (t : Bool) (k : Kind) → t ≡ true → Unknown ≡ pick t Unknown k
+passed t k h = rw h
+
 returns : tie.Need-returns
 unfolding kind
-returns c = rw (sym (c .before .both .ensures) ∙ c .if1 .taken)
+returns c = passed _ _ (sym (c .before .both .ensures) ∙ c .if1 .taken)
 
 returns-2 : tie.Need-returns-2
 unfolding kind
