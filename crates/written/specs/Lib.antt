@@ -15,3 +15,4 @@ pub mod FewestFrames
 pub mod FewestExtended
 pub mod FewestTrim
 pub mod Unique
+pub mod AcceptedRecords
