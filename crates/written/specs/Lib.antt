@@ -16,3 +16,4 @@ pub mod FewestExtended
 pub mod FewestTrim
 pub mod Unique
 pub mod AcceptedRecords
+pub mod Ranges
