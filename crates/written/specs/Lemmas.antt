@@ -20,3 +20,4 @@ pub mod AcceptedTrim
 pub mod Lengths
 pub mod FewestCodes
 pub mod RangeFacts
+pub mod LongestParts

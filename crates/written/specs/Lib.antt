@@ -17,3 +17,4 @@ pub mod FewestTrim
 pub mod Unique
 pub mod AcceptedRecords
 pub mod Ranges
+pub mod Longest
