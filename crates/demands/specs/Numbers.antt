@@ -33,7 +33,10 @@ pub record BlocksBy (object : Bool) (blocks : ℕ) : Type 0 where
 blocks-by : (o : Option ObjectElement) → Blocked o → BlocksBy (there o) (timing o .blocks)
 unfolding timing timingOf
 blocks-by none h = record { with = λ q. absurd (false≢true q); without = λ q. refl }
-blocks-by (some e) h = record { with = λ q. (h .some, h .few); without = λ q. absurd (true≢false q) }
+blocks-by (some e) h =
+    let least = h .some in
+    let most = h .few in
+    record { with = λ q. omega arith; without = λ q. absurd (true≢false q) }
 
 blocks-most : (o : Option ObjectElement) → Blocked o → timing o .blocks ≤ 8
 unfolding timing timingOf
@@ -57,7 +60,10 @@ unfolding tables
 numbers s buffer trim accepted =
     let r = read-of s buffer trim accepted in
     let l = limits s (r .ran) in
-    (r .payload, r .to, r .ran, rw (r .is) (record { objects = (l .some, l .few); blocks = blocks-read s (r .ran); unknown = l .unknown }))
+    let some = l .some in
+    let few = l .few in
+    let unknown = l .unknown in
+    (r .payload, r .to, r .ran, rw (r .is) (record { objects = omega arith; blocks = blocks-read s (r .ran); unknown = omega arith }))
 
 -- ---- the room
 

@@ -19,7 +19,7 @@ use Rattle.oamd.specs.Payload.{Payload, object-audio-metadata-payload, tables}
 use Rattle.oamd.specs.Answer.{Outcome, reading}
 use Rattle.demands.specs.Terms.{tablesOf}
 use Rattle.demands.specs.Lemmas.Reading.{read-of}
-use Rattle.written.specs.Valid.{sampleOffset, updateValid, timingValid, sceneValid, divergenceValid, recordValid, trimValid, recordCount}
+use Rattle.written.specs.Valid.{sampleOffset, updateValid, timingValid, sceneValid, mostDivergence, divergenceValid, recordValid, trimValid, recordCount}
 use Rattle.written.specs.Answer.{sceneAt, divergenceAt, preciseAt, recordAt}
 use Rattle.written.specs.Lemmas.Facts.{halves}
 use Rattle.written.specs.Lemmas.Entries.{Every}
@@ -69,8 +69,7 @@ in-range class r few v =
     let d = divergence-facts (carries (r .scene)) (r .divergence) (b .0) in
     let p = precise-facts (carries (r .scene)) (r .precise) (b .1) in
     let kind = f .kind in
-    let value = most (d .value) (omega arith) in
-    let table = entry-le 63 (3 ∷ 0 ∷ 63 ∷ []) (r .divergence .mode) refl in
+    let table : mostDivergence (r .divergence .mode) ≤ 63 = entry-le 63 (3 ∷ 0 ∷ 63 ∷ []) (r .divergence .mode) refl in
     record {
       active = f .active;
       class = omega arith;
@@ -91,7 +90,7 @@ in-range class r few v =
       snap = most (f .snap) (omega arith);
       divergence = most (d .used) (omega arith);
       mode = most (d .mode) (omega arith);
-      value = omega arith;
+      value = most (d .value) (omega arith);
       presence = most (p .presence) (omega arith);
       code-x = most (p .x) (omega arith);
       code-y = most (p .y) (omega arith);
@@ -148,7 +147,7 @@ updates-in-range t v =
       eight = eight;
       starts = λ i l. most (used i l .start) (omega arith);
       ramps = λ i l. most (used i l .ramp) (omega arith);
-      unused = λ i l m. no-update offset _ (entry-unused (updateValid offset) noUpdate (t .blocks) (t .updates) (f .updates) i l (omega arith));
+      unused = λ i l m. no-update offset _ (entry-unused (updateValid offset) noUpdate (t .blocks) (t .updates) (f .updates) i (omega arith) (omega arith));
     }
 
 records-in-range : (s : Shares) (blocks i : ℕ) (rs : List Record) → ValidFrom s blocks i rs → Every InRange rs
@@ -156,7 +155,7 @@ records-in-range s blocks i [] h = tt
 records-in-range s blocks i (r ∷ rs) h =
     (in-range (classOf s (i / blocks)) r (class-le s (i / blocks)) (h .0), records-in-range s blocks (suc i) rs (h .1))
 
--- every record of whatever is read as a payload
+-- the records and the timing of whatever is read as a payload
 pub accepted-in-range : (s : List ℕ) (q : Payload) (to : ℕ) → run object-audio-metadata-payload (bit s) 0 (8 * length s) pastPayload ≡ ok q to
     → Every InRange (tables (q .programme) (q .known) .records) × UpdatesInRange (tables (q .programme) (q .known) .timing)
 accepted-in-range s q to h =

@@ -16,12 +16,13 @@ use Rattle.written.specs.Lemmas.Facts.{halves, by-test, Ranged, in-range
 use Rattle.written.specs.Lemmas.TrimBack.{config-facts, trim-facts}
 use Rattle.written.specs.Lemmas.AcceptedTiming.{picked-le}
 
--- a value that is in its range where it is carried, and else the default, which is in it too
-pub most : {carried : Bool} {low high default v : ℕ} → Ranged carried low high default v → default ≤ high → v ≤ high
-most {carried} h l = by-test carried (λ q. h .on q .1) (λ q. let e = h .off q in omega arith)
+-- a value that is in its range where it is carried, and else the default, if both are up to n
+pub most : {carried : Bool} {low high default v n : ℕ} → Ranged carried low high default v → (high ≤ n) × (default ≤ n) → v ≤ n
+most {carried} h l = by-test carried (λ q. let m = h .on q .1 in omega arith) (λ q. let e = h .off q in omega arith)
 
-pub least : {carried : Bool} {low high default v : ℕ} → Ranged carried low high default v → low ≤ default → low ≤ v
-least {carried} h l = by-test carried (λ q. h .on q .0) (λ q. let e = h .off q in omega arith)
+-- from n on
+pub least : {carried : Bool} {low high default v n : ℕ} → Ranged carried low high default v → (n ≤ low) × (n ≤ default) → n ≤ v
+least {carried} h l = by-test carried (λ q. let m = h .on q .0 in omega arith) (λ q. let e = h .off q in omega arith)
 
 pub class-le : (s : Shares) (j : ℕ) → classOf s j ≤ 2
 unfolding classOf
@@ -52,9 +53,8 @@ pub data Small : List ℕ → Type 0 where
 
 small : {carried : Bool} {low high v : ℕ} {bs : List ℕ} → Ranged carried low high 0 v → high ≤ 31 → Small bs → Small (v ∷ bs)
 small {high = high} {v} h l rest =
-    let m : v ≤ high = most h (omega arith) in
-    let n : v ≤ 31 = omega arith in
-    more n rest
+    let m : v ≤ 31 = most h (omega arith) in
+    more m rest
 
 joined : {xs ys : List ℕ} → Small xs → Small ys → Small (xs ++ ys)
 joined none g = g
