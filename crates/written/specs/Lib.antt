@@ -18,3 +18,4 @@ pub mod Unique
 pub mod AcceptedRecords
 pub mod Ranges
 pub mod Longest
+pub mod LongestReached
