@@ -10,3 +10,4 @@ pub mod Edited
 pub mod Refusals
 pub mod Unique
 pub mod Answers
+pub mod Numbers

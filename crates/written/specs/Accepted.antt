@@ -34,9 +34,9 @@ use Rattle.written.specs.Lemmas.AcceptedTrim.{trim-ensures, no-trim-vali
 -- ---- 5.5.5 and 5.5.8
 
 -- an object element, as it was read
-record ElementRead (p : Programme) (e : ObjectElement) : Type 0 where
-  timing : TimingRead (e .timing)
-  objects : All (ObjectRead (shares p) (length (e .timing .blocks))) (from 0 (p .objects)) (e .objects)
+pub record ElementRead (p : Programme) (e : ObjectElement) : Type 0 where
+  pub timing : TimingRead (e .timing)
+  pub objects : All (ObjectRead (shares p) (length (e .timing .blocks))) (from 0 (p .objects)) (e .objects)
 
 object-ensures : (p : Programme) → Ensures (object-element (p .objects) (shares p)) (ElementRead p)
 unfolding object-element object-data
@@ -59,17 +59,17 @@ object-ensures p =
 -- ---- 5.5.4
 
 -- the object element and the extended one, as they were read: no extended one without an object element, which it fits
-abbrev Kept : Programme → Option ObjectElement → Option Extension → Type 0
+abbrev pub Kept : Programme → Option ObjectElement → Option Extension → Type 0
 Kept p none none = Unit {0}
 Kept p none (some x) = ⊥
 Kept p (some e) none = ElementRead p e
 Kept p (some e) (some x) = ElementRead p e × ExtensionRead (allCarry (scenes (some e))) x
 
 -- the trim element, as it was read or where there is none
-abbrev TrimKept : Programme → Option TrimTable → Type 0
+abbrev pub TrimKept : Programme → Option TrimTable → Type 0
 TrimKept p z = trimValid (p .objects) (trimOf (p .objects) z) ≡ true
 
-abbrev Keeps : Programme → State → Type 0
+abbrev pub Keeps : Programme → State → Type 0
 Keeps p st = Kept p (st .known .object) (st .known .extended) × TrimKept p (st .known .trim)
 
 known-ensures : (p : Programme) (back : ℕ) (o : Option ObjectElement) (z : Option TrimTable) (x : Option Extension) (unknown : ℕ) (k : Kind)
@@ -99,7 +99,7 @@ element-ensures p alternate st h =
     e-bind _ _ _ (e-any _ _ λ id. e-bind _ _ _ (e-any _ _ λ size. e-within _ _ _ _ (e-bind _ _ _ (e-any _ _ λ other. e-bind _ _ _ (e-any _ _ λ discard.
     known-ensures p _ (st .known .object) (st .known .trim) (st .known .extended) (st .unknown) (kind id other) h)))))
 
-elements-ensure : (p : Programme) (alternate n : ℕ) (st : State) → Keeps p st → Ensures (elements p alternate n st) (Keeps p)
+pub elements-ensure : (p : Programme) (alternate n : ℕ) (st : State) → Keeps p st → Ensures (elements p alternate n st) (Keeps p)
 unfolding elements
 elements-ensure p alternate zero st h = e-give _ _ h
 elements-ensure p alternate (suc n) st h =
@@ -122,7 +122,7 @@ element-valid p e rs t v h r g =
     let b : firstBad (shares p) blocks 0 rs ≡ 0 + length rs = no-bad (shares p) blocks 0 rs (r .valid) in
     record { programme = v; timing = timing-valid (e .timing) (h .timing); count = n; records = omega arith; trim = g }
 
-element-scenes : (p : Programme) (e : ObjectElement) → ElementRead p e → ScenesValid (shares p) (length (e .timing .blocks)) 0 (scenes (some e))
+pub element-scenes : (p : Programme) (e : ObjectElement) → ElementRead p e → ScenesValid (shares p) (length (e .timing .blocks)) 0 (scenes (some e))
 unfolding scenes
 element-scenes p e h =
     let blocks : ℕ = length (e .timing .blocks) in

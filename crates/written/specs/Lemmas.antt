@@ -19,3 +19,5 @@ pub mod AcceptedRecords
 pub mod AcceptedTrim
 pub mod Lengths
 pub mod FewestCodes
+pub mod RangeFacts
+pub mod LongestParts

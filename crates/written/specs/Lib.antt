@@ -15,3 +15,7 @@ pub mod FewestFrames
 pub mod FewestExtended
 pub mod FewestTrim
 pub mod Unique
+pub mod AcceptedRecords
+pub mod Ranges
+pub mod Longest
+pub mod LongestReached

@@ -24,11 +24,11 @@ use Rattle.written.specs.Lemmas.AcceptedProgramme.{always, all-every, en
 -- ---- what is read
 
 -- no entry of a table, nor what stands for one outside it, is above m
-abbrev allUpTo : ℕ → List ℕ → Bool
+abbrev pub allUpTo : ℕ → List ℕ → Bool
 allUpTo m [] = true
 allUpTo m (x ∷ xs) = leb x m and allUpTo m xs
 
-entry-le : (m : ℕ) (xs : List ℕ) (k : ℕ) → allUpTo m xs ≡ true → getD xs k 0 ≤ m
+pub entry-le : (m : ℕ) (xs : List ℕ) (k : ℕ) → allUpTo m xs ≡ true → getD xs k 0 ≤ m
 entry-le m [] k h = omega arith
 entry-le m (x ∷ xs) zero h = leb-true _ _ (halves (leb x m) _ h .0)
 entry-le m (x ∷ xs) (suc k) h = entry-le m xs k (halves (leb x m) _ h .1)

@@ -48,18 +48,18 @@ if-sent false f = record { most = omega arith }
 pub at-most : {l : List ℕ} {m : ℕ} (n : ℕ) → Short l m → m ≤ n → Short l n
 at-most n f h = record { most = (let x = f .most in omega arith) }
 
-each-short : {Y : Type 0} (l : ℕ → Y → List ℕ) (n i : ℕ) (ys : List Y) → ((i : ℕ) (y : Y) → Short (l i y) n) → Short (eachBits l i ys) (n * length ys)
+pub each-short : {Y : Type 0} (l : ℕ → Y → List ℕ) (n i : ℕ) (ys : List Y) → ((i : ℕ) (y : Y) → Short (l i y) n) → Short (eachBits l i ys) (n * length ys)
 unfolding eachBits
 each-short l n i [] f = record { most = omega arith }
 each-short l n i (y ∷ ys) f = at-most _ (also (f i y) (each-short l n (suc i) ys f)) (let e = mul-suc n (length ys) in omega arith)
 
 -- a field that is there only if the test holds
-maybe : (t : Bool) (w v : ℕ) → Short (only t (toBits w v)) w
+pub maybe : (t : Bool) (w v : ℕ) → Short (only t (toBits w v)) w
 maybe t w v = if-sent t (bits-short w v)
 
 -- ---- what stands before the elements
 
-count-short : (n : ℕ) → Short (countBits n) 12
+pub count-short : (n : ℕ) → Short (countBits n) 12
 unfolding countBits
 count-short n = also (bits-short 5 _) (maybe (not (ltb n 31)) 7 (n - 31))
 
@@ -104,7 +104,7 @@ timing-short t =
 
 -- ---- blocks
 
-basic-short : (s : Scene) → Short (basicBits s) 14
+pub basic-short : (s : Scene) → Short (basicBits s) 14
 unfolding basicBits gainBits priorityBits
 basic-short s =
     also (also (bits-short 2 _) (maybe (eqb (codedGain (s .gain) .index) 2) 6 _)) (also (bits-short 1 _)
@@ -114,7 +114,7 @@ position-short : (first : Bool) (p : Place) → Short (positionBits first p) 18
 unfolding positionBits
 position-short first p = also (maybe (not first) 1 0) (also (bits-short 6 _) (also (bits-short 6 _) (also (bits-short 1 _) (bits-short 4 _))))
 
-distance-short : (d : Distance) → Short (distanceBits d) 6
+pub distance-short : (d : Distance) → Short (distanceBits d) 6
 unfolding distanceBits
 distance-short d = also (bits-short 1 _) (also (maybe (set? (d .given)) 1 (d .infinite))
     (maybe (both (set? (d .given)) (clear? (d .infinite))) 4 (d .index)))
@@ -125,7 +125,7 @@ extent-short e =
     also (bits-short 2 _) (also (maybe (eqb (e .index) 1) 5 (e .all)) (also (maybe (eqb (e .index) 2) 5 (e .width))
     (also (maybe (eqb (e .index) 2) 5 (e .depth)) (maybe (eqb (e .index) 2) 5 (e .height)))))
 
-screen-short : (s : Screen) → Short (screenBits s) 6
+pub screen-short : (s : Screen) → Short (screenBits s) 6
 unfolding screenBits
 screen-short s = also (bits-short 1 _) (also (maybe (set? (s .used)) 3 (s .factor)) (maybe (set? (s .used)) 2 (s .depth)))
 
@@ -199,7 +199,7 @@ divergence-short sent d =
     also (maybe sent 1 (d .used)) (also (maybe (set? (d .used)) 2 (d .mode)) (also (maybe (both (set? (d .used)) (eqb (d .mode) 0)) 2 (d .value))
     (maybe (eqb (d .mode) 2) 6 (d .value))))
 
-precise-short : (sent : Bool) (p : Precise) → Short (preciseBits sent p) 10
+pub precise-short : (sent : Bool) (p : Precise) → Short (preciseBits sent p) 10
 unfolding preciseBits
 precise-short sent p =
     also (maybe sent 1 _) (also (maybe (ltb 0 (p .presence)) 3 (p .presence)) (also (maybe (hasX (p .presence)) 2 (p .x))
@@ -234,11 +234,11 @@ trim-element-short t =
 
 -- ---- elements
 
-group-short : (digit more : ℕ) → Short (groupBits digit more) 5
+pub group-short : (digit more : ℕ) → Short (groupBits digit more) 5
 unfolding groupBits
 group-short digit more = also (bits-short 4 _) (bits-short 1 _)
 
-size-short : (v : ℕ) → Short (sizeBits v) 20
+pub size-short : (v : ℕ) → Short (sizeBits v) 20
 unfolding sizeBits
 size-short v =
     also (if-sent (leb 4368 v) (group-short _ 1)) (also (if-sent (leb 272 v) (group-short _ 1))

@@ -53,7 +53,7 @@ update-back offset u h =
     let r = ramp-means u (f .ramp .on refl .1) in
     λ i. record { start = samples (s i); ramp = samples (r i) }
 
-no-update : (offset : ℕ) (u : Update) → updateValid offset false u ≡ true → u ≡ noUpdate
+pub no-update : (offset : ℕ) (u : Update) → updateValid offset false u ≡ true → u ≡ noUpdate
 no-update offset u h =
     let f = update-facts offset false u h in
     let s = f .start .off refl in
