@@ -5,7 +5,6 @@ use mathlib.Core.Bool.{true}
 use mathlib.Core.List.{_++_, append-nil, append-assoc}
 use Prim.Native.Nat.{ℕ, _<_}
 use native.Mathlib.Omega.{arith}
-use lib.ListN.{length}
 use lib.Dec.{eqb}
 use Rattle.bits.specs.Language.{both, bits}
 use Rattle.bits.specs.Writes.{toBits, only}

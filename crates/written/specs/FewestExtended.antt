@@ -1,13 +1,13 @@
 -- The same for the extended object element (5.5.13 to 5.5.15): which of its two groups are there, and which records say that they have a precise position.
 use mathlib.Core.Path.{_≡_, refl, sym, ap, ap₂, _∙_, subst}
-use mathlib.Core.Bool.{Bool, true, false, not, false≢true}
+use mathlib.Core.Bool.{Bool, true, false, false≢true}
 use mathlib.Core.List.{List, [], _∷_, _++_, map, append-nil, append-assoc}
 use Prim.Native.Nat.{ℕ, suc, _+_, _<_}
 use native.Mathlib.Omega.{arith}
 use lib.ListN.{length, getD, replicate}
 use lib.Dec.{ltb, eqb}
 use borrow.Author.Tests.{eqb-true}
-use Rattle.bits.specs.Language.{both, P, bits, when, each, number}
+use Rattle.bits.specs.Language.{both, P, when, each, number}
 use Rattle.bits.specs.Writes.{toBits, only, eachBits}
 use Rattle.bits.specs.Spells.{Spells, s-give, s-bind, s-bits, s-if, s-pick, s-then}
 use Rattle.bits.specs.First.{First, first-of, first-same, first-none, first-append}

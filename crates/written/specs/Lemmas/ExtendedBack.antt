@@ -7,8 +7,8 @@ use Prim.Native.Nat.{ℕ, suc, _+_, _/_, _≤_, _<_}
 use native.Mathlib.Omega.{arith}
 use lib.ListN.{length, replicate}
 use lib.Dec.{ltb, eqb}
-use borrow.Author.Tests.{ne-eqb, eqb-false, ltb-false}
-use Rattle.bits.specs.Language.{pick, both, P, bits, when, bitsIf, each}
+use borrow.Author.Tests.{eqb-false, ltb-false}
+use Rattle.bits.specs.Language.{pick, both, P, when, bitsIf}
 use Rattle.bits.specs.Steps.{above-free}
 use Rattle.bits.specs.Writes.{toBits, only, Along, Writes, w-give, w-bits, w-bind, w-end, w-is, w-if, w-when, w-each}
 use Rattle.oamd.specs.declared.Shares.{Shares}

@@ -10,7 +10,7 @@ use lib.ListN.{length, replicate}
 use lib.Seq.{take-length}
 use lib.Dec.{eqb}
 use borrow.Author.Tests.{eqb-true, eqb-false}
-use Rattle.bits.specs.Language.{pick, both, P, bits, when, from, for}
+use Rattle.bits.specs.Language.{pick, P, bits, when, from, for}
 use Rattle.bits.specs.Writes.{toBits, only, eachBits, Writes, w-give, w-bits, w-bind, w-end, w-is, w-when, w-each}
 use Rattle.oamd.specs.declared.TrimConfig.{TrimConfig}
 use Rattle.oamd.specs.Tables.{trimConfigs}
