@@ -2,6 +2,8 @@ pub mod Language
 pub mod View
 pub mod Steps
 pub mod Laws
+pub mod Reached
+pub mod ReachedLaws
 pub mod Refusals
 pub mod Size
 pub mod Writes

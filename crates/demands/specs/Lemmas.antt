@@ -7,3 +7,4 @@ pub mod Order
 pub mod Skeletons
 pub mod Packing
 pub mod Assembled
+pub mod Plain
