@@ -28,7 +28,8 @@ refused-there (behind z x) h = bind-is _ _ _ _ _ _ z ∙ refused-there x h
 
 -- ---- the step that stops
 
-stop-refuses : {A : Type 0} {p : P A} (b : Bits) {at e o r pl m : ℕ} → Stop at e o A p r pl m → run p b at e o ≡ no r pl m
+-- a step that stops refuses, with its number, its place and the bits that are missing
+pub stop-refuses : {A : Type 0} {p : P A} (b : Bits) {at e o r pl m : ℕ} → Stop at e o A p r pl m → run p b at e o ≡ no r pl m
 unfolding run
 stop-refuses b (field-passes l) = rw (lt-leb _ _ l)
 stop-refuses b (size-passes l) = rw (lt-leb _ _ l)
@@ -75,14 +76,17 @@ closed-no : {A : Type 0} (x : Res A) (n : ℕ) {r pl m : ℕ} → andThen x (λ 
 closed-no (ok a to) n h = absurd (no-ok (sym h))
 closed-no (no r pl m) n h = h
 
+-- an element that is refused: something in it, or its declared end
+pub element-no {ℓ} : {A : Type 0} {X : Type ℓ} (n back : ℕ) (p : P A) (b : Bits) (at e o : ℕ) {r pl m : ℕ} → run (within n back p) b at e o ≡ no r pl m
+    → (at + n ≤ e → run p b at (at + n) pastDeclared ≡ no r pl m → X) → (e < at + n → X) → X
+element-no n back p b at e o h f g = by-end (at + n) e (λ l. f l (closed-no _ _ (sym (within-is n back p b at e o l) ∙ h))) g
+
 stops-at : {A : Type 0} (p : P A) (b : Bits) (at e o : ℕ) {r pl m : ℕ} → run p b at e o ≡ no r pl m → Stops p b at e o r pl m
 stops-at (give a) b at e o h = absurd (give-no a b at e o h)
 stops-at (refuse i back) b at e o h = stops-here refuses h
 stops-at (field w f) b at e o h = by-end (at + w) e (λ l. absurd (no-ok (sym h ∙ field-is w f b at e o l))) (λ l. stops-here (field-passes l) h)
 stops-at (within n back p) b at e o h =
-    by-end (at + n) e
-    (λ l. stops-in (inside l here) (stops-at p b at (at + n) pastDeclared (closed-no _ _ (sym (within-is n back p b at e o l) ∙ h))))
-    (λ l. stops-here (size-passes l) h)
+    element-no n back p b at e o h (λ l x. stops-in (inside l here) (stops-at p b at (at + n) pastDeclared x)) (λ l. stops-here (size-passes l) h)
 stops-at (p >>= k) b at e o h =
     bind-no p k b at e o h (λ x. stops-in (first here) (stops-at p b at e o x)) (λ a mid x y. stops-in (behind x here) (stops-at (k a) b mid e o y))
 

@@ -8,3 +8,5 @@ pub mod Skeletons
 pub mod Packing
 pub mod Assembled
 pub mod Plain
+pub mod Passing
+pub mod Stopping

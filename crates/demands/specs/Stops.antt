@@ -1,0 +1,56 @@
+-- When a refusal is given, in the words of document 01: the conditions of 2 and 8, over the bytes of a payload.
+use mathlib.Core.Path.{_≡_}
+use mathlib.Core.Bool.{true}
+use mathlib.Core.List.{List}
+use Prim.Native.Nat.{ℕ, _+_, _*_, _<_}
+use lib.ListN.{length}
+use Rattle.bits.specs.declared.Size.{Size}
+use Rattle.bits.specs.Language.{ok, P, field, bit, pastPayload, pastDeclared}
+use Rattle.bits.specs.Size.{variable-bits-max}
+use Rattle.bits.specs.Reached.{Comes}
+use Rattle.oamd.specs.declared.Kind.{Kind}
+use Rattle.oamd.specs.declared.Programme.{Programme}
+use Rattle.oamd.specs.Element.{elementBits, State, fields, oa-element-md}
+use Rattle.oamd.specs.Payload.{object-audio-metadata-payload}
+use Rattle.demands.specs.Terms.{runs}
+use Rattle.demands.specs.Skeleton.{isKnown}
+
+-- on the bytes s the reader of payloads comes to the reader q at the bit at, held to the payload's end
+abbrev pub ComesTo : {A : Type 0} → List ℕ → P A → ℕ → Type 1
+ComesTo s q at = Comes object-audio-metadata-payload (bit s) 0 (8 * length s) pastPayload q at (8 * length s) pastPayload
+
+-- the element whose id begins at the bit id, and its size: the first bit of the size is that behind the four of the id
+pub record Sized (s : List ℕ) (id : ℕ) : Type 1 where
+  pub programme : Programme
+  pub alternate : ℕ
+  pub state : State
+  pub comes : ComesTo s (oa-element-md programme alternate state) id
+  pub size : Size
+  pub behind : ℕ
+  pub sized : runs variable-bits-max s (id + 4) ≡ ok size behind
+
+-- its declared end, counted from behind its size
+abbrev pub declaredEnd : {s : List ℕ} {id : ℕ} → Sized s id → ℕ
+declaredEnd x = x .behind + elementBits (x .size)
+
+-- 2: a field passes the payload's end, and the place is the field's first bit; or an element's declared end passes it, and the place is the first bit of its
+-- size
+pub data PassesPayload (s : List ℕ) (place : ℕ) : Type 1 where
+  by-field : {A : Type 0} (w : ℕ) (f : List ℕ → A) → ComesTo s (field w f) place → 8 * length s < place + w → PassesPayload s place
+  by-size : (id : ℕ) (x : Sized s id) → place ≡ id + 4 → 8 * length s < declaredEnd x → PassesPayload s place
+
+-- 8: an element is known, and in it, held to its declared end, a field passes that end. The place is the field's first bit
+pub record PassesElement (s : List ℕ) (place : ℕ) : Type 1 where
+  pub id : ℕ
+  pub element : Sized s id
+  pub kind : Kind
+  pub known : isKnown kind ≡ true
+  pub at : ℕ
+  pub inside : Comes (oa-element-md (element .programme) (element .alternate) (element .state)) (bit s) id (8 * length s) pastPayload
+      (fields (element .programme) kind (element .state .known)) at (declaredEnd element) pastDeclared
+  pub Value : Type 0
+  pub width : ℕ
+  pub value : List ℕ → Value
+  pub comes : Comes (fields (element .programme) kind (element .state .known)) (bit s) at (declaredEnd element) pastDeclared (field width value) place
+      (declaredEnd element) pastDeclared
+  pub passes : declaredEnd element < place + width
