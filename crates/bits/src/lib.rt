@@ -12,6 +12,7 @@ pub use cursor::open;
 pub use cursor::refuse_if;
 pub use cursor::skip_if;
 pub use cursor::take_if;
+pub use cursor::take_unless;
 pub use cursor::with_value;
 pub use groups::read_size;
 pub use leaf::take;

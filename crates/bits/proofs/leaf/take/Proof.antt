@@ -14,7 +14,7 @@ use Rattle.bits.proofs.leaf.take.Statement.{statement}
 use Rattle.bits.proofs.leaf.take.Tie as tie
 
 returns : tie.Need-returns
-returns c = record { reads = kept (search needs); small = pow-pos _ }
+returns c = rw (c .with-value .ensures) (record { reads = kept (c .before .if1 .taken); small = pow-pos _ })
 
 returns-2 : tie.Need-returns-2
 returns-2 c =
@@ -36,6 +36,7 @@ pub take-spec : {M : Type 1} → statement M
 take-spec =
     tie.close
     (tie.spec
+    (λ c κs. search needs)
     returns
     (λ c κs. search needs)
     (λ c. search needs)
