@@ -1,17 +1,17 @@
--- Refusals 2 and 8, exactly when: for all bytes and all buffers.
+-- Refusals 2, 5 and 8, exactly when: for all bytes and all buffers.
 use mathlib.Core.Path.{_≡_}
 use mathlib.Core.List.{List}
 use mathlib.Core.Logic.{_↔_}
 use Prim.Native.Nat.{ℕ, _≤_}
 use native.Mathlib.Omega.{arith}
 use lib.ListN.{length}
-use Rattle.bits.specs.declared.Refusal.the-variants.{EndsEarly, PastElement}
+use Rattle.bits.specs.declared.Refusal.the-variants.{EndsEarly, Reserved, PastElement}
 use Rattle.bits.specs.Refusals.{numberOf}
 use Rattle.oamd.specs.Tables.{mostBytes}
 use Rattle.oamd.specs.Answer.{refused, reading}
-use Rattle.demands.specs.Stops.{PassesPayload, PassesElement}
+use Rattle.demands.specs.Stops.{PassesPayload, PassesElement, CarriesReserved}
 use Rattle.demands.specs.Lemmas.Reading.{reading-no}
-use Rattle.demands.specs.Lemmas.Stopping.{early-end-of, early-end-is, past-element-of, past-element-is}
+use Rattle.demands.specs.Lemmas.Stopping.{early-end-of, early-end-is, past-element-of, past-element-is, reserved-of, reserved-is}
 use Rattle.demands.specs.Answers.{refused-when}
 
 -- 2: a field passes the payload's end, or an element's declared end does; all before it has been read. The place is the first bit of the field, or of the
@@ -23,6 +23,16 @@ ends-early-when s buffer trim place = (
       let x = refused-when s buffer trim 2 place (omega arith) (omega arith) .0 h in
       (x .0, early-end-of s (x .2))),
   (λ h. reading-no s buffer trim (h .0) (early-end-is s (h .1) .1)),
+)
+
+-- 5: a field that is decoded has a value that the standard reserves; all before it has been read. The place is the field's first bit.
+pub reserved-when : (s buffer trim : List ℕ) (place : ℕ)
+    → (reading s buffer trim ≡ refused buffer trim (numberOf Reserved) place) ↔ ((length s ≤ mostBytes) × CarriesReserved s place)
+reserved-when s buffer trim place = (
+  (λ h.
+      let x = refused-when s buffer trim 5 place (omega arith) (omega arith) .0 h in
+      (x .0, reserved-of s (x .2))),
+  (λ h. reading-no s buffer trim (h .0) (reserved-is s (h .1))),
 )
 
 -- 8: a field of a known element passes that element's declared end; all before it has been read. The place is the first bit of the field.

@@ -9,4 +9,5 @@ pub mod Packing
 pub mod Assembled
 pub mod Plain
 pub mod Passing
+pub mod Codes
 pub mod Stopping

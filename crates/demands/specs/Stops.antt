@@ -1,15 +1,17 @@
--- When a refusal is given, in the words of document 01: the conditions of 2 and 8, over the bytes of a payload.
+-- When a refusal is given, in the words of document 01: the conditions of 2, 5 and 8, over the bytes of a payload.
 use mathlib.Core.Path.{_≡_}
 use mathlib.Core.Bool.{true}
-use mathlib.Core.List.{List}
-use Prim.Native.Nat.{ℕ, _+_, _*_, _<_}
+use mathlib.Core.List.{List, [], _∷_}
+use mathlib.Core.Logic.{_⊎_}
+use Prim.Native.Nat.{ℕ, _+_, _*_, _≤_, _<_}
 use lib.ListN.{length}
 use Rattle.bits.specs.declared.Size.{Size}
-use Rattle.bits.specs.Language.{ok, P, field, bit, pastPayload, pastDeclared}
+use Rattle.bits.specs.Language.{ok, P, field, slice, number, bit, pastPayload, pastDeclared}
 use Rattle.bits.specs.Size.{variable-bits-max}
 use Rattle.bits.specs.Reached.{Comes}
 use Rattle.oamd.specs.declared.Kind.{Kind}
 use Rattle.oamd.specs.declared.Programme.{Programme}
+use Rattle.oamd.specs.Reserved.{Field, IntermediateSpatialFormatIdx, SampleOffsetCode, ZoneConstraintsIdx, ObjectSizeIdx, WarpMode, GlobalTrimMode, TrimSurround, TrimHeight, ObjectDivMode, ObjectDivCode, unreserved}
 use Rattle.oamd.specs.Element.{elementBits, State, fields, oa-element-md}
 use Rattle.oamd.specs.Payload.{object-audio-metadata-payload}
 use Rattle.demands.specs.Terms.{runs}
@@ -54,3 +56,45 @@ pub record PassesElement (s : List ℕ) (place : ℕ) : Type 1 where
   pub comes : Comes (fields (element .programme) kind (element .state .known)) (bit s) at (declaredEnd element) pastDeclared (field width value) place
       (declaredEnd element) pastDeclared
   pub passes : declaredEnd element < place + width
+
+-- ---- 5: reserved values
+
+-- v is one of these
+abbrev pub OneOf : ℕ → List ℕ → Type 0
+OneOf v [] = ⊥
+OneOf v (x ∷ xs) = (v ≡ x) ⊎ OneOf v xs
+
+-- the fields that are decoded and of which the standard reserves values: how many bits each has
+abbrev pub bitsIn : Field → ℕ
+bitsIn IntermediateSpatialFormatIdx = 3
+bitsIn SampleOffsetCode = 2
+bitsIn ZoneConstraintsIdx = 3
+bitsIn ObjectSizeIdx = 2
+bitsIn WarpMode = 2
+bitsIn GlobalTrimMode = 2
+bitsIn TrimSurround = 4
+bitsIn TrimHeight = 4
+bitsIn ObjectDivMode = 2
+bitsIn ObjectDivCode = 6
+
+-- and which values are reserved: Tables 11b, 22, 20, 17, 32, 33, 36, 37, 40 and 42
+abbrev pub reservedValues : Field → List ℕ
+reservedValues IntermediateSpatialFormatIdx = 6 ∷ 7 ∷ []
+reservedValues SampleOffsetCode = 3 ∷ []
+reservedValues ZoneConstraintsIdx = 6 ∷ 7 ∷ []
+reservedValues ObjectSizeIdx = 3 ∷ []
+reservedValues WarpMode = 2 ∷ 3 ∷ []
+reservedValues GlobalTrimMode = 3 ∷ []
+reservedValues TrimSurround = 0 ∷ 1 ∷ 2 ∷ 3 ∷ []
+reservedValues TrimHeight = 0 ∷ 1 ∷ 2 ∷ 3 ∷ []
+reservedValues ObjectDivMode = 3 ∷ []
+reservedValues ObjectDivCode = 0 ∷ []
+
+-- 5: one of these fields is there, and its bits are a reserved value. The place is its first bit
+pub record CarriesReserved (s : List ℕ) (place : ℕ) : Type 1 where
+  pub field : Field
+  pub end : ℕ
+  pub over : ℕ
+  pub comes : Comes object-audio-metadata-payload (bit s) 0 (8 * length s) pastPayload (unreserved field) place end over
+  pub fits : place + bitsIn field ≤ end
+  pub reserved : OneOf (number (slice (bit s) place (bitsIn field))) (reservedValues field)

@@ -12,6 +12,7 @@ use Rattle.oamd.specs.declared.Programme.{Programme}
 use Rattle.oamd.specs.declared.Shares.{Shares}
 use Rattle.oamd.specs.declared.Status.{Status}
 use Rattle.oamd.specs.declared.Status.the-variants.{Default, Full, Reuse, Mixed}
+use Rattle.oamd.specs.Reserved.{Field, IntermediateSpatialFormatIdx, SampleOffsetCode, ZoneConstraintsIdx, ObjectSizeIdx, WarpMode, GlobalTrimMode, TrimSurround, TrimHeight, ObjectDivMode, ObjectDivCode, unreserved}
 use Rattle.oamd.specs.Programme.{bed-assignment, bed-instances, intermediate-spatial-format, num-dynamic-objects, reserved-data, program-assignment}
 use Rattle.oamd.specs.Timing.{sample-offset, block-update-info, md-update-info}
 use Rattle.oamd.specs.Block.{status-idx, parts-of, object-basic-info, differences, coordinates, position, distance, zone, extent, screen, object-render-info, additional-table-data, object-info-block}
@@ -101,12 +102,15 @@ module _ (M : (A : Type 0) → P A → Type 1) (Q : ℕ → Type 0) where
   unfolding oa-element-count
   many-plain = search plainly depth 12
 
-  -- ---- what refuses with 5
+  -- ---- with fields of which values are reserved: these are marked
 
-  module _ (reserved : Q 5) where
+  module _ (reserved : (f : Field) → M ℕ (unreserved f)) where
+    mark : (f : Field) → Plain M Q ℕ (unreserved f)
+    mark f = marked (reserved f)
+
     isf-plain : (content : ℕ) → Plain M Q _ (intermediate-spatial-format content)
     unfolding intermediate-spatial-format
-    isf-plain content = search plainly depth 12
+    isf-plain content = search (plainly, mark IntermediateSpatialFormatIdx) depth 12
 
     pub assignment-plain : (objects : ℕ) → Plain M Q _ (program-assignment objects)
     unfolding program-assignment
@@ -114,7 +118,7 @@ module _ (M : (A : Type 0) → P A → Type 1) (Q : ℕ → Type 0) where
 
     offset-plain : Plain M Q _ sample-offset
     unfolding sample-offset
-    offset-plain = search plainly depth 12
+    offset-plain = search (plainly, mark SampleOffsetCode) depth 12
 
     timing-plain : Plain M Q _ md-update-info
     unfolding md-update-info
@@ -122,11 +126,11 @@ module _ (M : (A : Type 0) → P A → Type 1) (Q : ℕ → Type 0) where
 
     zone-plain : (on : Bool) → Plain M Q _ (zone on)
     unfolding zone
-    zone-plain on = search plainly depth 12
+    zone-plain on = search (plainly, mark ZoneConstraintsIdx) depth 12
 
     extent-plain : (on : Bool) → Plain M Q _ (extent on)
     unfolding extent
-    extent-plain on = search plainly depth 12
+    extent-plain on = search (plainly, mark ObjectSizeIdx) depth 12
 
     render-plain : (status : Status) (first : Bool) → Plain M Q _ (object-render-info status first)
     unfolding object-render-info
@@ -146,15 +150,15 @@ module _ (M : (A : Type 0) → P A → Type 1) (Q : ℕ → Type 0) where
 
     config-plain : Plain M Q _ trim-config
     unfolding trim-config
-    config-plain = search plainly depth 20
+    config-plain = search (plainly, mark TrimSurround, mark TrimHeight) depth 20
 
     trim-plain : (objects : ℕ) → Plain M Q _ (trim-element objects)
     unfolding trim-element
-    trim-plain objects = search (plainly, config-plain) depth 12
+    trim-plain objects = search (plainly, config-plain, mark WarpMode, mark GlobalTrimMode) depth 12
 
     divergence-plain : (carries : Bool) → Plain M Q _ (obj-div-block carries)
     unfolding obj-div-block
-    divergence-plain carries = search plainly depth 12
+    divergence-plain carries = search (plainly, mark ObjectDivMode, mark ObjectDivCode) depth 12
 
     extended-plain : (carries : List Bool) → Plain M Q _ (extended-object-element carries)
     unfolding extended-object-element
