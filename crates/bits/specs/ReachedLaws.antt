@@ -1,14 +1,14 @@
 -- The laws of what a reading comes to, each proved once over the tree.
-use mathlib.Core.Path.{_≡_, refl, sym, ap, _∙_, subst, subst₂}
+use mathlib.Core.Path.{_≡_, refl, sym, _∙_, subst, subst₂}
 use mathlib.Core.Bool.{Bool, true, false}
 use mathlib.Core.List.{List, [], _∷_}
 use mathlib.Core.Logic.{_⊎_, inl, inr, _↔_}
-use Prim.Native.Nat.{ℕ, _+_, _-_, _≤_, _<_}
+use Prim.Native.Nat.{ℕ, _+_, _≤_, _<_}
 use native.Mathlib.Omega.{arith}
 use borrow.Author.Tests.{lt-leb}
 use Rattle.bits.specs.Language.{Res, ok, no, Bits, P, give, refuse, field, within, _>>=_, andThen, run, pastDeclared, pick, each}
 use Rattle.bits.specs.Steps.{no-ok, by-order, give-no, field-is, field-no, refuse-no, bind-no, bind-is, bind-stops, within-is, within-stops}
-use Rattle.bits.specs.Reached.{Reached, here, inside, first, behind, Comes, Stop, field-passes, size-passes, refuses, Stops, Plain, marked, giving, refusing, reads, both}
+use Rattle.bits.specs.Reached.{here, inside, first, behind, Comes, Stop, field-passes, size-passes, refuses, Stops, Plain, marked, giving, refusing, reads, both}
 
 -- what p comes to, comes to what that comes to
 pub comes-on : {A B C : Type 0} {b : Bits} {p : P A} {q : P B} {r : P C} {at e o at' e' o' at'' e'' o'' : ℕ} → Comes p b at e o q at' e' o'

@@ -7,11 +7,16 @@ use native.Mathlib.Omega.{arith}
 use lib.ListN.{length}
 use Rattle.bits.specs.declared.Refusal.the-variants.{EndsEarly, Reserved, PastElement}
 use Rattle.bits.specs.Refusals.{numberOf}
+use Rattle.bits.specs.Language.{ok}
 use Rattle.oamd.specs.Tables.{mostBytes}
+use Rattle.oamd.specs.Reserved.{Field}
+use Rattle.oamd.specs.Payload.{Payload}
 use Rattle.oamd.specs.Answer.{refused, reading}
-use Rattle.demands.specs.Stops.{PassesPayload, PassesElement, CarriesReserved}
+use Rattle.demands.specs.Terms.{parsed}
+use Rattle.demands.specs.Stops.{PassesPayload, PassesElement, OneOf, reservedValues, CarriesReserved, carried}
 use Rattle.demands.specs.Lemmas.Reading.{reading-no}
 use Rattle.demands.specs.Lemmas.Stopping.{early-end-of, early-end-is, past-element-of, past-element-is, reserved-of, reserved-is}
+use Rattle.demands.specs.Lemmas.Carried.{carried-clean}
 use Rattle.demands.specs.Answers.{refused-when}
 
 -- 2: a field passes the payload's end, or an element's declared end does; all before it has been read. The place is the first bit of the field, or of the
@@ -34,6 +39,11 @@ reserved-when s buffer trim place = (
       (x .0, reserved-of s (x .2))),
   (λ h. reading-no s buffer trim (h .0) (reserved-is s (h .1))),
 )
+
+-- And no payload is accepted that carries one: whatever bytes are read as a payload, no value that it carries for one of these fields is one of the
+-- reserved values of that field.
+pub none-reserved : (s : List ℕ) (q : Payload) (to : ℕ) → parsed s ≡ ok q to → (f : Field) (v : ℕ) → OneOf v (carried f q) → OneOf v (reservedValues f) → ⊥
+none-reserved s q to h f = carried-clean s h f
 
 -- 8: a field of a known element passes that element's declared end; all before it has been read. The place is the first bit of the field.
 pub past-element-when : (s buffer trim : List ℕ) (place : ℕ)

@@ -11,3 +11,4 @@ pub mod Plain
 pub mod Passing
 pub mod Codes
 pub mod Stopping
+pub mod Carried

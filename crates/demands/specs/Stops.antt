@@ -1,19 +1,27 @@
 -- When a refusal is given, in the words of document 01: the conditions of 2, 5 and 8, over the bytes of a payload.
 use mathlib.Core.Path.{_≡_}
-use mathlib.Core.Bool.{true}
-use mathlib.Core.List.{List, [], _∷_}
+use mathlib.Core.Bool.{Bool, true}
+use mathlib.Core.List.{List, [], _∷_, _++_}
 use mathlib.Core.Logic.{_⊎_}
+use mathlib.Core.Option.{Option, none, some}
 use Prim.Native.Nat.{ℕ, _+_, _*_, _≤_, _<_}
+use lib.Dec.{eqb}
 use lib.ListN.{length}
 use Rattle.bits.specs.declared.Size.{Size}
-use Rattle.bits.specs.Language.{ok, P, field, slice, number, bit, pastPayload, pastDeclared}
+use Rattle.bits.specs.Language.{ok, pick, both, P, field, slice, number, bit, pastPayload, pastDeclared}
 use Rattle.bits.specs.Size.{variable-bits-max}
 use Rattle.bits.specs.Reached.{Comes}
+use Rattle.oamd.specs.declared.Block.{Block}
+use Rattle.oamd.specs.declared.Divergence.{Divergence}
 use Rattle.oamd.specs.declared.Kind.{Kind}
 use Rattle.oamd.specs.declared.Programme.{Programme}
+use Rattle.oamd.specs.declared.TrimConfig.{TrimConfig}
+use Rattle.oamd.specs.Programme.{set?, hasIsf}
+use Rattle.oamd.specs.Block.{hasZone, hasSize}
+use Rattle.oamd.specs.Trim.{hasSurround, hasHeight}
 use Rattle.oamd.specs.Reserved.{Field, IntermediateSpatialFormatIdx, SampleOffsetCode, ZoneConstraintsIdx, ObjectSizeIdx, WarpMode, GlobalTrimMode, TrimSurround, TrimHeight, ObjectDivMode, ObjectDivCode, unreserved}
 use Rattle.oamd.specs.Element.{elementBits, State, fields, oa-element-md}
-use Rattle.oamd.specs.Payload.{object-audio-metadata-payload}
+use Rattle.oamd.specs.Payload.{Payload, object-audio-metadata-payload}
 use Rattle.demands.specs.Terms.{runs}
 use Rattle.demands.specs.Skeleton.{isKnown}
 
@@ -98,3 +106,49 @@ pub record CarriesReserved (s : List ℕ) (place : ℕ) : Type 1 where
   pub comes : Comes object-audio-metadata-payload (bit s) 0 (8 * length s) pastPayload (unreserved field) place end over
   pub fits : place + bitsIn field ≤ end
   pub reserved : OneOf (number (slice (bit s) place (bitsIn field))) (reservedValues field)
+
+-- ---- which values a payload as read carries for a field
+
+-- a value that is carried only if the test holds
+abbrev pub onlyIf : Bool → ℕ → List ℕ
+onlyIf on v = pick on (v ∷ []) []
+
+-- those of each entry of a list, and those of an element that may be there
+abbrev pub ofEach : {A : Type 0} → (A → List ℕ) → List A → List ℕ
+ofEach f [] = []
+ofEach f (x ∷ xs) = f x ++ ofEach f xs
+
+abbrev pub ofAny : {A : Type 0} → (A → List ℕ) → Option A → List ℕ
+ofAny f none = []
+ofAny f (some a) = f a
+
+abbrev pub zonesOf : Block → List ℕ
+zonesOf b = onlyIf (hasZone (b .render .parts)) (b .render .zone .index)
+
+abbrev pub sizesOf : Block → List ℕ
+sizesOf b = onlyIf (hasSize (b .render .parts)) (b .render .extent .index)
+
+abbrev pub surroundsOf : TrimConfig → List ℕ
+surroundsOf c = onlyIf (hasSurround (c .presence)) (c .surround)
+
+abbrev pub heightsOf : TrimConfig → List ℕ
+heightsOf c = onlyIf (hasHeight (c .presence)) (c .height)
+
+abbrev pub modesOf : Divergence → List ℕ
+modesOf d = onlyIf (set? (d .used)) (d .mode)
+
+-- mode 2 is followed by the code
+abbrev pub codesOf : Divergence → List ℕ
+codesOf d = onlyIf (both (set? (d .used)) (eqb (d .mode) 2)) (d .value)
+
+abbrev pub carried : Field → Payload → List ℕ
+carried IntermediateSpatialFormatIdx q = onlyIf (hasIsf (q .programme .content)) (q .programme .isf)
+carried SampleOffsetCode q = ofAny (λ e. e .timing .offset .code ∷ []) (q .known .object)
+carried ZoneConstraintsIdx q = ofAny (λ e. ofEach (ofEach zonesOf) (e .objects)) (q .known .object)
+carried ObjectSizeIdx q = ofAny (λ e. ofEach (ofEach sizesOf) (e .objects)) (q .known .object)
+carried WarpMode q = ofAny (λ t. t .warp ∷ []) (q .known .trim)
+carried GlobalTrimMode q = ofAny (λ t. t .mode ∷ []) (q .known .trim)
+carried TrimSurround q = ofAny (λ t. ofEach surroundsOf (t .configs)) (q .known .trim)
+carried TrimHeight q = ofAny (λ t. ofEach heightsOf (t .configs)) (q .known .trim)
+carried ObjectDivMode q = ofAny (λ x. ofEach modesOf (x .divergence)) (q .known .extended)
+carried ObjectDivCode q = ofAny (λ x. ofEach codesOf (x .divergence)) (q .known .extended)

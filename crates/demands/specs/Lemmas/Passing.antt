@@ -3,20 +3,20 @@ use mathlib.Core.Path.{_≡_, refl, sym, ap, _∙_, subst}
 use mathlib.Core.Bool.{Bool, true, false}
 use mathlib.Core.List.{List}
 use mathlib.Core.Logic.{_⊎_, inl, inr}
-use Prim.Native.Nat.{ℕ, _+_, _-_, _*_, _≤_, _<_}
+use Prim.Native.Nat.{ℕ, _+_, _-_, _≤_, _<_}
 use native.Mathlib.Omega.{arith}
 use Rattle.bits.specs.declared.Size.{Size}
 use Rattle.bits.specs.Language.{ok, no, Bits, P, field, slice, bitsIf, refuseIf, run, number, pick, pastDeclared}
 use Rattle.bits.specs.Steps.{no-ok, place, bind-no, bind-is, field-ok, field-is, give-no, refuse-no}
 use Rattle.bits.specs.Size.{variable-bits-max}
 use Rattle.bits.specs.Reached.{Comes, here, inside, first, behind, reads, size-passes}
-use Rattle.bits.specs.ReachedLaws.{comes-on, stop-refuses, element-no, Halts, at-field, at-marked, of-own, halts}
+use Rattle.bits.specs.ReachedLaws.{comes-on, stop-refuses, element-no, Halts, at-field, halts}
 use Rattle.oamd.specs.declared.Kind.{Kind}
 use Rattle.oamd.specs.declared.Kind.the-variants.{Unknown, Object, Trim, Extended}
 use Rattle.oamd.specs.declared.Programme.{Programme}
 use Rattle.oamd.specs.Programme.{set?}
 use Rattle.oamd.specs.Reserved.{Field, widthOf, isReserved, unreserved}
-use Rattle.oamd.specs.Element.{elementBits, sizeBits, headBits, State, kind, isSecond, isEarly, fields, framed, passOver, readKnown, oa-element}
+use Rattle.oamd.specs.Element.{elementBits, sizeBits, State, kind, isSecond, isEarly, fields, framed, passOver, readKnown, oa-element}
 use Rattle.demands.specs.Skeleton.{isKnown}
 use Rattle.demands.specs.Lemmas.Plain.{size-plain}
 use Rattle.demands.specs.Lemmas.Frame.{size-goes, alternate-goes}
@@ -59,12 +59,15 @@ limited-refused {A} {p} f b {at} {to} {e} {o} {r} {pl} {m} c h =
     let x = refusal-of-own (isReserved f v) 5 (widthOf f) v b mid e o h in
     let y = field-ok (widthOf f) number b to e o hv in
     let place : to ≡ pl = omega arith in
-    inr (x .1, record {
-      field = f;
-      comes = subst (λ (n : ℕ). Comes p b at e o (unreserved f) n e o) place c;
-      fits = omega arith;
-      reserved = ap (isReserved f) (ap (λ (n : ℕ). number (slice b n (widthOf f))) (sym place) ∙ y .1) ∙ x .0;
-    })
+    inr (
+      x .1,
+      record {
+        field = f;
+        comes = subst (λ (n : ℕ). Comes p b at e o (unreserved f) n e o) place c;
+        fits = omega arith;
+        reserved = ap (isReserved f) (ap (λ (n : ℕ). number (slice b n (widthOf f))) (sym place) ∙ y .1) ∙ x .0;
+      },
+    )
 
 refused-if : {A : Type 0} (t : Bool) (r back : ℕ) (v : A) (b : Bits) (at e o : ℕ) → t ≡ true → run (refuseIf t r back v) b at e o ≡ no r (at - back) 0
 unfolding run

@@ -12,7 +12,7 @@ use Rattle.oamd.specs.declared.Programme.{Programme}
 use Rattle.oamd.specs.declared.Shares.{Shares}
 use Rattle.oamd.specs.declared.Status.{Status}
 use Rattle.oamd.specs.declared.Status.the-variants.{Default, Full, Reuse, Mixed}
-use Rattle.oamd.specs.Reserved.{Field, IntermediateSpatialFormatIdx, SampleOffsetCode, ZoneConstraintsIdx, ObjectSizeIdx, WarpMode, GlobalTrimMode, TrimSurround, TrimHeight, ObjectDivMode, ObjectDivCode, unreserved}
+use Rattle.oamd.specs.Reserved.{Field, IntermediateSpatialFormatIdx, SampleOffsetCode, ZoneConstraintsIdx, ObjectSizeIdx, WarpMode, GlobalTrimMode, TrimSurround, ObjectDivMode, ObjectDivCode, unreserved}
 use Rattle.oamd.specs.Programme.{bed-assignment, bed-instances, intermediate-spatial-format, num-dynamic-objects, reserved-data, program-assignment}
 use Rattle.oamd.specs.Timing.{sample-offset, block-update-info, md-update-info}
 use Rattle.oamd.specs.Block.{status-idx, parts-of, object-basic-info, differences, coordinates, position, distance, zone, extent, screen, object-render-info, additional-table-data, object-info-block}
@@ -148,9 +148,10 @@ module _ (M : (A : Type 0) → P A → Type 1) (Q : ℕ → Type 0) where
     unfolding object-element
     objects-plain objects shares = search (plainly, timing-plain, object-plain) depth 12
 
+    -- trim_height has the width and the reserved values of trim_surround: it is the same reader
     config-plain : Plain M Q _ trim-config
     unfolding trim-config
-    config-plain = search (plainly, mark TrimSurround, mark TrimHeight) depth 20
+    config-plain = search (plainly, mark TrimSurround) depth 20
 
     trim-plain : (objects : ℕ) → Plain M Q _ (trim-element objects)
     unfolding trim-element

@@ -1,9 +1,9 @@
 -- The payload's reader, refused with 2 or 8.
-use mathlib.Core.Path.{_≡_, refl, sym, ap, _∙_, subst}
+use mathlib.Core.Path.{_≡_, refl, ap, _∙_}
 use mathlib.Core.Bool.{true}
 use mathlib.Core.List.{List}
-use mathlib.Core.Logic.{_⊎_, inl, inr, ⊎-elim}
-use Prim.Native.Nat.{ℕ, _+_, _-_, _*_, _≤_, _<_}
+use mathlib.Core.Logic.{inl, inr, ⊎-elim}
+use Prim.Native.Nat.{ℕ, _+_, _-_, _*_, _≤_}
 use native.Mathlib.Omega.{arith}
 use lib.ListN.{length}
 use Rattle.bits.specs.declared.Size.{Size}
@@ -14,16 +14,16 @@ use Rattle.bits.specs.Reached.{Comes, here, field-passes, size-passes}
 use Rattle.bits.specs.ReachedLaws.{comes-on, refused-there, stop-refuses, Halts, at-field, at-marked, of-own, halts}
 use Rattle.oamd.specs.declared.Kind.{Kind}
 use Rattle.oamd.specs.declared.Programme.{Programme}
-use Rattle.oamd.specs.Element.{elementBits, sizeBits, backToId, framed, State, fields, oa-element, oa-element-md}
+use Rattle.oamd.specs.Element.{elementBits, backToId, framed, State, fields, oa-element, oa-element-md}
 use Rattle.oamd.specs.Payload.{object-audio-metadata-payload}
 use Rattle.demands.specs.Terms.{runs, parsed}
 use Rattle.demands.specs.Stops.{ComesTo, Sized, declaredEnd, PassesPayload, by-field, by-size, PassesElement, bitsIn, CarriesReserved}
-use Rattle.oamd.specs.Reserved.{Field, widthOf, unreserved}
+use Rattle.oamd.specs.Reserved.{Field, unreserved}
 use Rattle.demands.specs.Lemmas.Codes.{in-table, by-test, widths}
 use Rattle.demands.specs.Skeleton.{isKnown}
 use Rattle.demands.specs.Lemmas.Frame.{size-goes}
 use Rattle.demands.specs.Lemmas.Plain.{fields-plain, payload-plain}
-use Rattle.demands.specs.Lemmas.Passing.{Unmarked, Passes, Reserves, limited-refused, limited-refuses, InElement, in-field, by-end, in-body, element-refused, InKnown, of-order, in-fields, body-refused}
+use Rattle.demands.specs.Lemmas.Passing.{Passes, Reserves, limited-refused, limited-refuses, InElement, in-field, by-end, in-body, element-refused, InKnown, of-order, in-fields, body-refused}
 
 -- the fields with reserved values are marked, and beside them the elements; the numbers of the reader's own are the others
 data Limited : (A : Type 0) → P A → Type 1 where
