@@ -1,11 +1,12 @@
 -- The laws of what a reading comes to, each proved once over the tree.
-use mathlib.Core.Path.{_≡_, refl, sym, _∙_, subst, subst₂}
+use mathlib.Core.Path.{_≡_, refl, sym, ap, _∙_, subst, subst₂}
 use mathlib.Core.Bool.{Bool, true, false}
 use mathlib.Core.List.{List, [], _∷_}
 use mathlib.Core.Logic.{_⊎_, inl, inr, _↔_}
 use Prim.Native.Nat.{ℕ, _+_, _≤_, _<_}
 use native.Mathlib.Omega.{arith}
-use borrow.Author.Tests.{lt-leb}
+use lib.Dec.{leb}
+use borrow.Author.Tests.{le-leb, lt-leb}
 use Rattle.bits.specs.Language.{Res, ok, no, Bits, P, give, refuse, field, within, _>>=_, andThen, run, pastDeclared, pick, each}
 use Rattle.bits.specs.Steps.{no-ok, by-order, give-no, field-is, field-no, refuse-no, bind-no, bind-is, bind-stops, within-is, within-stops}
 use Rattle.bits.specs.Reached.{here, inside, first, behind, Comes, Stop, field-passes, size-passes, refuses, Stops, Plain, marked, giving, refusing, reads, both}
@@ -98,6 +99,36 @@ refused-when-stopped p b at e o r pl m = (stops-at p b at e o, λ x. refused-the
 -- So a reader that accepts comes to none.
 pub accepted-never-stops : {A : Type 0} (p : P A) (b : Bits) (at e o : ℕ) {v : A} {to r pl m : ℕ} → run p b at e o ≡ ok v to → Stops p b at e o r pl m → ⊥
 accepted-never-stops p b at e o {v} {to} {r} {pl} {m} h x = no-ok (sym (refused-when-stopped p b at e o r pl m .1 x) ∙ h)
+
+-- where p stops, if it does: the position, and the end and the refusal to which it is then held
+abbrev behindOr : {A X : Type 0} → Res A → (A → ℕ → X) → X → X
+behindOr (ok a to) k x = k a to
+behindOr (no r pl m) k x = x
+
+unfoldable stopAt : {A : Type 0} → P A → Bits → ℕ → ℕ → ℕ → ℕ × ℕ × ℕ
+stopAt (give a) b at e o = (at, e, o)
+stopAt (refuse r back) b at e o = (at, e, o)
+stopAt (field w f) b at e o = (at, e, o)
+stopAt (within n back p) b at e o = pick (leb (at + n) e) (stopAt p b at (at + n) pastDeclared) (at, e, o)
+stopAt (p >>= k) b at e o = behindOr (run p b at e o) (λ a to. stopAt (k a) b to e o) (stopAt p b at e o)
+
+stops-there : {A B : Type 0} {p : P A} {b : Bits} {q : P B} {at e o to end over r pl m : ℕ} → Comes p b at e o q to end over → Stop to end over B q r pl m
+    → stopAt p b at e o ≡ (to, end, over)
+unfolding stopAt
+stops-there here (field-passes l) = refl
+stops-there here (size-passes l) = rw (lt-leb _ _ l)
+stops-there here refuses = refl
+stops-there (inside l x) s = rw (le-leb _ _ l) (stops-there x s)
+stops-there {b = b} (first x) s = rw (refused-there x (stop-refuses b s)) (stops-there x s)
+stops-there (behind h x) s = rw h (stops-there x s)
+
+-- And there is one such step: two that stop stand at one position, held to one end with one refusal.
+pub one-stop : {A B C : Type 0} {p : P A} {b : Bits} {q : P B} {q' : P C} {at e o to end over r pl m to' end' over' r' pl' m' : ℕ}
+    → Comes p b at e o q to end over → Stop to end over B q r pl m → Comes p b at e o q' to' end' over' → Stop to' end' over' C q' r' pl' m'
+    → (to ≡ to') × (end ≡ end') × (over ≡ over')
+one-stop x s x' s' =
+    let same = sym (stops-there x s) ∙ stops-there x' s' in
+    (ap (λ (t : ℕ × ℕ × ℕ). t .0) same, ap (λ (t : ℕ × ℕ × ℕ). t .1) same, ap (λ (t : ℕ × ℕ × ℕ). t .2) same)
 
 -- ---- what is plain but for marked readers
 
