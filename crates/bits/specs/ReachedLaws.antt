@@ -25,7 +25,7 @@ pub refused-there : {A B : Type 0} {p : P A} {b : Bits} {q : P B} {at' e' o' at 
 refused-there here h = h
 refused-there (inside l x) h = within-stops _ _ _ _ _ _ _ l (refused-there x h)
 refused-there (first x) h = bind-stops _ _ _ _ _ _ (refused-there x h)
-refused-there (behind z x) h = bind-is _ _ _ _ _ _ z ∙ refused-there x h
+refused-there (behind {k = k} {mid = mid} z x) h = bind-is _ k _ _ _ _ {mid = mid} z ∙ refused-there x h
 
 -- ---- the step that stops
 
