@@ -45,10 +45,10 @@ module _ {b : Bits} {c : Cur} {l : Limit} where
   }
 
   -- a field that fits
-  pub whole : {A : Type 0} {w x : ℕ} {f : List ℕ → A} {v : A} {at : BitPos} → c .no ≡ 0 → c .at .0 + w ≤ l .end .0 → at .0 ≡ c .at .0 + w
-      → v ≡ f (slice b (c .at .0) w) → Reads (field w f) b c l v (record { v = x; missing = c .missing; at = at; no = 0 })
+  pub whole : {A : Type 0} {w m x : ℕ} {f : List ℕ → A} {v : A} {at : BitPos} → c .no ≡ 0 → c .at .0 + w ≤ l .end .0 → at .0 ≡ c .at .0 + w
+      → m ≡ c .missing → v ≡ f (slice b (c .at .0) w) → Reads (field w f) b c l v (record { v = x; missing = m; at = at; no = 0 })
   unfolding run
-  whole {w = w} r h t q = record { same = rw (r, le-leb (c .at .0 + w) (l .end .0) h, q, t); handed = λ z. refl }
+  whole {w = w} r h t g q = record { same = rw (r, le-leb (c .at .0 + w) (l .end .0) h, q, t); handed = λ z. g }
 
   -- nothing is read
   pub plain : {A : Type 0} {v : A} → Reads (give v) b c l v c

@@ -44,17 +44,17 @@ by-order {X} m n f g = go (leb m n) refl
     go false q = g (leb-false m n q)
 
 -- a number that is not one of low to high lies below them or above them
-pub below : (low high v : ℕ) → between low high v ≡ false → v ≤ high → v < low
-below low high v h l = by-order low v (λ m. absurd (true≢false (sym (rw (le-leb low v m, le-leb v high l) refl) ∙ h))) (λ m. m)
+pub free-below : (low high v : ℕ) → between low high v ≡ false → v ≤ high → v < low
+free-below low high v h l = by-order low v (λ m. absurd (true≢false (sym (rw (le-leb low v m, le-leb v high l) refl) ∙ h))) (λ m. m)
 
-pub above : (low high v : ℕ) → between low high v ≡ false → low ≤ v → high < v
-above low high v h l = by-order v high (λ m. absurd (true≢false (sym (rw (le-leb low v l, le-leb v high m) refl) ∙ h))) (λ m. m)
+pub free-above : (low high v : ℕ) → between low high v ≡ false → low ≤ v → high < v
+free-above low high v h l = by-order v high (λ m. absurd (true≢false (sym (rw (le-leb low v l, le-leb v high m) refl) ∙ h))) (λ m. m)
 
-pub below-is : (low high v : ℕ) → v < low → between low high v ≡ false
-below-is low high v h = rw (lt-leb low v h)
+pub below-free : (low high v : ℕ) → v < low → between low high v ≡ false
+below-free low high v h = rw (lt-leb low v h)
 
-pub above-is : (low high v : ℕ) → high < v → between low high v ≡ false
-above-is low high v h = rw (lt-leb v high h) (go (leb low v))
+pub above-free : (low high v : ℕ) → high < v → between low high v ≡ false
+above-free low high v h = rw (lt-leb v high h) (go (leb low v))
   where
     go : (t : Bool) → both t false ≡ false
     go true = refl

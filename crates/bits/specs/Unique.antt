@@ -39,8 +39,7 @@ agreeing d d' n a m =
     let e : standing (d .no) (d .at .0) (d .missing) ≡ standing (d' .no) (d' .at .0) (d' .missing) = rw (n, a, m) in
     e
 
--- Of two cursors that a reader leads to from c, neither is refused before the other, and they are one but for what v holds; where nothing is refused,
--- the values are one
+-- two cursors to which a reader leads from c agree in refusal, place and missing bits; where nothing is refused, so do the values
 pub one-reads : {A : Type 0} {p : P A} {b : Bits} {c d d' : Cur} {l : Limit} {v v' : A} → Reads p b c l v d → Reads p b c l v' d'
     → (valued d 0 ≡ valued d' 0) × (d .no ≡ 0 → v ≡ v')
 one-reads {c = c} {d} {d'} {v = v} {v'} r r' = go (eqb (d .no) 0) refl (eqb (d' .no) 0) refl (r .same ∙ sym (r' .same))

@@ -1,11 +1,10 @@
 -- What the code's cursor stands for, and what a function that reads promises.
 use mathlib.Core.Path.{_≡_}
-use mathlib.Core.Bool.{Bool, true, false}
+use mathlib.Core.Bool.{Bool, true}
 use mathlib.Core.List.{List}
 use Prim.Native.Nat.{ℕ, _+_, _-_, _*_, _<_}
 use lib.ListN.{getD}
 use lib.Dec.{eqb, leb}
-use Rattle.units.specs.declared.BitPos.{BitPos}
 use Rattle.bits.specs.declared.Cur.{Cur}
 use Rattle.bits.specs.declared.Limit.{Limit}
 use Rattle.bits.specs.Language.{Res, ok, no, pick, Bits, P, run, pastPayload, pastDeclared}

@@ -82,14 +82,8 @@ pub fn take_unless(on: bool, s: &[u8], l: Limit, c: Cur, w: u32, low: u32, high:
 {
     if on {
         let read = take(s, l, c, w);
-        refuse_if(
-            in_range(low, high, read.v),
-            s,
-            l,
-            read,
-            Refusal::Reserved,
-            w,
-        )
+        let reserved = in_range(low, high, read.v);
+        refuse_if(reserved, s, l, read, Refusal::Reserved, w)
     } else {
         with_value(c, 0)
     }

@@ -1,6 +1,5 @@
 -- `bits::cursor::in_range` meets its contract. Assumes nothing.
 use borrow.Author.Tests.{le-leb, lt-leb}
-use native.Mathlib.Omega.{arith}
 use Rattle.bits.proofs.cursor.in_range.Statement.{statement}
 use Rattle.bits.proofs.cursor.in_range.Tie as tie
 

@@ -15,7 +15,7 @@ returns c = record {
 
 returns-2 : tie.Need-returns-2
 returns-2 c = record {
-  reads = rw (c .before .before .before .before .before .before .before .if1 .taken) (whole (search needs) (omega arith) (omega arith) refl);
+  reads = rw (c .before .before .before .before .before .before .before .if1 .taken) (whole (search needs) (omega arith) (omega arith) (search needs) refl);
   empty = refl;
 }
 

@@ -25,7 +25,7 @@ returns-2 c =
     let r = shifted (now (a .s)) (λ j. omega (arith, b .shared-slice-known .given j)) (i .raw .result) (a .w) (c .before .word .result) (omega arith) x
     ∙ ap (λ (p : ℕ). number (slice (bit (now (a .s))) p (a .w))) (i .raw .ensures) in
     record {
-      reads = whole (search needs) (omega arith) (omega arith) r;
+      reads = whole (search needs) (omega arith) (omega arith) (search needs) r;
       small = subst (λ (v : ℕ). v < 2 ^ a .w) (sym r) (bits-lt _ _ _);
     }
 
