@@ -3,6 +3,8 @@ pub mod View
 pub mod Steps
 pub mod Unique
 pub mod Laws
+pub mod Reached
+pub mod ReachedLaws
 pub mod Refusals
 pub mod Size
 pub mod Writes

@@ -8,3 +8,8 @@ pub mod Skeletons
 pub mod Packing
 pub mod Assembled
 pub mod Limits
+pub mod Plain
+pub mod Passing
+pub mod Codes
+pub mod Stopping
+pub mod Carried

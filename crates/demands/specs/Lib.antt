@@ -1,6 +1,7 @@
 pub mod Terms
 pub mod Conditions
 pub mod Skeleton
+pub mod Stops
 pub mod Assembly
 pub mod Lemmas
 pub mod Appended
@@ -11,3 +12,4 @@ pub mod Refusals
 pub mod Unique
 pub mod Answers
 pub mod Numbers
+pub mod ExactlyWhen
