@@ -44,7 +44,7 @@ abbrev pub declaredEnd : {s : List ℕ} {id : ℕ} → Sized s id → ℕ
 declaredEnd x = x .behind + elementBits (x .size)
 
 -- 2: a field passes the payload's end, and the place is the field's first bit; or an element's declared end passes it, and the place is the first bit of its
--- size
+-- size. Each group and each flag of a size is a field, and so is each run of reserved or additional data
 pub data PassesPayload (s : List ℕ) (place : ℕ) : Type 1 where
   by-field : {A : Type 0} (w : ℕ) (f : List ℕ → A) → ComesTo s (field w f) place → 8 * length s < place + w → PassesPayload s place
   by-size : (id : ℕ) (x : Sized s id) → place ≡ id + 4 → 8 * length s < declaredEnd x → PassesPayload s place

@@ -1,4 +1,4 @@
--- Where an element's reader is refused: in its id or its size, by its declared end, or in the fields of a known element.
+-- Where a field with reserved values is refused, and where an element is: in its id or its size, by its declared end, or in the fields of a known element.
 use mathlib.Core.Path.{_≡_, refl, sym, ap, _∙_, subst}
 use mathlib.Core.Bool.{Bool, true, false}
 use mathlib.Core.List.{List}
@@ -21,7 +21,7 @@ use Rattle.demands.specs.Skeleton.{isKnown}
 use Rattle.demands.specs.Lemmas.Plain.{size-plain}
 use Rattle.demands.specs.Lemmas.Frame.{size-goes, alternate-goes}
 
--- no reader is marked, no number is said
+-- no reader is marked
 pub data Unmarked : (A : Type 0) → P A → Type 1 where
 
 -- p comes to a field that passes the end to which p itself is held

@@ -1,4 +1,4 @@
--- The payload's reader, refused with 2 or 8.
+-- The payload's reader, refused with 2, 5 or 8: where, and back from there.
 use mathlib.Core.Path.{_≡_, refl, ap, _∙_}
 use mathlib.Core.Bool.{true}
 use mathlib.Core.List.{List}
@@ -14,18 +14,18 @@ use Rattle.bits.specs.Reached.{Comes, here, field-passes, size-passes}
 use Rattle.bits.specs.ReachedLaws.{comes-on, refused-there, stop-refuses, Halts, at-field, at-marked, of-own, halts}
 use Rattle.oamd.specs.declared.Kind.{Kind}
 use Rattle.oamd.specs.declared.Programme.{Programme}
+use Rattle.oamd.specs.Reserved.{Field, unreserved}
 use Rattle.oamd.specs.Element.{elementBits, backToId, framed, State, fields, oa-element, oa-element-md}
 use Rattle.oamd.specs.Payload.{object-audio-metadata-payload}
 use Rattle.demands.specs.Terms.{runs, parsed}
 use Rattle.demands.specs.Stops.{ComesTo, Sized, declaredEnd, PassesPayload, by-field, by-size, PassesElement, bitsIn, CarriesReserved}
-use Rattle.oamd.specs.Reserved.{Field, unreserved}
-use Rattle.demands.specs.Lemmas.Codes.{in-table, by-test, widths}
 use Rattle.demands.specs.Skeleton.{isKnown}
+use Rattle.demands.specs.Lemmas.Codes.{in-table, by-test, widths}
 use Rattle.demands.specs.Lemmas.Frame.{size-goes}
 use Rattle.demands.specs.Lemmas.Plain.{fields-plain, payload-plain}
 use Rattle.demands.specs.Lemmas.Passing.{Passes, Reserves, limited-refused, limited-refuses, InElement, in-field, by-end, in-body, element-refused, InKnown, of-order, in-fields, body-refused}
 
--- the fields with reserved values are marked, and beside them the elements; the numbers of the reader's own are the others
+-- in a known element the fields with reserved values are marked; outside of the elements these and the elements
 data Limited : (A : Type 0) → P A → Type 1 where
   limited : (f : Field) → Limited ℕ (unreserved f)
 
@@ -33,6 +33,7 @@ data Marked : (A : Type 0) → P A → Type 1 where
   limits : (f : Field) → Marked ℕ (unreserved f)
   element : (p : Programme) (alternate : ℕ) (st : State) → Marked State (oa-element-md p alternate st)
 
+-- the other numbers
 record Own (r : ℕ) : Type 0 where
   pub two : r ≡ 2 → ⊥
   pub five : r ≡ 5 → ⊥
@@ -45,13 +46,14 @@ data Where (s : List ℕ) (r place : ℕ) : Type 1 where
   coded : r ≡ 5 → CarriesReserved s place → Where s r place
   other : Own r → Where s r place
 
+-- for a field that is held to the payload's end
 in-payload : (s : List ℕ) {r place : ℕ} → Passes object-audio-metadata-payload (bit s) 0 (8 * length s) pastPayload r place → Where s r place
 in-payload s x = early (x .over) (by-field (x .width) (x .value) (x .comes) (x .passes))
 
+-- for a value that is reserved
 is-coded : (s : List ℕ) {A : Type 0} {p : P A} {at e o r place : ℕ} → Comes object-audio-metadata-payload (bit s) 0 (8 * length s) pastPayload p at e o
     → (r ≡ 5) × Reserves p (bit s) at e o place → Where s r place
 is-coded s {e = e} {o = o} {place = place} c (h, x) =
-    let b = bit s in
     let v = in-table (x .field) _ (x .reserved) in
     coded h (record {
       field = x .field;
