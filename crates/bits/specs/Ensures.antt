@@ -6,14 +6,14 @@ use Prim.Native.Nat.{ℕ, _+_, _^_, _<_}
 use lib.ListN.{length}
 use Rattle.bits.specs.Language.{ok, pick, Bits, slice, number, P, give, refuse, field, within, _>>=_, run, bits, when, bitsIf, refuseIf, each, pastDeclared}
 use Rattle.bits.specs.Steps.{no-ok, give-ok, bind-ok, within-ok, field-ok, length-slice}
-use Rattle.bits.specs.Writes.{Bin}
-use Rattle.bits.specs.Bytes.{number-lt, bin-slice}
+use Rattle.bits.specs.Writes.{Binary}
+use Rattle.bits.specs.Lists.{number-lt, binary-slice}
 
 -- Q holds of whatever p can give
 unfoldable pub Ensures : {A : Type 0} → P A → (A → Type 0) → Type 0
 Ensures (give a) Q = Q a
 Ensures (refuse r back) Q = Unit {0}
-Ensures (field w f) Q = (l : List ℕ) → length l ≡ w → Bin l → Q (f l)
+Ensures (field w f) Q = (l : List ℕ) → length l ≡ w → Binary l → Q (f l)
 Ensures (within n back p) Q = Ensures p Q
 Ensures (p >>= k) Q = Ensures p (λ a. Ensures (k a) Q)
 
@@ -22,7 +22,7 @@ pub ensured : {A : Type 0} (p : P A) (Q : A → Type 0) → Ensures p Q → (b :
 unfolding run Ensures
 ensured (give a) Q h b bin at e o r = subst Q (give-ok a b at e o r .0) h
 ensured (refuse n back) Q h b bin at e o r = absurd (no-ok r)
-ensured (field w f) Q h b bin at e o r = subst Q (field-ok w f b at e o r .1) (h (slice b at w) (length-slice b at w) (bin-slice b at w bin))
+ensured (field w f) Q h b bin at e o r = subst Q (field-ok w f b at e o r .1) (h (slice b at w) (length-slice b at w) (binary-slice b at w bin))
 ensured (within n back p) Q h b bin at e o r = within-ok n back p b at e o r λ mid l q m. ensured p Q h b bin at (at + n) pastDeclared q
 ensured (p >>= k) Q h b bin at e o r =
     bind-ok p k b at e o r λ a mid q s. ensured (k a) Q (ensured p (λ a. Ensures (k a) Q) h b bin at e o q) b bin mid e o s

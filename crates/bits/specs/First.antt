@@ -1,20 +1,16 @@
 -- Which of two lists of bits is to be written: the one with fewer bits, and of equal length the smaller number.
 use mathlib.Core.Path.{_≡_, refl, sym, ap, _∙_}
 use mathlib.Core.Bool.{Bool, true, false}
-use mathlib.Core.List.{List, [], _∷_, _++_}
+use mathlib.Core.List.{List, [], _++_}
 use Prim.Native.Nat.{ℕ, _+_, _*_, _^_, _≤_}
 use native.Mathlib.Omega.{arith}
-use native.Mathlib.Nat.{add-mul, mul-assoc, mul-le-mul-right}
+use native.Mathlib.Nat.{mul-le-mul-right}
 use lib.ListN.{length, length-append}
-use lib.Pow.{pow-add}
 use lib.Dec.{leb, ltb, eqb}
 use borrow.Author.Tests.{leb-true, ltb-true, eqb-true, eqb-false}
 use Rattle.bits.specs.Language.{pick, number}
-
--- l comes before m, or is as good
-pub record First (l m : List ℕ) : Type 0 where
-  pub fewer : length l ≤ length m
-  pub smaller : length l ≡ length m → number l ≤ number m
+use Rattle.bits.specs.Writes.{First}
+use Rattle.bits.specs.Lists.{number-append}
 
 -- as a test
 abbrev pub first? : List ℕ → List ℕ → Bool
@@ -34,16 +30,6 @@ first-same l = record { fewer = omega arith; smaller = λ e. omega arith }
 pub first-none : (l : List ℕ) → First [] l
 unfolding number
 first-none l = record { fewer = omega arith; smaller = λ e. omega arith }
-
-pub number-append : (l m : List ℕ) → number (l ++ m) ≡ number l * 2 ^ length m + number m
-unfolding number
-number-append [] m = omega arith
-number-append (x ∷ xs) m =
-    let a : 2 ^ length (xs ++ m) ≡ 2 ^ length xs * 2 ^ length m = ap (λ (n : ℕ). 2 ^ n) (length-append xs m) ∙ pow-add 2 (length xs) (length m) in
-    let b = number-append xs m in
-    let c = add-mul (x * 2 ^ length xs) (number xs) (2 ^ length m) in
-    let d = mul-assoc x (2 ^ length xs) (2 ^ length m) in
-    rw a (omega arith)
 
 -- what comes first in each part comes first in the whole
 pub first-append : {a b c d : List ℕ} → First a b → First c d → First (a ++ c) (b ++ d)

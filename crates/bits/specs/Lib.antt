@@ -1,11 +1,13 @@
 pub mod Language
 pub mod View
-pub mod Steps
-pub mod Laws
 pub mod Refusals
 pub mod Size
 pub mod Writes
+pub mod Steps
+pub mod Laws
+pub mod Lists
 pub mod Bytes
+pub mod Back
 pub mod Ensures
 pub mod Spells
 pub mod First

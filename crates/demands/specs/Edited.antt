@@ -7,16 +7,18 @@ use native.Mathlib.Omega.{arith}
 use lib.ListN.{length, getD}
 use Rattle.bits.specs.Language.{slice, run, number}
 use Rattle.bits.specs.Size.{sizeFrom}
+use Rattle.bits.specs.Writes.{Binary, toBits, toBytes}
+use Rattle.bits.specs.Lists.{binary-toBits}
+use Rattle.bits.specs.Bytes.{toBytes-bit}
 use Rattle.oamd.specs.declared.Kind.the-variants.{Unknown}
 use Rattle.oamd.specs.Tables.{mostBytes, mostElements}
 use Rattle.oamd.specs.Element.{kind, framed}
 use Rattle.oamd.specs.Answer.{reading}
 use Rattle.demands.specs.Skeleton.{Body, body, known, takenOut, skeleton, SameTables}
-use Rattle.demands.specs.Assembly.{Binary, Head, Element, allBodies, toBits, toBytes, payloadOf, PutTogether}
+use Rattle.demands.specs.Assembly.{Head, Element, allBodies, payloadOf, PutTogether}
 use Rattle.demands.specs.Unknown.{unknown-elements}
 use Rattle.demands.specs.Lemmas.Reading.{read-of}
 use Rattle.demands.specs.Lemmas.Skeletons.{outlined, known-append, known-but}
-use Rattle.demands.specs.Lemmas.Packing.{binary-toBits, toBytes-bit}
 use Rattle.demands.specs.Lemmas.Assembled.{outline-is, together-of}
 
 -- Let a payload with the header h and the elements es be accepted. Then that with the elements es', up to 46 of them and up to 4,096 bytes, and with

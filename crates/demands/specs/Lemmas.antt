@@ -5,5 +5,4 @@ pub mod Elements
 pub mod Records
 pub mod Order
 pub mod Skeletons
-pub mod Packing
 pub mod Assembled

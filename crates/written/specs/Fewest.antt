@@ -9,9 +9,9 @@ use lib.ListN.{length}
 use lib.Dec.{eqb}
 use borrow.Author.Tests.{eqb-false}
 use Rattle.bits.specs.Language.{both, bits}
-use Rattle.bits.specs.Writes.{toBits, only}
-use Rattle.bits.specs.Spells.{Spells, s-give, s-bind, s-bits, s-if, s-pass}
-use Rattle.bits.specs.First.{First, first-append}
+use Rattle.bits.specs.Writes.{toBits, only, Spells, First}
+use Rattle.bits.specs.Spells.{s-give, s-bind, s-bits, s-if, s-pass}
+use Rattle.bits.specs.First.{first-append}
 use Rattle.oamd.specs.declared.Status.the-variants.{Full}
 use Rattle.oamd.specs.declared.Place.{Place}
 use Rattle.oamd.specs.Programme.{set?, clear?}

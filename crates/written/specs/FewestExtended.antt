@@ -8,9 +8,9 @@ use lib.ListN.{length, getD, replicate}
 use lib.Dec.{ltb, eqb}
 use borrow.Author.Tests.{eqb-true}
 use Rattle.bits.specs.Language.{both, P, bits, when, each, number}
-use Rattle.bits.specs.Writes.{toBits, only, eachBits}
-use Rattle.bits.specs.Spells.{Spells, s-give, s-bind, s-bits, s-if, s-pass, s-pick, s-then}
-use Rattle.bits.specs.First.{First, first-of, first-same, first-none, first-append}
+use Rattle.bits.specs.Writes.{toBits, only, eachBits, Spells, First}
+use Rattle.bits.specs.Spells.{s-give, s-bind, s-bits, s-if, s-pass, s-pick, s-then}
+use Rattle.bits.specs.First.{first-of, first-same, first-none, first-append}
 use Rattle.oamd.specs.declared.Divergence.{Divergence}
 use Rattle.oamd.specs.declared.Precise.{Precise}
 use Rattle.oamd.specs.Programme.{set?}

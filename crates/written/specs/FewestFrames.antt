@@ -8,8 +8,8 @@ use lib.Arith.{digits-div, digits-mod}
 use lib.Dec.{eqb}
 use borrow.Author.Tests.{eqb-true, eqb-false, le-leb, lt-leb}
 use Rattle.bits.specs.Size.{sizeFrom, variable-bits-max}
-use Rattle.bits.specs.Writes.{toBits}
-use Rattle.bits.specs.Spells.{Spells, s-give, s-bind, s-bits, s-pick}
+use Rattle.bits.specs.Writes.{toBits, Spells}
+use Rattle.bits.specs.Spells.{s-give, s-bind, s-bits, s-pick}
 use Rattle.written.specs.Form.{groupBits, sizeBits, sizeFor}
 
 -- ---- sizes (5.5.1)

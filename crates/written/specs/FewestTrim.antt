@@ -6,9 +6,10 @@ use native.Mathlib.Omega.{arith}
 use lib.ListN.{replicate}
 use lib.Dec.{leb, ltb, eqb}
 use Rattle.bits.specs.Language.{both, P, bits, when, each, from, for}
-use Rattle.bits.specs.Writes.{toBits, only, eachBits, length-toBits, number-toBits}
-use Rattle.bits.specs.Spells.{Spells, s-give, s-bind, s-bits, s-if, s-pass, s-then}
-use Rattle.bits.specs.First.{First, first-same, first-append}
+use Rattle.bits.specs.Writes.{toBits, only, eachBits, Spells, First}
+use Rattle.bits.specs.Lists.{length-toBits, number-toBits}
+use Rattle.bits.specs.Spells.{s-give, s-bind, s-bits, s-if, s-pass, s-then}
+use Rattle.bits.specs.First.{first-same, first-append}
 use Rattle.oamd.specs.Tables.{trimConfigs}
 use Rattle.oamd.specs.Programme.{set?, clear?}
 use Rattle.oamd.specs.Trim.{hasCentre, hasSurround, hasHeight, hasTb, hasLis, trim-config, noConfig, trim-element}

@@ -9,8 +9,8 @@ use native.Mathlib.Nat.{zero-mul, mul-zero, mul-le-mul}
 use lib.ListN.{length}
 use borrow.Author.Tests.{ne-eqb, le-leb, ltb-true, ltb-false}
 use Rattle.bits.specs.Language.{ok, run, bit, from, for, pastPayload}
-use Rattle.bits.specs.Writes.{toBits, only, eachBits, Writes, w-give, w-bits, w-bind, w-end, w-is, w-each}
-use Rattle.bits.specs.Bytes.{from-bytes}
+use Rattle.bits.specs.Writes.{toBits, only, eachBits}
+use Rattle.bits.specs.Back.{Writes, w-give, w-bits, w-bind, w-end, w-is, w-each, from-bytes}
 use Rattle.oamd.specs.declared.Scene.{Scene}
 use Rattle.oamd.specs.declared.Kind.the-variants.{Object, Trim, Extended}
 use Rattle.oamd.specs.Tables.{mostBytes, mostObjects, mostBlocks}

@@ -7,8 +7,9 @@ use Prim.Native.Nat.{ℕ, zero, suc, _+_, _-_, _*_, _≤_}
 use native.Mathlib.Omega.{arith}
 use lib.ListN.{length}
 use Rattle.bits.specs.Language.{Res, ok, no, pick, Bits, slice, andThen, run, bit, pastPayload, pastDeclared}
-use Rattle.bits.specs.Steps.{value, next, andThen-ok, ok-at, bind-ok, give-ok, give-is, bind-is, field-is, listed, slice-at, length-slice}
+use Rattle.bits.specs.Steps.{value, next, andThen-ok, ok-at, bind-ok, give-ok, give-is, bind-is, field-is, slice-at, length-slice}
 use Rattle.bits.specs.Laws.{local}
+use Rattle.bits.specs.Writes.{listed}
 use Rattle.oamd.specs.declared.Kind.{Kind}
 use Rattle.oamd.specs.declared.Kind.the-variants.{Unknown}
 use Rattle.oamd.specs.declared.Programme.{Programme}

@@ -7,7 +7,8 @@ use native.Mathlib.Omega.{arith}
 use lib.Dec.{eqb}
 use borrow.Author.Tests.{eqb-true}
 use Rattle.bits.specs.Language.{pick}
-use Rattle.bits.specs.Writes.{toBits, only, Writes, w-give, w-bits, w-bind, w-end}
+use Rattle.bits.specs.Writes.{toBits, only}
+use Rattle.bits.specs.Back.{Writes, w-give, w-bits, w-bind, w-end}
 use Rattle.oamd.specs.declared.Status.{Status}
 use Rattle.oamd.specs.declared.Status.the-variants.{Default, Full}
 use Rattle.oamd.specs.declared.Position.the-variants.{Absolute}

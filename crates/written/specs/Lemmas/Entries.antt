@@ -8,7 +8,7 @@ use lib.ListN.{length, replicate, take}
 use lib.Dec.{leb}
 use borrow.Author.Tests.{le-leb}
 use Rattle.bits.specs.Language.{from}
-use Rattle.bits.specs.Writes.{Along}
+use Rattle.bits.specs.Back.{Along}
 use Rattle.written.specs.Valid.{_and_, entriesValid}
 use Rattle.written.specs.Lemmas.Facts.{halves}
 

@@ -8,7 +8,8 @@ use lib.ListN.{length, replicate}
 use lib.Dec.{ltb, eqb}
 use borrow.Author.Tests.{ne-eqb, eqb-false, ltb-false}
 use Rattle.bits.specs.Language.{pick, both, P, bits, when, bitsIf, each}
-use Rattle.bits.specs.Writes.{toBits, only, Along, Writes, w-give, w-bits, w-bind, w-end, w-is, w-if, w-when, w-pass, w-each}
+use Rattle.bits.specs.Writes.{toBits, only}
+use Rattle.bits.specs.Back.{Along, Writes, w-give, w-bits, w-bind, w-end, w-is, w-if, w-when, w-pass, w-each}
 use Rattle.oamd.specs.declared.Shares.{Shares}
 use Rattle.oamd.specs.declared.Divergence.{Divergence}
 use Rattle.oamd.specs.declared.Precise.{Precise}

@@ -7,7 +7,8 @@ use lib.Dec.{leb}
 use borrow.Author.Tests.{leb-true, eqb-true, le-leb, eq-eqb}
 use Rattle.bits.specs.Language.{pick, both, bitsIf}
 use Rattle.bits.specs.Steps.{by-order}
-use Rattle.bits.specs.Writes.{toBits, only, Writes, w-give, w-bits, w-if}
+use Rattle.bits.specs.Writes.{toBits, only}
+use Rattle.bits.specs.Back.{Writes, w-give, w-bits, w-if}
 use Rattle.written.specs.Valid.{_and_, ranged}
 
 -- both halves of a test, and both together

@@ -8,8 +8,8 @@ use lib.ListN.{length}
 use lib.Dec.{eqb}
 use borrow.Author.Tests.{ne-eqb, eq-eqb}
 use Rattle.bits.specs.Language.{pick, number}
-use Rattle.bits.specs.Writes.{toBits, only}
-use Rattle.bits.specs.First.{First, first?, first-of, first-same, first-append, first-cancel}
+use Rattle.bits.specs.Writes.{toBits, only, First}
+use Rattle.bits.specs.First.{first?, first-of, first-same, first-append, first-cancel}
 use Rattle.oamd.specs.declared.Offset.{Offset}
 use Rattle.oamd.specs.declared.BlockUpdate.{BlockUpdate}
 use Rattle.oamd.specs.declared.Gain.{Gain}

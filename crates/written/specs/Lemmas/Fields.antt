@@ -7,7 +7,8 @@ use native.Mathlib.Omega.{arith}
 use lib.Dec.{leb, eqb}
 use borrow.Author.Tests.{ne-eqb, lt-leb}
 use Rattle.bits.specs.Language.{bits}
-use Rattle.bits.specs.Writes.{toBits, only, Writes, w-give, w-bits, w-bind, w-end, w-list, w-if, w-pass}
+use Rattle.bits.specs.Writes.{toBits, only}
+use Rattle.bits.specs.Back.{Writes, w-give, w-bits, w-bind, w-end, w-list, w-if, w-pass}
 use Rattle.oamd.specs.declared.Offset.{Offset}
 use Rattle.oamd.specs.declared.BlockUpdate.{BlockUpdate}
 use Rattle.oamd.specs.declared.Gain.{Gain}

@@ -8,7 +8,8 @@ use native.Mathlib.Nat.{mul-suc, mul-add}
 use lib.ListN.{length, take, drop, replicate, length-append, length-replicate, take-append-drop}
 use lib.Dec.{leb, ltb, eqb}
 use Rattle.bits.specs.Language.{both}
-use Rattle.bits.specs.Writes.{toBits, only, eachBits, length-toBits}
+use Rattle.bits.specs.Writes.{toBits, only, eachBits}
+use Rattle.bits.specs.Lists.{length-toBits}
 use Rattle.oamd.specs.declared.Programme.{Programme}
 use Rattle.oamd.specs.declared.Bed.{Bed}
 use Rattle.oamd.specs.declared.Offset.{Offset}

@@ -9,7 +9,8 @@ use lib.Seq.{length-take-le}
 use lib.Dec.{eqb}
 use borrow.Author.Tests.{eqb-true}
 use Rattle.bits.specs.Language.{pick, from, for}
-use Rattle.bits.specs.Writes.{eachBits, Writes, w-give, w-bits, w-bind, w-end, w-each}
+use Rattle.bits.specs.Writes.{eachBits}
+use Rattle.bits.specs.Back.{Writes, w-give, w-bits, w-bind, w-end, w-each}
 use Rattle.oamd.specs.declared.Update.{Update}
 use Rattle.oamd.specs.declared.Timing.{Timing}
 use Rattle.oamd.specs.Tables.{mostBlocks}

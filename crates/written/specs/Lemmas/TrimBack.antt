@@ -10,7 +10,8 @@ use lib.Seq.{take-length}
 use lib.Dec.{leb, ltb, eqb}
 use borrow.Author.Tests.{eqb-true, eqb-false, ne-eqb, le-ltb, lt-leb}
 use Rattle.bits.specs.Language.{pick, both, P, bits, when, from, for}
-use Rattle.bits.specs.Writes.{toBits, only, eachBits, Writes, w-give, w-bits, w-bind, w-end, w-is, w-when, w-pass, w-each}
+use Rattle.bits.specs.Writes.{toBits, only, eachBits}
+use Rattle.bits.specs.Back.{Writes, w-give, w-bits, w-bind, w-end, w-is, w-when, w-pass, w-each}
 use Rattle.oamd.specs.declared.TrimConfig.{TrimConfig}
 use Rattle.oamd.specs.Tables.{trimConfigs}
 use Rattle.oamd.specs.Programme.{set?, clear?}
