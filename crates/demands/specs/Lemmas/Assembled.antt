@@ -6,13 +6,13 @@ use mathlib.Core.Option.{some}
 use Prim.Native.Nat.{ℕ, zero, suc, _+_, _-_, _*_, _≤_, _<_}
 use native.Mathlib.Omega.{arith}
 use lib.Dec.{ltb, eqb}
-use lib.ListN.{length}
+use lib.ListN.{length, length-append}
 use borrow.Author.Tests.{ltb-true, ltb-false, lt-ltb, le-ltb, eqb-true, eqb-false, ne-eqb}
 use Rattle.bits.specs.Language.{ok, pick, Bits, slice, P, run, bit, pastPayload}
-use Rattle.bits.specs.Steps.{ok-at, give-ok, bind-ok, slice-at, length-slice}
+use Rattle.bits.specs.Steps.{ok-at, give-ok, bind-ok, slice-get, slice-at, length-slice}
 use Rattle.bits.specs.Laws.{local}
 use Rattle.bits.specs.Writes.{Binary, listed, toBits, only, toBytes, Spells}
-use Rattle.bits.specs.Lists.{binary-slice}
+use Rattle.bits.specs.Lists.{Holds, holds-left, binary-slice}
 use Rattle.bits.specs.Bytes.{bit-lt}
 use Rattle.bits.specs.Back.{Writes, w-give, w-bits, w-bind, w-end, w-is, w-exact, from-padded}
 use Rattle.bits.specs.Spells.{taken, taken-join, spelled, s-give, s-bind, s-bits, s-if}
@@ -62,6 +62,23 @@ unfolding outline payloadOf
 outline-is h es padding few bin =
     subst (λ (l : List ℕ). given (runs outline-payload (toBytes l) 0) ≡ some (record { header = h .is; elements = allBodies es }))
     (padded (h .bits) (countBits (length es)) (allBits es) padding) (ap given (from-padded padding (outline-writes h es few) bin))
+
+-- and so has what they were put together into
+pub outline-together : (s : List ℕ) (x : PutTogether s) → outline s ≡ some (record { header = x .head .is; elements = allBodies (x .elements) })
+unfolding outline
+outline-together s x =
+    let b = bit s in
+    let e : ℕ = 8 * length s in
+    let l : List ℕ = x .head .bits ++ (countBits (length (x .elements)) ++ allBits (x .elements)) in
+    let n = length-slice b 0 e in
+    let same : slice b 0 e ≡ l ++ x .padding = x .together ∙ sym (padded (x .head .bits) (countBits (length (x .elements))) (allBits (x .elements)) (x .padding)) in
+    let holds : Holds b 0 (l ++ x .padding) = subst (Holds b 0) same (λ i j. slice-get b 0 e i (omega arith)) in
+    let fits : length l ≤ e = omega (arith, length-append l (x .padding), ap length same) in
+    ap given (outline-writes (x .head) (x .elements) (x .few) .reads b 0 e pastPayload (holds-left b 0 l (x .padding) holds) (omega arith))
+
+pub bodies-append : {alternate : ℕ} (xs ys : List (Element alternate)) → allBodies (xs ++ ys) ≡ allBodies xs ++ allBodies ys
+bodies-append [] ys = refl
+bodies-append (x ∷ xs) ys = ap (λ (l : List Body). x .is ∷ l) (bodies-append xs ys)
 
 -- ---- what is read
 
