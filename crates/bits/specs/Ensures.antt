@@ -82,6 +82,11 @@ pub e-if : (t : Bool) (w : ℕ) (Q : ℕ → Type 0) → ((v : ℕ) → (t ≡ t
 e-if true w Q h = e-bits w Q (λ v l. h v (λ q. l) (λ q. absurd (true≢false q)))
 e-if false w Q h = e-give 0 Q (h 0 (λ q. absurd (false≢true q)) (λ q. refl))
 
+-- Q holds of every entry of a list
+abbrev pub Every : {A : Type 0} → (A → Type 0) → List A → Type 0
+Every Q [] = Unit {0}
+Every Q (a ∷ rest) = Q a × Every Q rest
+
 -- what holds of each value of a loop, and of its entry
 abbrev pub All : {X A : Type 0} → (X → A → Type 0) → List X → List A → Type 0
 All R [] [] = Unit {0}

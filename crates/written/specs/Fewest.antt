@@ -5,7 +5,6 @@ use mathlib.Core.Bool.{true}
 use mathlib.Core.List.{_++_, append-nil, append-assoc}
 use Prim.Native.Nat.{ℕ, _<_}
 use native.Mathlib.Omega.{arith}
-use lib.ListN.{length}
 use lib.Dec.{eqb}
 use borrow.Author.Tests.{eqb-false}
 use Rattle.bits.specs.Language.{both, bits}
@@ -18,7 +17,6 @@ use Rattle.oamd.specs.Programme.{set?, clear?}
 use Rattle.oamd.specs.Timing.{sample-offset, block-update-info, offsetOf, updateOf}
 use Rattle.oamd.specs.Block.{object-basic-info, coordinates, distance, extent}
 use Rattle.oamd.specs.Meaning.{gainOf, priorityOf, placeOf, distanceOf, volumeOf}
-use Rattle.written.specs.Valid.{_and_}
 use Rattle.written.specs.Coded.{codedOffset, codedUpdate, codedGain, codedPriority, codedDistance, codedExtent}
 use Rattle.written.specs.Lemmas.Codable.{offsetCodable, updateCodable, gainCodable, priorityCodable, distanceCodable, extentCodable}
 use Rattle.written.specs.Form.{offsetBits, updateBits, gainBits, priorityBits, positionBits, distanceBits, extentBits}

@@ -1,16 +1,16 @@
 -- The same for the extended object element (5.5.13 to 5.5.15): which of its two groups are there, and which records say that they have a precise position.
 use mathlib.Core.Path.{_≡_, refl, sym, ap, ap₂, _∙_, subst}
-use mathlib.Core.Bool.{Bool, true, false, not, false≢true}
+use mathlib.Core.Bool.{Bool, true, false, false≢true}
 use mathlib.Core.List.{List, [], _∷_, _++_, map, append-nil, append-assoc}
 use Prim.Native.Nat.{ℕ, suc, _+_, _<_}
 use native.Mathlib.Omega.{arith}
 use lib.ListN.{length, getD, replicate}
 use lib.Dec.{ltb, eqb}
 use borrow.Author.Tests.{eqb-true}
-use Rattle.bits.specs.Language.{both, P, bits, when, each, number}
+use Rattle.bits.specs.Language.{both, P, when, each, number}
 use Rattle.bits.specs.Writes.{toBits, only, eachBits, Spells, First}
 use Rattle.bits.specs.Spells.{s-give, s-bind, s-bits, s-if, s-pass, s-pick, s-then}
-use Rattle.bits.specs.First.{first-of, first-same, first-none, first-append}
+use Rattle.bits.specs.First.{first-of, first-same, first-none, first-append, bitsOfEach, each-first}
 use Rattle.oamd.specs.declared.Divergence.{Divergence}
 use Rattle.oamd.specs.declared.Precise.{Precise}
 use Rattle.oamd.specs.Programme.{set?}
@@ -87,20 +87,6 @@ precise-fewest sent =
 
 -- ---- the element
 
--- the bits of each entry's value
-abbrev bitsOfEach : {X A : Type 0} → (X → A → List ℕ) → List X → List A → List ℕ
-bitsOfEach enc [] vs = []
-bitsOfEach enc (x ∷ xs) [] = []
-bitsOfEach enc (x ∷ xs) (v ∷ vs) = enc x v ++ bitsOfEach enc xs vs
-
-each-first : {X A : Type 0} (f : X → P A) (enc : X → A → List ℕ) → ((x : X) → Spells (f x) (λ l a. First (enc x a) l))
-    → (xs : List X) → Spells (each f xs) (λ l vs. First (bitsOfEach enc xs vs) l)
-unfolding each
-each-first f enc h [] = s-give _ _ (first-same [])
-each-first f enc h (x ∷ xs) =
-    s-bind _ _ _ (s-then _ _ _ (h x) λ l a p. s-bind _ _ _ (s-then _ _ _ (each-first f enc h xs) λ m vs q. s-give _ _
-    (rw (append-nil m) (first-append p q))))
-
 -- one of the two groups: a part of each record, with a value that stands for none, and a test that says which records have it
 module _ {A : Type 0} (block : Bool → P A) (enc : Bool → A → List ℕ) (least : (c : Bool) → Spells (block c) (λ l a. First (enc c a) l))
     (part : Record → A) (none : A) (has : Record → Bool) (absent : (r : Record) → none ≡ part r → has r ≡ false) where
@@ -115,7 +101,7 @@ module _ {A : Type 0} (block : Bool → P A) (enc : Bool → A → List ℕ) (le
   group : (rs : List Record) (b : ℕ) → Spells (when (set? b) (each block (sent rs)) (replicate (length (sent rs)) none)) (Group rs b)
   group rs b =
       s-pick (set? b) _ _ _
-      (λ q. s-then _ _ _ (each-first block enc least (sent rs)) λ l vs f. record { there = λ p. f; not-there = λ p. absurd (false≢true (sym p ∙ q)) })
+      (λ q. s-then _ _ _ (each-first block enc least (sent rs)) λ l vs f. record { there = λ p. f .0; not-there = λ p. absurd (false≢true (sym p ∙ q)) })
       (λ q. s-give _ _ (record { there = λ p. absurd (false≢true (sym q ∙ p)); not-there = λ p. refl }))
 
   none-has : (rs : List Record) → replicate (length (sent rs)) none ≡ map part rs → any has rs ≡ false

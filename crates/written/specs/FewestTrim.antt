@@ -1,15 +1,15 @@
 -- The same for the trim element (5.5.12): its two reserved bits are the only choice, and they are 0.
 use mathlib.Core.Bool.{Bool, true, false}
-use mathlib.Core.List.{List, [], _∷_, append-nil}
-use Prim.Native.Nat.{ℕ, suc}
+use mathlib.Core.List.{List, [], append-nil}
+use Prim.Native.Nat.{ℕ}
 use native.Mathlib.Omega.{arith}
 use lib.ListN.{replicate}
 use lib.Dec.{leb, ltb, eqb}
-use Rattle.bits.specs.Language.{both, P, bits, when, each, from, for}
+use Rattle.bits.specs.Language.{both, P, bits, when, from, for}
 use Rattle.bits.specs.Writes.{toBits, only, eachBits, Spells, First}
 use Rattle.bits.specs.Lists.{length-toBits, number-toBits}
 use Rattle.bits.specs.Spells.{s-give, s-bind, s-bits, s-if, s-pass, s-then}
-use Rattle.bits.specs.First.{first-same, first-append}
+use Rattle.bits.specs.First.{first-same, first-append, each-first, bits-of-all}
 use Rattle.oamd.specs.Tables.{trimConfigs}
 use Rattle.oamd.specs.Programme.{set?, clear?}
 use Rattle.oamd.specs.Trim.{hasCentre, hasSurround, hasHeight, hasTb, hasLis, trim-config, noConfig, trim-element}
@@ -33,19 +33,11 @@ config-only =
     s-bind _ _ _ (s-if (hasLis presence) 4 _ λ lisamount j j'.
     s-give _ _ (rw (append-nil (only (hasLis presence) (toBits 4 lisamount))) (first-same _))))))))))))))
 
--- a loop over entries of which each has its bits
-each-first : {X A : Type 0} (p : P A) (enc : A → List ℕ) → Spells p (λ l a. First (enc a) l) → (xs : List X) (i : ℕ)
-    → Spells (each (λ x. p) xs) (λ l vs. First (eachBits (λ j a. enc a) i vs) l)
-unfolding each eachBits
-each-first p enc h [] i = s-give _ _ (first-same [])
-each-first p enc h (x ∷ xs) i =
-    s-bind _ _ _ (s-then _ _ _ h λ l a f. s-bind _ _ _ (s-then _ _ _ (each-first p enc h xs (suc i)) λ m vs g. s-give _ _
-    (rw (append-nil m) (first-append f g))))
-
 -- an array all of whose entries are sent if the test holds, and else none
 array-first : {A : Type 0} (p : P A) (enc : A → List ℕ) (empty : A) → Spells p (λ l a. First (enc a) l) → (on : Bool) (n : ℕ)
     → Spells (when on (for n (λ i. p)) (replicate n empty)) (λ l vs. First (only on (eachBits (λ i a. enc a) 0 vs)) l)
-array-first p enc empty h true n = each-first p enc h (from 0 n) 0
+array-first p enc empty h true n =
+    s-then _ _ _ (each-first (λ i. p) (λ i. enc) (λ i. h) (from 0 n)) λ l vs f. rw (← bits-of-all enc (from 0 n) 0 vs (f .1)) (f .0)
 array-first p enc empty h false n = s-give _ _ (first-same [])
 
 -- reserved bits that are 0

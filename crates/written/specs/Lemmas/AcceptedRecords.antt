@@ -16,7 +16,7 @@ use Rattle.oamd.specs.declared.Precise.{Precise}
 use Rattle.oamd.specs.Programme.{set?}
 use Rattle.oamd.specs.Extended.{obj-div-block, ext-prec-pos-block, hasX, hasY, hasZ, noDivergence, noPrecise, Extension, extended-object-element}
 use Rattle.oamd.specs.Record.{Record, carries, allCarry, plainRecords, extendedRecords}
-use Rattle.written.specs.Valid.{_and_, ranged, leastDivergence, mostDivergence, divergenceValid, preciseValid, recordValid, firstBad}
+use Rattle.written.specs.Valid.{ranged, leastDivergence, mostDivergence, divergenceValid, preciseValid, recordValid, firstBad}
 use Rattle.written.specs.Lemmas.Facts.{whole, by-test, by-eq, is-ranged}
 use Rattle.written.specs.Lemmas.ObjectsBack.{ValidFrom}
 use Rattle.written.specs.Lemmas.AcceptedProgramme.{read-ranged, always}

@@ -12,6 +12,7 @@ use borrow.Author.Tests.{eqb-true, eqb-false, ne-eqb, le-ltb, lt-leb}
 use Rattle.bits.specs.Language.{pick, both, P, bits, when, from, for}
 use Rattle.bits.specs.Writes.{toBits, only, eachBits}
 use Rattle.bits.specs.Back.{Writes, w-give, w-bits, w-bind, w-end, w-is, w-when, w-pass, w-each}
+use Rattle.bits.specs.Ensures.{Every}
 use Rattle.oamd.specs.declared.TrimConfig.{TrimConfig}
 use Rattle.oamd.specs.Tables.{trimConfigs}
 use Rattle.oamd.specs.Programme.{set?, clear?}
@@ -19,7 +20,7 @@ use Rattle.oamd.specs.Trim.{hasCentre, hasSurround, hasHeight, hasTb, hasLis, t
 use Rattle.written.specs.Valid.{_and_, ranged, entriesValid, configValid, trimValid}
 use Rattle.written.specs.Form.{configBits, trimElementBits, hasTrim}
 use Rattle.written.specs.Lemmas.Facts.{halves, by-test, by-flag, Ranged, in-range, w-ranged}
-use Rattle.written.specs.Lemmas.Entries.{Every, entries-used, entries-unused, along}
+use Rattle.written.specs.Lemmas.Entries.{entries-used, entries-unused, along}
 
 -- ---- a configuration
 
