@@ -8,6 +8,6 @@ pub mod Laws
 pub mod Lists
 pub mod Bytes
 pub mod Back
-pub mod Ensures
 pub mod Spells
+pub mod Ensures
 pub mod First

@@ -81,6 +81,15 @@ pub s-pass : {A : Type 0} (t : Bool) (r back : ℕ) (v : A) (Q : List ℕ → A 
 s-pass true r back v Q h = s-refuse r back Q
 s-pass false r back v Q h = s-give v Q (h refl)
 
+-- what holds of all bits and every value
+pub s-any : {A : Type 0} (p : P A) (Q : List ℕ → A → Type 0) → ((l : List ℕ) (a : A) → Q l a) → Spells p Q
+unfolding Spells
+s-any (give a) Q h = h [] a
+s-any (refuse r back) Q h = tt
+s-any (field w f) Q h = λ l n b. h l (f l)
+s-any (within n back p) Q h = s-any p _ (λ l a rest m b. h (l ++ rest) a)
+s-any (p >>= k) Q h = s-any p _ (λ l a. s-any (k a) _ (λ m v. h (l ++ m) v))
+
 -- what follows from what holds
 pub s-then : {A : Type 0} (p : P A) (Q R : List ℕ → A → Type 0) → Spells p Q → ((l : List ℕ) (a : A) → Q l a → R l a) → Spells p R
 unfolding Spells

@@ -5,11 +5,10 @@ use mathlib.Core.List.{List, [], _∷_, _++_, map, append-nil, append-assoc}
 use Prim.Native.Nat.{ℕ, suc, _+_, _<_}
 use native.Mathlib.Omega.{arith}
 use lib.ListN.{length, getD, replicate}
-use lib.Dec.{ltb, eqb}
-use borrow.Author.Tests.{eqb-true}
-use Rattle.bits.specs.Language.{both, P, when, each, number}
+use lib.Dec.{ltb}
+use Rattle.bits.specs.Language.{P, when, each, number}
 use Rattle.bits.specs.Writes.{toBits, only, eachBits, Spells, First}
-use Rattle.bits.specs.Spells.{s-give, s-bind, s-bits, s-if, s-pass, s-pick, s-then}
+use Rattle.bits.specs.Spells.{s-give, s-bind, s-bits, s-if, s-pick, s-then}
 use Rattle.bits.specs.First.{first-of, first-same, first-none, first-append, bitsOfEach, each-first}
 use Rattle.oamd.specs.declared.Divergence.{Divergence}
 use Rattle.oamd.specs.declared.Precise.{Precise}
@@ -19,39 +18,14 @@ use Rattle.oamd.specs.Record.{Record, carries, allCarry, divergenceBytes, preci
 use Rattle.written.specs.Coded.{asFlag}
 use Rattle.written.specs.Form.{divergenceBits, preciseBits, any, diverges, refines, extendedElementBits}
 use Rattle.written.specs.Lemmas.Facts.{by-test, by-flag}
+use Rattle.written.specs.Lemmas.AcceptedRecords.{divergence-spells}
 use Rattle.written.specs.Lemmas.ExtendedBack.{Carried, no-divergence, no-precise}
 
 -- ---- a record
 
 -- divergence leaves no choice
 divergence-only : (sent : Bool) → Spells (obj-div-block sent) (λ l d. First (divergenceBits sent d) l)
-unfolding obj-div-block divergenceBits
-divergence-only sent =
-    s-bind _ _ _ (s-if sent 1 _ λ used u u'.
-    s-bind _ _ _ (s-if (set? used) 2 _ λ mode m m'.
-    s-bind _ _ _ (s-pass (eqb mode 3) _ _ mode _ λ k.
-    s-bind _ _ _ (s-if (both (set? used) (eqb mode 0)) 2 _ λ table t t'.
-    s-bind _ _ _ (s-if (eqb mode 2) 6 _ λ code c c'.
-    s-bind _ _ _ (s-pass (both (eqb mode 2) (eqb code 0)) _ _ code _ λ z.
-    s-give _ _ (
-    let a : only (both (set? used) (eqb mode 0)) (toBits 2 (table + code)) ≡ only (both (set? used) (eqb mode 0)) (toBits 2 table) =
-    by-test (eqb mode 0)
-    (λ q. let e : mode ≡ 0 = eqb-true mode 0 q in let y : 0 ≡ code = c' (rw e refl) in let s : table + code ≡ table = omega arith in rw s refl)
-    (λ q. rw q (off (set? used) _ _)) in
-    let b : only (eqb mode 2) (toBits 6 (table + code)) ≡ only (eqb mode 2) (toBits 6 code) =
-    by-test (eqb mode 2)
-    (λ q. let e : mode ≡ 2 = eqb-true mode 2 q in let y : 0 ≡ table = t'
-    (rw e (none (set? used))) in let s : table + code ≡ code = omega arith in rw s refl)
-    (λ q. rw q refl) in
-    rw (append-nil (only (eqb mode 2) (toBits 6 code)), a, b) (first-same _))))))))
-  where
-    off : (t : Bool) (l m : List ℕ) → only (both t false) l ≡ only (both t false) m
-    off true l m = refl
-    off false l m = refl
-
-    none : (t : Bool) → both t false ≡ false
-    none true = refl
-    none false = refl
+divergence-only sent = s-then _ _ _ (divergence-spells sent) λ l d h. subst (First (divergenceBits sent d)) (h .0) (first-same (divergenceBits sent d))
 
 -- the flag for a precise position that has no presence bit is not set
 flag-first : (given presence : ℕ) → given < 2 → (set? given ≡ false → 0 ≡ presence)

@@ -1,37 +1,25 @@
 -- The same for the trim element (5.5.12): its two reserved bits are the only choice, and they are 0.
+use mathlib.Core.Path.{subst}
 use mathlib.Core.Bool.{Bool, true, false}
 use mathlib.Core.List.{List, [], append-nil}
 use Prim.Native.Nat.{ℕ}
 use native.Mathlib.Omega.{arith}
 use lib.ListN.{replicate}
-use lib.Dec.{leb, ltb, eqb}
-use Rattle.bits.specs.Language.{both, P, bits, when, from, for}
+use lib.Dec.{leb, eqb}
+use Rattle.bits.specs.Language.{P, bits, when, from, for}
 use Rattle.bits.specs.Writes.{toBits, only, eachBits, Spells, First}
 use Rattle.bits.specs.Lists.{length-toBits, number-toBits}
-use Rattle.bits.specs.Spells.{s-give, s-bind, s-bits, s-if, s-pass, s-then}
+use Rattle.bits.specs.Spells.{s-give, s-bind, s-bits, s-pass, s-then}
 use Rattle.bits.specs.First.{first-same, first-append, each-first, bits-of-all}
 use Rattle.oamd.specs.Tables.{trimConfigs}
-use Rattle.oamd.specs.Programme.{set?, clear?}
-use Rattle.oamd.specs.Trim.{hasCentre, hasSurround, hasHeight, hasTb, hasLis, trim-config, noConfig, trim-element}
+use Rattle.oamd.specs.Programme.{set?}
+use Rattle.oamd.specs.Trim.{trim-config, noConfig, trim-element}
 use Rattle.written.specs.Form.{configBits, trimElementBits}
+use Rattle.written.specs.Lemmas.AcceptedTrim.{config-spells}
 
 -- a configuration leaves no choice
 config-only : Spells trim-config (λ l c. First (configBits c) l)
-unfolding trim-config configBits
-config-only =
-    s-bind _ _ _ (s-bits 1 _ λ bydefault a.
-    s-bind _ _ _ (s-if (clear? bydefault) 1 _ λ disabled b b'.
-    s-bind _ _ _ (s-if (both (clear? bydefault) (clear? disabled)) 5 _ λ presence c c'.
-    s-bind _ _ _ (s-if (hasCentre presence) 4 _ λ centre d d'.
-    s-bind _ _ _ (s-if (hasSurround presence) 4 _ λ surround e e'.
-    s-bind _ _ _ (s-pass (both (hasSurround presence) (ltb surround 4)) _ _ surround _ λ q.
-    s-bind _ _ _ (s-if (hasHeight presence) 4 _ λ height f f'.
-    s-bind _ _ _ (s-pass (both (hasHeight presence) (ltb height 4)) _ _ height _ λ r.
-    s-bind _ _ _ (s-if (hasTb presence) 1 _ λ tbsign g g'.
-    s-bind _ _ _ (s-if (hasTb presence) 4 _ λ tbamount h h'.
-    s-bind _ _ _ (s-if (hasLis presence) 1 _ λ lissign i i'.
-    s-bind _ _ _ (s-if (hasLis presence) 4 _ λ lisamount j j'.
-    s-give _ _ (rw (append-nil (only (hasLis presence) (toBits 4 lisamount))) (first-same _))))))))))))))
+config-only = s-then _ _ _ config-spells λ l c h. subst (First (configBits c)) (h .0) (first-same (configBits c))
 
 -- an array all of whose entries are sent if the test holds, and else none
 array-first : {A : Type 0} (p : P A) (enc : A → List ℕ) (empty : A) → Spells p (λ l a. First (enc a) l) → (on : Bool) (n : ℕ)
