@@ -1,20 +1,17 @@
 -- Which of two lists of bits is to be written: the one with fewer bits, and of equal length the smaller number.
 use mathlib.Core.Path.{_≡_, refl, sym, ap, _∙_}
 use mathlib.Core.Bool.{Bool, true, false}
-use mathlib.Core.List.{List, [], _∷_, _++_}
-use Prim.Native.Nat.{ℕ, _+_, _*_, _^_, _≤_}
+use mathlib.Core.List.{List, [], _∷_, _++_, append-nil}
+use Prim.Native.Nat.{ℕ, suc, _+_, _*_, _^_, _≤_}
 use native.Mathlib.Omega.{arith}
-use native.Mathlib.Nat.{add-mul, mul-assoc, mul-le-mul-right}
+use native.Mathlib.Nat.{mul-le-mul-right}
 use lib.ListN.{length, length-append}
-use lib.Pow.{pow-add}
 use lib.Dec.{leb, ltb, eqb}
 use borrow.Author.Tests.{leb-true, ltb-true, eqb-true, eqb-false}
-use Rattle.bits.specs.Language.{pick, number}
-
--- l comes before m, or is as good
-pub record First (l m : List ℕ) : Type 0 where
-  pub fewer : length l ≤ length m
-  pub smaller : length l ≡ length m → number l ≤ number m
+use Rattle.bits.specs.Language.{pick, number, P, each}
+use Rattle.bits.specs.Writes.{eachBits, Spells, First}
+use Rattle.bits.specs.Lists.{number-append}
+use Rattle.bits.specs.Spells.{s-give, s-bind, s-then}
 
 -- as a test
 abbrev pub first? : List ℕ → List ℕ → Bool
@@ -34,16 +31,6 @@ first-same l = record { fewer = omega arith; smaller = λ e. omega arith }
 pub first-none : (l : List ℕ) → First [] l
 unfolding number
 first-none l = record { fewer = omega arith; smaller = λ e. omega arith }
-
-pub number-append : (l m : List ℕ) → number (l ++ m) ≡ number l * 2 ^ length m + number m
-unfolding number
-number-append [] m = omega arith
-number-append (x ∷ xs) m =
-    let a : 2 ^ length (xs ++ m) ≡ 2 ^ length xs * 2 ^ length m = ap (λ (n : ℕ). 2 ^ n) (length-append xs m) ∙ pow-add 2 (length xs) (length m) in
-    let b = number-append xs m in
-    let c = add-mul (x * 2 ^ length xs) (number xs) (2 ^ length m) in
-    let d = mul-assoc x (2 ^ length xs) (2 ^ length m) in
-    rw a (omega arith)
 
 -- what comes first in each part comes first in the whole
 pub first-append : {a b c d : List ℕ} → First a b → First c d → First (a ++ c) (b ++ d)
@@ -76,3 +63,29 @@ first-cancel a l m f =
           let q : number (a ++ m) ≡ number a * 2 ^ length l + number m = number-append a m ∙ ap (λ (n : ℕ). number a * 2 ^ n + number m) (sym e) in
           omega arith;
     }
+
+-- ---- a loop
+
+-- the bits of each value, by its entry
+abbrev pub bitsOfEach : {X A : Type 0} → (X → A → List ℕ) → List X → List A → List ℕ
+bitsOfEach enc [] vs = []
+bitsOfEach enc (x ∷ xs) [] = []
+bitsOfEach enc (x ∷ xs) (v ∷ vs) = enc x v ++ bitsOfEach enc xs vs
+
+-- what comes first of each value comes first of all, and there are as many values as entries
+pub each-first : {X A : Type 0} (f : X → P A) (enc : X → A → List ℕ) → ((x : X) → Spells (f x) (λ l a. First (enc x a) l))
+    → (xs : List X) → Spells (each f xs) (λ l vs. First (bitsOfEach enc xs vs) l × (length vs ≡ length xs))
+unfolding each
+each-first f enc h [] = s-give _ _ (first-same [], refl)
+each-first f enc h (x ∷ xs) =
+    s-bind _ _ _ (s-then _ _ _ (h x) λ l a p. s-bind _ _ _ (s-then _ _ _ (each-first f enc h xs) λ m vs q. s-give _ _
+    (rw (append-nil m) (first-append p (q .0)), ap suc (q .1))))
+
+-- where the entry does not matter
+pub bits-of-all : {X A : Type 0} (enc : A → List ℕ) (xs : List X) (i : ℕ) (vs : List A) → length vs ≡ length xs
+    → bitsOfEach (λ x. enc) xs vs ≡ eachBits (λ j. enc) i vs
+unfolding eachBits
+bits-of-all enc [] i [] h = refl
+bits-of-all enc [] i (v ∷ vs) h = absurd (omega arith)
+bits-of-all enc (x ∷ xs) i [] h = absurd (omega arith)
+bits-of-all enc (x ∷ xs) i (v ∷ vs) h = ap (λ (l : List ℕ). enc v ++ l) (bits-of-all enc xs (suc i) vs (omega arith))

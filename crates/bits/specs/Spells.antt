@@ -1,45 +1,24 @@
--- Which bits a reader takes for the value that it gives: a condition computed from the tree, a rule for each step, and one theorem.
+-- Which bits a reader takes for the value that it gives: one theorem, and a rule for each step.
 use mathlib.Core.Path.{_≡_, refl, sym, ap, _∙_, subst}
 use mathlib.Core.Bool.{Bool, true, false, true≢false, false≢true}
-use mathlib.Core.List.{List, [], _∷_, _++_, append-nil}
-use Prim.Native.Nat.{ℕ, zero, suc, _+_, _-_, _^_, _≤_, _<_}
+use mathlib.Core.List.{List, [], _++_, append-nil}
+use Prim.Native.Nat.{ℕ, _+_, _-_, _^_, _≤_, _<_}
 use native.Mathlib.Omega.{arith}
-use lib.ListN.{length}
-use lib.Seq.{ext-getD}
 use Rattle.bits.specs.Language.{ok, pick, Bits, slice, number, P, give, refuse, field, within, _>>=_, run, bits, bitsIf, when, refuseIf, bitsUnless, pastDeclared}
 use Rattle.bits.specs.Steps.{no-ok, give-ok, bind-ok, within-ok, field-ok, length-slice}
 use Rattle.bits.specs.Laws.{local}
-use Rattle.bits.specs.Writes.{toBits, only, length-toBits, Bin}
-use Rattle.bits.specs.Bytes.{getD-toBits, number-lt, number-bit, bin-slice}
-
--- Q holds of the bits that p takes, and of what it gives for them
-unfoldable pub Spells : {A : Type 0} → P A → (List ℕ → A → Type 0) → Type 0
-Spells (give a) Q = Q [] a
-Spells (refuse r back) Q = Unit {0}
-Spells (field w f) Q = (l : List ℕ) → length l ≡ w → Bin l → Q l (f l)
-Spells (within n back p) Q = Spells p (λ l a. (rest : List ℕ) → length l + length rest ≡ n → Bin rest → Q (l ++ rest) a)
-Spells (p >>= k) Q = Spells p (λ l a. Spells (k a) (λ m v. Q (l ++ m) v))
-
-slice-split : (b : Bits) (at m n : ℕ) → slice b at (m + n) ≡ slice b at m ++ slice b (at + m) n
-unfolding slice
-slice-split b at zero n =
-    let e : 0 + n ≡ n = omega arith in
-    let f : at + 0 ≡ at = omega arith in
-    rw (e, f)
-slice-split b at (suc m) n =
-    let e : suc m + n ≡ suc (m + n) = omega arith in
-    let f : suc at + m ≡ at + suc m = omega arith in
-    rw (e, ← f) (ap (λ (l : List ℕ). b at ∷ l) (slice-split b (suc at) m n))
+use Rattle.bits.specs.Writes.{toBits, only, Spells}
+use Rattle.bits.specs.Lists.{slice-append, binary-slice, bits-number, number-lt}
 
 -- the bits from at on, up to before to
 abbrev pub taken : Bits → ℕ → ℕ → List ℕ
 taken b at to = slice b at (to - at)
 
-taken-join : (b : Bits) (at mid to : ℕ) → at ≤ mid → mid ≤ to → taken b at mid ++ taken b mid to ≡ taken b at to
+pub taken-join : (b : Bits) (at mid to : ℕ) → at ≤ mid → mid ≤ to → taken b at mid ++ taken b mid to ≡ taken b at to
 taken-join b at mid to l h =
     let e : to - at ≡ (mid - at) + (to - mid) = omega arith in
     let f : at + (mid - at) ≡ mid = omega arith in
-    sym (ap (slice b at) e ∙ slice-split b at (mid - at) (to - mid) ∙ ap (λ (k : ℕ). taken b at mid ++ slice b k (to - mid)) f)
+    sym (ap (slice b at) e ∙ slice-append b at (mid - at) (to - mid) ∙ ap (λ (k : ℕ). taken b at mid ++ slice b k (to - mid)) f)
 
 pub spelled : {A : Type 0} (p : P A) (Q : List ℕ → A → Type 0) → Spells p Q → (b : Bits) → ((i : ℕ) → b i < 2) → (at e o : ℕ) {v : A} {to : ℕ} → at ≤ e
     → run p b at e o ≡ ok v to → Q (taken b at to) v
@@ -52,7 +31,7 @@ spelled (refuse n back) Q h b bin at e o le r = absurd (no-ok r)
 spelled (field w f) Q h b bin at e o {v} {to} le r =
     let g = field-ok w f b at e o r in
     let z : to - at ≡ w = (let x = g .2 in omega arith) in
-    rw z (subst (Q (slice b at w)) (g .1) (h (slice b at w) (length-slice b at w) (bin-slice b at w bin)))
+    rw z (subst (Q (slice b at w)) (g .1) (h (slice b at w) (length-slice b at w) (binary-slice b at w bin)))
 spelled (within n back p) Q h b bin at e o {v} {to} le r =
     within-ok n back p b at e o r λ mid l q m.
     let x = local p b at (at + n) pastDeclared q (omega arith) in
@@ -60,7 +39,7 @@ spelled (within n back p) Q h b bin at e o {v} {to} le r =
     let g = x .ends in
     let i = spelled p _ h b bin at (at + n) pastDeclared (omega arith) q in
     subst (λ (t : List ℕ). Q t v) (taken-join b at mid to (omega arith) (omega arith))
-    (i (taken b mid to) (let c = length-slice b at (mid - at) in let d = length-slice b mid (to - mid) in omega arith) (bin-slice b mid (to - mid) bin))
+    (i (taken b mid to) (let c = length-slice b at (mid - at) in let d = length-slice b mid (to - mid) in omega arith) (binary-slice b mid (to - mid) bin))
 spelled (p >>= k) Q h b bin at e o {v} {to} le r =
     bind-ok p k b at e o r λ a mid q s.
     let x = local p b at e o q le in
@@ -83,13 +62,6 @@ s-refuse r back Q = tt
 pub s-bind : {A B : Type 0} (p : P A) (k : A → P B) (Q : List ℕ → B → Type 0) → Spells p (λ l a. Spells (k a) (λ m v. Q (l ++ m) v)) → Spells (p >>= k) Q
 unfolding Spells
 s-bind p k Q h = h
-
--- a list of bits is that of its number
-pub bits-number : (l : List ℕ) → Bin l → toBits (length l) (number l) ≡ l
-bits-number l h =
-    ext-getD 0 (toBits (length l) (number l)) l (length-toBits (length l) (number l)) λ i j.
-    let k : i < length l = (let e = length-toBits (length l) (number l) in omega arith) in
-    getD-toBits (length l) (number l) i k ∙ number-bit l i h k
 
 -- a field of w bits takes those of its value
 pub s-bits : (w : ℕ) (Q : List ℕ → ℕ → Type 0) → ((v : ℕ) → v < 2 ^ w → Q (toBits w v) v) → Spells (bits w) Q
@@ -117,6 +89,15 @@ s-unless true r w test Q h =
     s-bind _ _ Q (s-bits w _ (λ v l. s-pass (test v) r w v _ (λ e.
     subst (λ (t : List ℕ). Q t v) (sym (append-nil (toBits w v))) (h v (λ q. (l, e)) (λ q. absurd (true≢false q))))))
 s-unless false r w test Q h = s-give 0 Q (h 0 (λ q. absurd (false≢true q)) (λ q. refl))
+
+-- what holds of all bits and every value
+pub s-any : {A : Type 0} (p : P A) (Q : List ℕ → A → Type 0) → ((l : List ℕ) (a : A) → Q l a) → Spells p Q
+unfolding Spells
+s-any (give a) Q h = h [] a
+s-any (refuse r back) Q h = tt
+s-any (field w f) Q h = λ l n b. h l (f l)
+s-any (within n back p) Q h = s-any p _ (λ l a rest m b. h (l ++ rest) a)
+s-any (p >>= k) Q h = s-any p _ (λ l a. s-any (k a) _ (λ m v. h (l ++ m) v))
 
 -- what follows from what holds
 pub s-then : {A : Type 0} (p : P A) (Q R : List ℕ → A → Type 0) → Spells p Q → ((l : List ℕ) (a : A) → Q l a → R l a) → Spells p R

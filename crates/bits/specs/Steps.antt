@@ -8,6 +8,7 @@ use lib.ListN.{length, getD}
 use lib.Dec.{leb}
 use borrow.Author.Tests.{leb-true, leb-false, le-leb, lt-leb}
 use Rattle.bits.specs.Language.{Res, ok, no, pick, both, between, Bits, slice, P, give, refuse, field, within, _>>=_, andThen, run, pastDeclared}
+use Rattle.bits.specs.Writes.{listed}
 
 -- ---- answers
 
@@ -155,10 +156,6 @@ pub within-stops : {A : Type 0} (n back : ℕ) (p : P A) (b : Bits) (at e o : �
 within-stops n back p b at e o l h = within-is n back p b at e o l ∙ rw h
 
 -- ---- slices
-
--- the bits that a list holds, and 0 behind it
-abbrev pub listed : List ℕ → Bits
-listed l i = getD l i 0
 
 pub slice-get : (b : Bits) (at n i : ℕ) → i < n → b (at + i) ≡ getD (slice b at n) i 0
 unfolding slice

@@ -9,9 +9,8 @@ use lib.Arith.{digits-lt}
 use lib.ListN.{length, length-append}
 use lib.Pow.{shl-shr, shl-exact, field, pow-add, pow-pos}
 use Rattle.bits.specs.Language.{number}
-use Rattle.bits.specs.Writes.{toBits, only, length-toBits, number-toBits, bin-toBits, bin-append}
-use Rattle.bits.specs.First.{number-append}
-use Rattle.bits.specs.Spells.{bits-number}
+use Rattle.bits.specs.Writes.{toBits, only}
+use Rattle.bits.specs.Lists.{length-toBits, number-toBits, binary-toBits, binary-append, bits-number, number-append}
 use Rattle.coding.specs.declared.Packed.{Packed}
 use Rattle.coding.specs.Packing.{Packs}
 
@@ -25,7 +24,7 @@ low-bits w v h =
 
 -- and they are what w bits hold of v
 mod-bits : (w v : ℕ) → toBits w (v % 2 ^ w) ≡ toBits w v
-mod-bits w v = ap₂ toBits (sym (length-toBits w v)) (sym (number-toBits w v)) ∙ bits-number (toBits w v) (bin-toBits w v)
+mod-bits w v = ap₂ toBits (sym (length-toBits w v)) (sym (number-toBits w v)) ∙ bits-number (toBits w v) (binary-toBits w v)
 
 pub field-packs : (p : Packed) (w v : ℕ) → w ≤ 24 → p .width ≡ w → p .value ≡ v * 2 ^ (32 - w) % 2 ^ 32 / 2 ^ (32 - w) → Packs p (toBits w v)
 field-packs p w v h e f =
@@ -46,7 +45,7 @@ module _ (w n u v : ℕ) (hu : u < 2 ^ w) (hv : v < 2 ^ n) where
       ap₂ (λ (x y : ℕ). x * 2 ^ n + y) (sym (number-toBits w u ∙ mod-eq-of-lt hu)) (sym (number-toBits n v ∙ mod-eq-of-lt hv))
       ∙ ap (λ (k : ℕ). number (toBits w u) * 2 ^ k + number (toBits n v)) (sym (length-toBits n v))
       ∙ sym (number-append (toBits w u) (toBits n v)) in
-      ap₂ toBits a b ∙ bits-number both (bin-append (toBits w u) (toBits n v) (bin-toBits w u) (bin-toBits n v))
+      ap₂ toBits a b ∙ bits-number both (binary-append (toBits w u) (toBits n v) (binary-toBits w u) (binary-toBits n v))
 
   both-small : u * 2 ^ n + v < 2 ^ (w + n)
   both-small = subst (λ (k : ℕ). u * 2 ^ n + v < k) (sym (pow-add 2 w n)) (digits-lt hu hv)

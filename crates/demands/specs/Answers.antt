@@ -9,6 +9,7 @@ use lib.Seq.{take-at, drop-at}
 use Rattle.bits.specs.declared.Refusal.the-variants.{TooLong, EndsEarly, Version, Counts, Second, Early, PastElement, Room}
 use Rattle.bits.specs.Refusals.{numberOf}
 use Rattle.bits.specs.Language.{ok, no, bit, pastPayload}
+use Rattle.bits.specs.Steps.{value}
 use Rattle.bits.specs.Laws.{placed}
 use Rattle.oamd.specs.Tables.{mostBytes, recordStride, trimConfigs}
 use Rattle.oamd.specs.Record.{Record, bytesOf, onto}
@@ -108,6 +109,13 @@ accepted-when s buffer trim = (
       ap (λ (o : Outcome). o .answer .refusal)
       (reading-ok s buffer trim (h .0) (h .3) ∙ housed-fits buffer trim (tablesOf (h .1)) (h .1 .unknown) (h .4) (h .5))),
 )
+
+-- Its answer and buffers are then those of the tables that its reader gives.
+pub accepted-is : (s buffer trim : List ℕ) (q : Payload) (to : ℕ) → reading s buffer trim .answer .refusal ≡ 0 → parsed s ≡ ok q to
+    → reading s buffer trim ≡ accepted buffer trim (tablesOf q) (q .unknown)
+accepted-is s buffer trim q to z h =
+    let r = read-of s buffer trim z in
+    r .is ∙ ap (λ (x : Payload). accepted buffer trim (tablesOf x) (x .unknown)) (value (sym (r .ran) ∙ h))
 
 -- 1: the payload is longer than 4,096 bytes. The place is its length in bytes.
 pub too-long-when : (s buffer trim : List ℕ) (place : ℕ)

@@ -1,18 +1,14 @@
 -- Payloads put together: the bits of a header, the element count, whole elements one behind the other, and padding.
 use mathlib.Core.Path.{_≡_}
 use mathlib.Core.List.{List, [], _∷_, _++_}
-use Prim.Native.Nat.{ℕ, zero, suc, _+_, _-_, _*_, _/_, _%_, _^_, _≤_, _<_}
+use Prim.Native.Nat.{ℕ, _-_, _*_, _≤_}
 use lib.Dec.{ltb}
-use lib.ListN.{length, getD}
-use Rattle.bits.specs.Language.{ok, pick, Bits, slice, P, run, number, bit, pastPayload}
-use Rattle.bits.specs.Steps.{listed}
+use lib.ListN.{length}
+use Rattle.bits.specs.Language.{ok, pick, slice, P, run, bit, pastPayload}
+use Rattle.bits.specs.Writes.{Binary, listed, toBits, toBytes}
 use Rattle.oamd.specs.Tables.{mostElements}
 use Rattle.oamd.specs.Payload.{Header, header}
 use Rattle.demands.specs.Skeleton.{Body, body}
-
--- every entry is 0 or 1
-abbrev pub Binary : List ℕ → Type 0
-Binary l = (i : ℕ) → getD l i 0 < 2
 
 -- the reader p reads the bits l as the value v, from the first to the last and no further
 abbrev pub Exactly : {A : Type 0} → P A → List ℕ → A → Type 0
@@ -40,11 +36,6 @@ abbrev pub allBodies : {alternate : ℕ} → List (Element alternate) → List B
 allBodies [] = []
 allBodies (x ∷ xs) = x .is ∷ allBodies xs
 
--- v in w bits, top bit first
-unfoldable pub toBits : ℕ → ℕ → List ℕ
-toBits zero v = []
-toBits (suc w) v = v / 2 ^ w % 2 ∷ toBits w v
-
 -- the element count takes 4 bits, and from 15 on 5 more
 unfoldable pub countBits : ℕ → List ℕ
 countBits n = pick (ltb n 15) (toBits 4 n) (toBits 4 15 ++ toBits 5 (n - 15))
@@ -52,15 +43,7 @@ countBits n = pick (ltb n 15) (toBits 4 n) (toBits 4 15 ++ toBits 5 (n - 15))
 abbrev pub payloadBits : (h : Head) → List (Element (h .is .alternate)) → List ℕ → List ℕ
 payloadBits h es padding = h .bits ++ (countBits (length es) ++ (allBits es ++ padding))
 
--- n bytes, from the bit at on
-unfoldable pub bytesFrom : Bits → ℕ → ℕ → List ℕ
-bytesFrom b at zero = []
-bytesFrom b at (suc n) = number (slice b at 8) ∷ bytesFrom b (at + 8) n
-
--- the bytes of bits, the last filled up with zeros
-unfoldable pub toBytes : List ℕ → List ℕ
-toBytes l = bytesFrom (listed l) 0 ((length l + 7) / 8)
-
+-- the bytes of these bits
 unfoldable pub payloadOf : (h : Head) → List (Element (h .is .alternate)) → List ℕ → List ℕ
 payloadOf h es padding = toBytes (payloadBits h es padding)
 

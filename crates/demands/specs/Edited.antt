@@ -1,23 +1,25 @@
 -- Demand 3, unknown elements added, taken away or changed in a payload that is put together of whole elements; and every accepted payload is.
 use mathlib.Core.Path.{_≡_, refl, sym, ap, _∙_}
-use mathlib.Core.List.{List, [], _∷_, _++_}
+use mathlib.Core.List.{List, _∷_, _++_}
 use mathlib.Core.Option.{some}
 use Prim.Native.Nat.{ℕ, _≤_, _<_}
 use native.Mathlib.Omega.{arith}
 use lib.ListN.{length, getD}
 use Rattle.bits.specs.Language.{slice, run, number}
 use Rattle.bits.specs.Size.{sizeFrom}
+use Rattle.bits.specs.Writes.{Binary, toBits, toBytes}
+use Rattle.bits.specs.Lists.{binary-toBits}
+use Rattle.bits.specs.Bytes.{toBytes-bit}
 use Rattle.oamd.specs.declared.Kind.the-variants.{Unknown}
 use Rattle.oamd.specs.Tables.{mostBytes, mostElements}
 use Rattle.oamd.specs.Element.{kind, framed}
 use Rattle.oamd.specs.Answer.{reading}
 use Rattle.demands.specs.Skeleton.{Body, body, known, takenOut, skeleton, SameTables}
-use Rattle.demands.specs.Assembly.{Binary, Head, Element, allBodies, toBits, toBytes, payloadOf, PutTogether}
+use Rattle.demands.specs.Assembly.{Head, Element, allBodies, payloadOf, PutTogether}
 use Rattle.demands.specs.Unknown.{unknown-elements}
 use Rattle.demands.specs.Lemmas.Reading.{read-of}
-use Rattle.demands.specs.Lemmas.Skeletons.{outlined, known-append, known-but}
-use Rattle.demands.specs.Lemmas.Packing.{binary-toBits, toBytes-bit}
-use Rattle.demands.specs.Lemmas.Assembled.{outline-is, together-of}
+use Rattle.demands.specs.Lemmas.Skeletons.{outlined, known-without}
+use Rattle.demands.specs.Lemmas.Assembled.{outline-is, together-of, bodies-append}
 
 -- Let a payload with the header h and the elements es be accepted. Then that with the elements es', up to 46 of them and up to 4,096 bytes, and with
 -- whatever padding, is accepted with the same tables and the same buffers.
@@ -40,16 +42,11 @@ edited h es es' same padding padding' buffer trim bin bin' few few' short accept
     ∙ sym (skeleton-is h es padding few bin))
     (omega arith)
 
-bodies-append : {alternate : ℕ} (xs ys : List (Element alternate)) → allBodies (xs ++ ys) ≡ allBodies xs ++ allBodies ys
-bodies-append [] ys = refl
-bodies-append (x ∷ xs) ys = ap (λ (l : List Body). x .is ∷ l) (bodies-append xs ys)
-
 without : {alternate : ℕ} (before behind : List (Element alternate)) (u : Element alternate) → u .is .kind ≡ Unknown
     → known (allBodies (before ++ (u ∷ behind))) ≡ known (allBodies (before ++ behind))
 without before behind u unknown =
-    ap known (bodies-append before (u ∷ behind)) ∙ known-append (allBodies before) (u .is ∷ allBodies behind)
-    ∙ ap (λ (l : List Body). known (allBodies before) ++ l) (known-but (u .is) (allBodies behind) unknown)
-    ∙ sym (known-append (allBodies before) (allBodies behind)) ∙ ap known (sym (bodies-append before behind))
+    ap known (bodies-append before (u ∷ behind)) ∙ known-without (allBodies before) (allBodies behind) (u .is) unknown
+    ∙ ap known (sym (bodies-append before behind))
 
 -- An unknown element is added, anywhere.
 pub added : (h : Head) (before behind : List (Element (h .is .alternate))) (u : Element (h .is .alternate)) → u .is .kind ≡ Unknown

@@ -5,7 +5,6 @@ pub mod Elements
 pub mod Records
 pub mod Order
 pub mod Skeletons
-pub mod Packing
 pub mod Assembled
 pub mod Limits
 pub mod Plain

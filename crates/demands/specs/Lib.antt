@@ -8,8 +8,10 @@ pub mod Appended
 pub mod Cut
 pub mod Unknown
 pub mod Edited
+pub mod Demand3
 pub mod Refusals
 pub mod Unique
+pub mod Buffers
 pub mod Answers
 pub mod Numbers
 pub mod ExactlyWhen

@@ -3,8 +3,9 @@
 use mathlib.Core.Path.{_≡_, refl}
 use mathlib.Core.List.{List, [], _∷_, _++_}
 use Prim.Native.Nat.{ℕ, _+_, _-_, _*_}
-use lib.ListN.{length, getD, replicate}
+use lib.ListN.{length, replicate}
 use Rattle.bits.specs.Language.{ok, slice, number, run, bit, each, from, pastPayload}
+use Rattle.bits.specs.Writes.{listed}
 use Rattle.bits.specs.Size.{sizeFrom, sizeOf, variable-bits-max}
 use Rattle.oamd.specs.declared.ReadAnswer.{ReadAnswer}
 use Rattle.oamd.specs.declared.Update.{Update}
@@ -36,10 +37,6 @@ pub data Example : Type 0 where
 unfoldable pub groups : List ℕ → List ℕ
 groups [] = []
 groups (g ∷ gs) = slice (bit (g ∷ [])) 0 5 ++ groups gs
-
--- the bits of a list
-abbrev pub listed : List ℕ → ℕ → ℕ
-listed l i = getD l i 0
 
 -- room for a trim table
 abbrev pub room : List ℕ

@@ -8,10 +8,11 @@ use native.Mathlib.Nat.{zero-div, mod-eq-of-lt}
 use lib.ListN.{length, getD, set, drop, replicate, length-drop, length-replicate, length-set, length-append, List·getD-append}
 use lib.Seq.{getD-drop, getD-append-add, ext-getD, getD-set-same, getD-set-other, set-out}
 use Rattle.bits.specs.Language.{slice, bit, number}
-use Rattle.bits.specs.Steps.{listed, by-order}
+use Rattle.bits.specs.Steps.{by-order}
 use Rattle.bits.specs.Laws.{slice-agree}
-use Rattle.bits.specs.Writes.{toBits, only, Bin, bin-toBits, bin-append, length-toBits, number-toBits, holds-slice}
-use Rattle.bits.specs.Bytes.{toBytes, length-toBytes, getD-pack, getD-toBits, number-bit, number-lt}
+use Rattle.bits.specs.Writes.{listed, toBits, only, toBytes, Binary}
+use Rattle.bits.specs.Lists.{binary-toBits, binary-append, length-toBits, number-toBits, getD-toBits, number-bit, number-lt, holds-slice}
+use Rattle.bits.specs.Bytes.{length-toBytes, getD-pack}
 use Rattle.writer.specs.Laying.{withBit, setBit, lay, Laid, Bytes}
 
 pub lay-append : (s : List ℕ) (at : ℕ) (l m : List ℕ) → lay (lay s at l) (at + length l) m ≡ lay s at (l ++ m)
@@ -27,7 +28,7 @@ pub laid-bind : {s t u : List ℕ} {at p r : ℕ} {l m : List ℕ} → Laid s t 
 laid-bind {s} {t} {u} {at} {p} {r} {l} {m} f g = record {
   same = g .same ∙ ap₂ (λ (x : List ℕ) (k : ℕ). lay x k m) (f .same) (f .next) ∙ lay-append s at l m;
   next = omega (arith, f .next, g .next, length-append l m);
-  binary = bin-append l m (f .binary) (g .binary);
+  binary = binary-append l m (f .binary) (g .binary);
 }
 
 pub length-setBit : (s : List ℕ) (p x : ℕ) → length (setBit s p x) ≡ length s
@@ -51,17 +52,17 @@ pub laid-past : (s : List ℕ) (at p r w v : ℕ) → p ≡ at → length s ≤ 
 laid-past s at p r w v e h f = record {
   same = sym (lay-past s at (toBits w v) (omega arith));
   next = omega (arith, length-toBits w v);
-  binary = bin-toBits w v;
+  binary = binary-toBits w v;
 }
 
 -- ---- its bits
 
-bin-set : (l : List ℕ) (k x : ℕ) → Bin l → Bin (set l k (x % 2))
-bin-set [] k x h i = h i
-bin-set (y ∷ ys) zero x h zero = omega arith
-bin-set (y ∷ ys) zero x h (suc i) = h (suc i)
-bin-set (y ∷ ys) (suc k) x h zero = h 0
-bin-set (y ∷ ys) (suc k) x h (suc i) = bin-set ys k x (λ j. h (suc j)) i
+binary-set : (l : List ℕ) (k x : ℕ) → Binary l → Binary (set l k (x % 2))
+binary-set [] k x h i = h i
+binary-set (y ∷ ys) zero x h zero = omega arith
+binary-set (y ∷ ys) zero x h (suc i) = h (suc i)
+binary-set (y ∷ ys) (suc k) x h zero = h 0
+binary-set (y ∷ ys) (suc k) x h (suc i) = binary-set ys k x (λ j. h (suc j)) i
 
 pub by-eq : {X : Type 0} (m n : ℕ) → (m ≡ n → X) → ((m ≡ n → ⊥) → X) → X
 by-eq {X} m n f g = by-order m n (λ h. by-order n m (λ j. f (omega arith)) (λ j. g (λ e. omega arith))) (λ h. g (λ e. omega arith))
@@ -71,7 +72,7 @@ unfolding withBit
 withBit-lt y k x =
     let l : List ℕ = set (toBits 8 y) k (x % 2) in
     let n : length l ≡ 8 = length-set (toBits 8 y) k (x % 2) ∙ length-toBits 8 y in
-    rw n at (number-lt l (bin-set (toBits 8 y) k x (bin-toBits 8 y)))
+    rw n at (number-lt l (binary-set (toBits 8 y) k x (binary-toBits 8 y)))
 
 withBit-bit : (y k x j : ℕ) → j < 8 → withBit y k x / 2 ^ (7 - j) % 2 ≡ getD (set (toBits 8 y) k (x % 2)) j 0
 unfolding withBit
@@ -79,7 +80,7 @@ withBit-bit y k x j h =
     let l : List ℕ = set (toBits 8 y) k (x % 2) in
     let n : length l ≡ 8 = length-set (toBits 8 y) k (x % 2) ∙ length-toBits 8 y in
     let e : 7 - j ≡ length l - 1 - j = omega arith in
-    rw e (number-bit l j (bin-set (toBits 8 y) k x (bin-toBits 8 y)) (omega arith))
+    rw e (number-bit l j (binary-set (toBits 8 y) k x (binary-toBits 8 y)) (omega arith))
 
 pub setBit-same : (s : List ℕ) (p x : ℕ) → p < 8 * length s → bit (setBit s p x) p ≡ x % 2
 unfolding bit setBit

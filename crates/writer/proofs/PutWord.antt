@@ -11,8 +11,8 @@ use lib.Pow.{shr-shr, shl-shr, shr-lt, shl-exact, field, split, high, low, mod-m
 use Rattle.bits.specs.Language.{bit}
 use Rattle.bits.specs.Steps.{by-order}
 use Rattle.bits.specs.View.{wordAt}
-use Rattle.bits.specs.Writes.{toBits, bin-toBits, length-toBits}
-use Rattle.bits.specs.Bytes.{getD-toBits}
+use Rattle.bits.specs.Writes.{toBits}
+use Rattle.bits.specs.Lists.{binary-toBits, length-toBits, getD-toBits}
 use Rattle.coding.proofs.Joins.{low-bits}
 use Rattle.writer.specs.Laying.{lay, Laid, setWord, putWord, Bytes}
 use Rattle.writer.proofs.LayLaws.{ext-bit, length-lay, bytes-lay, lay-before, lay-behind, lay-inside}
@@ -275,7 +275,7 @@ module _ (s : List ℕ) (bytes : Bytes s) (p w v : ℕ) (h1 : 1 ≤ w) (hw : w �
   put-laid x y u e f g = record {
     same = g ∙ ap (λ (k : ℕ). setWord s i k) (f ∙ ap (λ (k : ℕ). putWord k o w v) e) ∙ put-lay;
     next = omega (arith, length-toBits w v);
-    binary = bin-toBits w v;
+    binary = binary-toBits w v;
   }
 
 -- the same for a position that is handed out, and the next one that is made

@@ -7,7 +7,8 @@ use native.Mathlib.Numerals.{add-one}
 use native.Mathlib.Omega.{arith}
 use lib.Dec.{ltb}
 use lib.ListN.{length, take, drop, length-append}
-use Rattle.bits.specs.Writes.{only, toBits, eachBits, length-toBits}
+use Rattle.bits.specs.Writes.{only, toBits, eachBits}
+use Rattle.bits.specs.Lists.{length-toBits}
 use Rattle.writer.specs.Laying.{Laid}
 use Rattle.writer.proofs.Entries.{steps-more, steps-none}
 use Rattle.writer.proofs.LayLaws.{laid-bind, laid-is, laid-only}

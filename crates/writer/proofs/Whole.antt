@@ -8,7 +8,8 @@ use borrow.Author.Tests.{le-leb, lt-leb, lt-ltb, le-ltb}
 use lib.Dec.{leb}
 use lib.ListN.{length, replicate, length-append, length-replicate}
 use Rattle.bits.specs.Language.{pick}
-use Rattle.bits.specs.Writes.{toBits, only, length-toBits}
+use Rattle.bits.specs.Writes.{toBits, only}
+use Rattle.bits.specs.Lists.{length-toBits}
 use Rattle.bits.specs.Bytes.{length-toBytes}
 use Rattle.oamd.specs.declared.Programme.{Programme}
 use Rattle.oamd.specs.declared.Timing.{Timing}

@@ -4,7 +4,7 @@ use mathlib.Core.List.{List, [], _∷_}
 use Prim.Native.Nat.{ℕ, suc, _+_, _-_, _*_, _/_, _%_, _^_, _<_}
 use lib.ListN.{length, getD, set}
 use Rattle.bits.specs.Language.{number}
-use Rattle.bits.specs.Writes.{toBits, Bin}
+use Rattle.bits.specs.Writes.{toBits, Binary}
 
 -- the byte y with bit k, counted from the top, replaced by x
 unfoldable pub withBit : ℕ → ℕ → ℕ → ℕ
@@ -23,7 +23,7 @@ lay s at (x ∷ xs) = lay (setBit s at x) (suc at) xs
 pub record Laid (s t : List ℕ) (at r : ℕ) (l : List ℕ) : Type 0 where
   pub same : t ≡ lay s at l
   pub next : r ≡ at + length l
-  pub binary : Bin l
+  pub binary : Binary l
 
 -- every entry is a byte
 abbrev pub Bytes : List ℕ → Type 0

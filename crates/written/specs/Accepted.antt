@@ -7,7 +7,7 @@ use Prim.Native.Nat.{ℕ, zero, suc, _+_, _*_}
 use native.Mathlib.Omega.{arith}
 use native.Mathlib.Nat.{zero-mul, mul-zero}
 use lib.ListN.{length}
-use Rattle.bits.specs.Language.{ok, no, run, bit, from, pastPayload}
+use Rattle.bits.specs.Language.{ok, run, bit, from, pastPayload}
 use Rattle.bits.specs.Laws.{length-from}
 use Rattle.bits.specs.Bytes.{bit-lt}
 use Rattle.bits.specs.Ensures.{Ensures, All, ensured, e-give, e-bind, e-any, e-then, e-refuse, e-within, e-each}

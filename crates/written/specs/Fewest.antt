@@ -7,9 +7,9 @@ use Prim.Native.Nat.{ℕ, _<_}
 use native.Mathlib.Omega.{arith}
 use lib.Dec.{eqb}
 use Rattle.bits.specs.Language.{both, bits}
-use Rattle.bits.specs.Writes.{toBits, only}
-use Rattle.bits.specs.Spells.{Spells, s-give, s-bind, s-bits, s-if}
-use Rattle.bits.specs.First.{First, first-append}
+use Rattle.bits.specs.Writes.{toBits, only, Spells, First}
+use Rattle.bits.specs.Spells.{s-give, s-bind, s-bits, s-if}
+use Rattle.bits.specs.First.{first-append}
 use Rattle.oamd.specs.declared.Status.the-variants.{Full}
 use Rattle.oamd.specs.declared.Place.{Place}
 use Rattle.oamd.specs.Programme.{set?, clear?}
@@ -17,7 +17,6 @@ use Rattle.oamd.specs.Reserved.{SampleOffsetCode, ObjectSizeIdx}
 use Rattle.oamd.specs.Timing.{sample-offset, block-update-info, offsetOf, updateOf}
 use Rattle.oamd.specs.Block.{object-basic-info, coordinates, distance, extent}
 use Rattle.oamd.specs.Meaning.{gainOf, priorityOf, placeOf, distanceOf, volumeOf}
-use Rattle.written.specs.Valid.{_and_}
 use Rattle.written.specs.Coded.{codedOffset, codedUpdate, codedGain, codedPriority, codedDistance, codedExtent}
 use Rattle.written.specs.Lemmas.Codable.{offsetCodable, updateCodable, gainCodable, priorityCodable, distanceCodable, extentCodable}
 use Rattle.written.specs.Form.{offsetBits, updateBits, gainBits, priorityBits, positionBits, distanceBits, extentBits}

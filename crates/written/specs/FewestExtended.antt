@@ -5,12 +5,11 @@ use mathlib.Core.List.{List, [], _∷_, _++_, map, append-nil, append-assoc}
 use Prim.Native.Nat.{ℕ, suc, _+_, _<_}
 use native.Mathlib.Omega.{arith}
 use lib.ListN.{length, getD, replicate}
-use lib.Dec.{ltb, eqb}
-use borrow.Author.Tests.{eqb-true}
-use Rattle.bits.specs.Language.{both, P, when, each, number}
-use Rattle.bits.specs.Writes.{toBits, only, eachBits}
-use Rattle.bits.specs.Spells.{Spells, s-give, s-bind, s-bits, s-if, s-pick, s-then}
-use Rattle.bits.specs.First.{First, first-of, first-same, first-none, first-append}
+use lib.Dec.{ltb}
+use Rattle.bits.specs.Language.{P, when, each, number}
+use Rattle.bits.specs.Writes.{toBits, only, eachBits, Spells, First}
+use Rattle.bits.specs.Spells.{s-give, s-bind, s-bits, s-if, s-pick, s-then}
+use Rattle.bits.specs.First.{first-of, first-same, first-none, first-append, bitsOfEach, each-first}
 use Rattle.oamd.specs.declared.Divergence.{Divergence}
 use Rattle.oamd.specs.declared.Precise.{Precise}
 use Rattle.oamd.specs.Programme.{set?}
@@ -20,38 +19,14 @@ use Rattle.oamd.specs.Record.{Record, carries, allCarry, divergenceBytes, preci
 use Rattle.written.specs.Coded.{asFlag}
 use Rattle.written.specs.Form.{divergenceBits, preciseBits, any, diverges, refines, extendedElementBits}
 use Rattle.written.specs.Lemmas.Facts.{by-test, by-flag}
-use Rattle.written.specs.Lemmas.Unreserved.{s-unreserved}
+use Rattle.written.specs.Lemmas.AcceptedRecords.{divergence-spells}
 use Rattle.written.specs.Lemmas.ExtendedBack.{Carried, no-divergence, no-precise}
 
 -- ---- a record
 
 -- divergence leaves no choice
 divergence-only : (sent : Bool) → Spells (obj-div-block sent) (λ l d. First (divergenceBits sent d) l)
-unfolding obj-div-block divergenceBits
-divergence-only sent =
-    s-bind _ _ _ (s-if sent 1 _ λ used u u'.
-    s-bind _ _ _ (s-unreserved (set? used) ObjectDivMode _ λ mode m m'.
-    s-bind _ _ _ (s-if (both (set? used) (eqb mode 0)) 2 _ λ table t t'.
-    s-bind _ _ _ (s-unreserved (eqb mode 2) ObjectDivCode _ λ code c c'.
-    s-give _ _ (
-    let a : only (both (set? used) (eqb mode 0)) (toBits 2 (table + code)) ≡ only (both (set? used) (eqb mode 0)) (toBits 2 table) =
-    by-test (eqb mode 0)
-    (λ q. let e : mode ≡ 0 = eqb-true mode 0 q in let y : 0 ≡ code = c' (rw e refl) in let s : table + code ≡ table = omega arith in rw s refl)
-    (λ q. rw q (off (set? used) _ _)) in
-    let b : only (eqb mode 2) (toBits 6 (table + code)) ≡ only (eqb mode 2) (toBits 6 code) =
-    by-test (eqb mode 2)
-    (λ q. let e : mode ≡ 2 = eqb-true mode 2 q in let y : 0 ≡ table = t'
-    (rw e (none (set? used))) in let s : table + code ≡ code = omega arith in rw s refl)
-    (λ q. rw q refl) in
-    rw (append-nil (only (eqb mode 2) (toBits 6 code)), a, b) (first-same _))))))
-  where
-    off : (t : Bool) (l m : List ℕ) → only (both t false) l ≡ only (both t false) m
-    off true l m = refl
-    off false l m = refl
-
-    none : (t : Bool) → both t false ≡ false
-    none true = refl
-    none false = refl
+divergence-only sent = s-then _ _ _ (divergence-spells sent) λ l d h. subst (First (divergenceBits sent d)) (h .0) (first-same (divergenceBits sent d))
 
 -- the flag for a precise position that has no presence bit is not set
 flag-first : (given presence : ℕ) → given < 2 → (set? given ≡ false → 0 ≡ presence)
@@ -87,20 +62,6 @@ precise-fewest sent =
 
 -- ---- the element
 
--- the bits of each entry's value
-abbrev bitsOfEach : {X A : Type 0} → (X → A → List ℕ) → List X → List A → List ℕ
-bitsOfEach enc [] vs = []
-bitsOfEach enc (x ∷ xs) [] = []
-bitsOfEach enc (x ∷ xs) (v ∷ vs) = enc x v ++ bitsOfEach enc xs vs
-
-each-first : {X A : Type 0} (f : X → P A) (enc : X → A → List ℕ) → ((x : X) → Spells (f x) (λ l a. First (enc x a) l))
-    → (xs : List X) → Spells (each f xs) (λ l vs. First (bitsOfEach enc xs vs) l)
-unfolding each
-each-first f enc h [] = s-give _ _ (first-same [])
-each-first f enc h (x ∷ xs) =
-    s-bind _ _ _ (s-then _ _ _ (h x) λ l a p. s-bind _ _ _ (s-then _ _ _ (each-first f enc h xs) λ m vs q. s-give _ _
-    (rw (append-nil m) (first-append p q))))
-
 -- one of the two groups: a part of each record, with a value that stands for none, and a test that says which records have it
 module _ {A : Type 0} (block : Bool → P A) (enc : Bool → A → List ℕ) (least : (c : Bool) → Spells (block c) (λ l a. First (enc c a) l))
     (part : Record → A) (none : A) (has : Record → Bool) (absent : (r : Record) → none ≡ part r → has r ≡ false) where
@@ -115,7 +76,7 @@ module _ {A : Type 0} (block : Bool → P A) (enc : Bool → A → List ℕ) (le
   group : (rs : List Record) (b : ℕ) → Spells (when (set? b) (each block (sent rs)) (replicate (length (sent rs)) none)) (Group rs b)
   group rs b =
       s-pick (set? b) _ _ _
-      (λ q. s-then _ _ _ (each-first block enc least (sent rs)) λ l vs f. record { there = λ p. f; not-there = λ p. absurd (false≢true (sym p ∙ q)) })
+      (λ q. s-then _ _ _ (each-first block enc least (sent rs)) λ l vs f. record { there = λ p. f .0; not-there = λ p. absurd (false≢true (sym p ∙ q)) })
       (λ q. s-give _ _ (record { there = λ p. absurd (false≢true (sym q ∙ p)); not-there = λ p. refl }))
 
   none-has : (rs : List Record) → replicate (length (sent rs)) none ≡ map part rs → any has rs ≡ false

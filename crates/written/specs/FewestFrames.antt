@@ -1,6 +1,6 @@
 -- The same for an element's size and for the extended object element.
 use mathlib.Core.Path.{_≡_}
-use mathlib.Core.Bool.{false, not}
+use mathlib.Core.Bool.{false}
 use mathlib.Core.List.{[], _++_, append-nil, append-assoc}
 use Prim.Native.Nat.{ℕ, _+_, _-_, _*_, _/_, _%_, _≤_, _<_}
 use native.Mathlib.Omega.{arith}
@@ -8,8 +8,8 @@ use lib.Arith.{digits-div, digits-mod}
 use lib.Dec.{eqb}
 use borrow.Author.Tests.{eqb-true, eqb-false, le-leb, lt-leb}
 use Rattle.bits.specs.Size.{sizeFrom, variable-bits-max}
-use Rattle.bits.specs.Writes.{toBits}
-use Rattle.bits.specs.Spells.{Spells, s-give, s-bind, s-bits, s-pick}
+use Rattle.bits.specs.Writes.{toBits, Spells}
+use Rattle.bits.specs.Spells.{s-give, s-bind, s-bits, s-pick}
 use Rattle.written.specs.Form.{groupBits, sizeBits, sizeFor}
 
 -- ---- sizes (5.5.1)

@@ -5,8 +5,7 @@ use Prim.Native.Nat.{ℕ, zero, suc, _+_, _-_, _*_, _/_, _%_}
 use lib.Dec.{leb, ltb, eqb}
 use lib.ListN.{length, replicate, take, drop}
 use Rattle.bits.specs.Language.{pick, both}
-use Rattle.bits.specs.Writes.{toBits, only, eachBits}
-use Rattle.bits.specs.Bytes.{toBytes}
+use Rattle.bits.specs.Writes.{toBits, only, eachBits, toBytes}
 use Rattle.oamd.specs.declared.Bed.{Bed}
 use Rattle.oamd.specs.declared.Programme.{Programme}
 use Rattle.oamd.specs.declared.Offset.{Offset}

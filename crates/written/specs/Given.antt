@@ -1,6 +1,6 @@
 -- Every valid programme and timing are given by some accepted payload: that of the same programme and timing with no object active in any block
 -- and no trim element, which is always short enough.
-use mathlib.Core.Path.{_≡_, refl, ap}
+use mathlib.Core.Path.{_≡_, refl, sym, ap, subst}
 use mathlib.Core.Bool.{true, false}
 use mathlib.Core.List.{List, [], _∷_}
 use Prim.Native.Nat.{ℕ, zero, suc, _*_, _/_, _≤_}
@@ -9,8 +9,9 @@ use native.Mathlib.Nat.{mul-le-mul}
 use lib.ListN.{length}
 use lib.Seq.{length-take-le}
 use borrow.Author.Tests.{eq-eqb}
-use Rattle.bits.specs.Language.{ok, run, bit, pastPayload}
+use Rattle.bits.specs.Language.{ok}
 use Rattle.bits.specs.Bytes.{length-toBytes}
+use Rattle.bits.specs.Ensures.{Every}
 use Rattle.oamd.specs.declared.Programme.{Programme}
 use Rattle.oamd.specs.declared.Timing.{Timing}
 use Rattle.oamd.specs.declared.Shares.{Shares}
@@ -20,11 +21,11 @@ use Rattle.oamd.specs.Extended.{noDivergence, noPrecise}
 use Rattle.oamd.specs.Trim.{noTrim}
 use Rattle.oamd.specs.Meaning.{idle}
 use Rattle.oamd.specs.Record.{Record, recordOf}
-use Rattle.oamd.specs.Payload.{Payload, object-audio-metadata-payload, Tables, tables}
+use Rattle.oamd.specs.Payload.{Payload, Tables, tables}
+use Rattle.demands.specs.Terms.{parsed}
 use Rattle.written.specs.Valid.{ranged, placeValid, volumeValid, zoneValid, screenValid, sceneValid, divergenceValid, preciseValid, recordValid, programmeValid, timingValid, recordCount, Valid}
 use Rattle.written.specs.Form.{statusBits, blockBits, objectElementBits, any, hasObject, hasExtended, formBits, form}
 use Rattle.written.specs.Lemmas.Facts.{whole}
-use Rattle.written.specs.Lemmas.Entries.{Every}
 use Rattle.written.specs.Lemmas.ProgrammeBack.{programme-facts, beds-le}
 use Rattle.written.specs.Lemmas.TimingBack.{timing-facts, sent-long}
 use Rattle.written.specs.Lemmas.ObjectsBack.{ValidFrom}
@@ -32,6 +33,21 @@ use Rattle.written.specs.Lemmas.AcceptedRecords.{no-bad}
 use Rattle.written.specs.Lemmas.AcceptedTrim.{no-trim-valid}
 use Rattle.written.specs.Lemmas.Lengths.{Short, also, bits-short, if-sent, at-most, header-short, timing-short, Small, objects-short, element-short}
 use Rattle.written.specs.RoundTrip.{round-trip}
+
+-- Some accepted payload gives tables of which Q holds: its bytes, no more than one may have, and what is read of them
+pub record GivenBy (Q : Tables → Type 0) : Type 0 where
+  pub bytes : List ℕ
+  pub short : length bytes ≤ mostBytes
+  pub payload : Payload
+  pub end : ℕ
+  pub reads : parsed bytes ≡ ok payload end
+  pub gives : Q (tables (payload .programme) (payload .known))
+
+-- valid tables whose form is short enough are given by it
+pub form-gives : (Q : Tables → Type 0) (t : Tables) → Valid t → length (form t) ≤ mostBytes → Q t → GivenBy Q
+form-gives Q t v l q =
+    let r = round-trip t v in
+    record { bytes = form t; short = l; payload = r .payload; end = r .end; reads = r .reads; gives = subst Q (sym (r .same)) q }
 
 -- ---- tables with no object active
 
@@ -77,16 +93,6 @@ unfolding hasExtended any idleRecords
 no-extension s blocks i zero = refl
 no-extension s blocks i (suc n) = no-extension s blocks (suc i) n
 
--- the bytes of a payload, no more than one may have, and what is read of them: this programme and this timing
-pub record GivenBy (p : Programme) (t : Timing) : Type 0 where
-  pub bytes : List ℕ
-  pub short : length bytes ≤ mostBytes
-  pub payload : Payload
-  pub end : ℕ
-  pub reads : run object-audio-metadata-payload (bit bytes) 0 (8 * length bytes) pastPayload ≡ ok payload end
-  pub programme : tables (payload .programme) (payload .known) .programme ≡ p
-  pub timing : tables (payload .programme) (payload .known) .timing ≡ t
-
 module _ (p : Programme) (t : Timing) (v : programmeValid p ≡ true) (w : timingValid t ≡ true) where
   object-short : Short (objectElementBits (idleTables p t)) 2800
   unfolding objectElementBits
@@ -119,15 +125,5 @@ module _ (p : Programme) (t : Timing) (v : programmeValid p ≡ true) (w : timin
       none-short : Short [] 0
       none-short = record { most = omega arith }
 
-  pub given : GivenBy p t
-  given =
-      let r = round-trip (idleTables p t) (tables-valid p t v w) in
-      record {
-        bytes = form (idleTables p t);
-        short = form-short;
-        payload = r .payload;
-        end = r .end;
-        reads = r .reads;
-        programme = ap (λ (x : Tables). x .programme) (r .same);
-        timing = ap (λ (x : Tables). x .timing) (r .same);
-      }
+  pub given : GivenBy (λ x. (x .programme ≡ p) × (x .timing ≡ t))
+  given = form-gives _ (idleTables p t) (tables-valid p t v w) form-short (refl, refl)

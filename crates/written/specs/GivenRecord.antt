@@ -1,12 +1,11 @@
 -- Every valid record of a class is given by some accepted payload: that of a programme whose first object is of this class, with one block.
-use mathlib.Core.Path.{_≡_, refl, ap, _∙_}
+use mathlib.Core.Path.{_≡_, refl}
 use mathlib.Core.Bool.{true}
 use mathlib.Core.List.{List, _∷_}
 use Prim.Native.Nat.{ℕ, _-_, _*_, _/_, _≤_}
 use native.Mathlib.Omega.{arith}
 use lib.ListN.{length, replicate}
 use lib.Seq.{length-take-le}
-use Rattle.bits.specs.Language.{ok, run, bit, pastPayload}
 use Rattle.bits.specs.Bytes.{length-toBytes}
 use Rattle.oamd.specs.declared.Programme.{Programme}
 use Rattle.oamd.specs.declared.Timing.{Timing}
@@ -15,7 +14,7 @@ use Rattle.oamd.specs.Programme.{noBed, labels, bedObjects, allBeds, named, agr
 use Rattle.oamd.specs.Timing.{noUpdate}
 use Rattle.oamd.specs.Trim.{noTrim}
 use Rattle.oamd.specs.Record.{Record}
-use Rattle.oamd.specs.Payload.{Payload, object-audio-metadata-payload, Tables, tables}
+use Rattle.oamd.specs.Payload.{Tables}
 use Rattle.written.specs.Valid.{ranged, bedValid, entriesValid, programmeValid, sampleOffset, updateValid, timingValid, recordValid, Valid}
 use Rattle.written.specs.Form.{hasObject, hasExtended, hasTrim, formBits, form}
 use Rattle.written.specs.Lemmas.Facts.{by-eq}
@@ -25,8 +24,7 @@ use Rattle.written.specs.Lemmas.TrimBack.{trim-facts}
 use Rattle.written.specs.Lemmas.AcceptedRecords.{no-bad}
 use Rattle.written.specs.Lemmas.AcceptedTrim.{no-trim-valid}
 use Rattle.written.specs.Lemmas.Lengths.{Short, also, bits-short, if-sent, at-most, header-short, object-element-short, extended-element-short, trim-element-short, element-short}
-use Rattle.written.specs.RoundTrip.{round-trip}
-use Rattle.written.specs.Given.{idleRecords, all-idle, idle-count}
+use Rattle.written.specs.Given.{GivenBy, form-gives, idleRecords, all-idle, idle-count}
 
 -- the form of up to 323 records, with any trim element, is always short enough
 pub few-fit : (t : Tables) → Valid t → length (t .records) ≤ 323 → length (form t) ≤ mostBytes
@@ -53,27 +51,13 @@ few-fit t v few =
 
 -- ---- a programme for each class
 
-abbrev dynamicOnly : ℕ → Programme
-dynamicOnly lfe = record {
-  objects = 1;
-  dynonly = 1;
+-- without beds
+abbrev bedless : ℕ → ℕ → ℕ → ℕ → Programme
+bedless objects dynonly lfe content = record {
+  objects = objects;
+  dynonly = dynonly;
   lfe = lfe;
-  content = 0;
-  distribute = 0;
-  multiple = 0;
-  instances = 0;
-  bedcount = 0;
-  isf = 0;
-  dynamics = 0;
-  beds = replicate mostBeds noBed;
-}
-
-abbrev isfOnly : Programme
-isfOnly = record {
-  objects = 4;
-  dynonly = 0;
-  lfe = 0;
-  content = 2;
+  content = content;
   distribute = 0;
   multiple = 0;
   instances = 0;
@@ -97,12 +81,12 @@ record Fit (class : ℕ) : Type 0 where
 fit : (class : ℕ) → class ≤ 2 → Fit class
 unfolding programmeValid ranged entriesValid bedValid agrees named allBeds bedObjects labels shares classOf
 fit class h = by-eq class 0
-    (λ e. rw e (record { programme = dynamicOnly 1; valid = refl; few = omega arith; some = omega arith; first = refl }))
+    (λ e. rw e (record { programme = bedless 1 1 1 0; valid = refl; few = omega arith; some = omega arith; first = refl }))
     (λ m. by-eq class 1
-    (λ e. rw e (record { programme = isfOnly; valid = refl; few = omega arith; some = omega arith; first = refl }))
+    (λ e. rw e (record { programme = bedless 4 0 0 2; valid = refl; few = omega arith; some = omega arith; first = refl }))
     (λ n.
     let e : class ≡ 2 = omega arith in
-    rw e (record { programme = dynamicOnly 0; valid = refl; few = omega arith; some = omega arith; first = refl })))
+    rw e (record { programme = bedless 1 1 0 0; valid = refl; few = omega arith; some = omega arith; first = refl })))
 
 one-block-valid : timingValid oneBlock ≡ true
 unfolding timingValid ranged sampleOffset entriesValid updateValid
@@ -110,29 +94,9 @@ one-block-valid = refl
 
 -- ---- the statement
 
--- the bytes of a payload, no more than one may have, and what is read of them: this record first
-pub record RecordGivenBy (r : Record) : Type 0 where
-  pub bytes : List ℕ
-  pub short : length bytes ≤ mostBytes
-  pub payload : Payload
-  pub end : ℕ
-  pub reads : run object-audio-metadata-payload (bit bytes) 0 (8 * length bytes) pastPayload ≡ ok payload end
-  pub others : List Record
-  pub records : tables (payload .programme) (payload .known) .records ≡ r ∷ others
-
--- valid tables of few records are given
-from-tables : (t : Tables) (r : Record) (others : List Record) → Valid t → length (t .records) ≤ 323 → t .records ≡ r ∷ others → RecordGivenBy r
-from-tables t r others v few e =
-    let a = round-trip t v in
-    record {
-      bytes = form t;
-      short = few-fit t v few;
-      payload = a .payload;
-      end = a .end;
-      reads = a .reads;
-      others = others;
-      records = ap (λ (x : Tables). x .records) (a .same) ∙ e;
-    }
+-- this record first
+abbrev pub RecordGivenBy : Record → Type 0
+RecordGivenBy r = GivenBy (λ t. (others : List Record) × (t .records ≡ r ∷ others))
 
 pub record-given : (class : ℕ) (r : Record) → class ≤ 2 → recordValid class r ≡ true → RecordGivenBy r
 record-given class r low good =
@@ -144,5 +108,6 @@ record-given class r low good =
     let n : length (r ∷ others) ≡ p .objects * 1 = (let c = idle-count (shares p) 1 1 (p .objects - 1) in omega arith) in
     let g : recordValid (classOf (shares p) (0 / 1)) r ≡ true = rw (f .first) good in
     let b = no-bad (shares p) 1 0 (r ∷ others) (g, all-idle (shares p) 1 1 (p .objects - 1)) in
-    from-tables (record { programme = p; timing = oneBlock; records = r ∷ others; trim = noTrim (p .objects) }) r others
-    (record { programme = f .valid; timing = one-block-valid; count = n; records = omega arith; trim = no-trim-valid (p .objects) }) (omega arith) refl
+    let t : Tables = record { programme = p; timing = oneBlock; records = r ∷ others; trim = noTrim (p .objects) } in
+    let v : Valid t = record { programme = f .valid; timing = one-block-valid; count = n; records = omega arith; trim = no-trim-valid (p .objects) } in
+    form-gives _ t v (few-fit t v (omega arith)) (others, refl)

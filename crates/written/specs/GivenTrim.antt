@@ -4,36 +4,27 @@ use mathlib.Core.Path.{_≡_, refl, sym, ap, _∙_, subst}
 use mathlib.Core.Bool.{true, false, false≢true}
 use mathlib.Core.List.{List, [], _++_}
 use mathlib.Core.Logic.{_↔_}
-use Prim.Native.Nat.{ℕ, _*_, _≤_}
+use Prim.Native.Nat.{ℕ, _≤_}
 use native.Mathlib.Omega.{arith}
 use native.Mathlib.Nat.{mul-zero}
 use lib.ListN.{length, take, drop, take-append-drop}
-use Rattle.bits.specs.Language.{ok, run, bit, pastPayload}
 use Rattle.oamd.specs.declared.Programme.{Programme}
-use Rattle.oamd.specs.Tables.{mostBytes}
 use Rattle.oamd.specs.Programme.{hasReserved}
 use Rattle.oamd.specs.Trim.{Trim, trimBytesOf, trimNeeded}
-use Rattle.oamd.specs.Payload.{Payload, object-audio-metadata-payload, Tables, noTiming, tables}
+use Rattle.oamd.specs.Payload.{Tables, noTiming, tables}
 use Rattle.written.specs.Valid.{programmeValid, firstBad, trimValid, Valid}
-use Rattle.written.specs.Form.{form}
 use Rattle.written.specs.Answer.{trimAt}
 use Rattle.written.specs.Lemmas.Facts.{by-test}
 use Rattle.written.specs.Lemmas.ProgrammeBack.{programme-facts}
 use Rattle.written.specs.Lemmas.TrimBack.{trim-facts}
 use Rattle.written.specs.Lemmas.TableBytes.{trim-bytes, trim-again}
-use Rattle.written.specs.RoundTrip.{round-trip}
 use Rattle.written.specs.Accepted.{no-timing-valid, accepted-valid}
+use Rattle.written.specs.Given.{GivenBy, form-gives}
 use Rattle.written.specs.GivenRecord.{few-fit}
 
--- the bytes of a payload, no more than one may have, and what is read of them: this programme, and a trim table of which Q holds
-pub record TrimGiven (p : Programme) (Q : Trim → Type 0) : Type 0 where
-  pub bytes : List ℕ
-  pub short : length bytes ≤ mostBytes
-  pub payload : Payload
-  pub end : ℕ
-  pub reads : run object-audio-metadata-payload (bit bytes) 0 (8 * length bytes) pastPayload ≡ ok payload end
-  pub programme : tables (payload .programme) (payload .known) .programme ≡ p
-  pub trim : Q (tables (payload .programme) (payload .known) .trim)
+-- this programme, and a trim table of which Q holds
+abbrev pub TrimGiven : Programme → (Trim → Type 0) → Type 0
+TrimGiven p Q = GivenBy (λ t. (t .programme ≡ p) × Q (t .trim))
 
 -- this trim table
 abbrev pub TrimGivenBy : Programme → Trim → Type 0
@@ -60,17 +51,7 @@ module _ (p : Programme) (v : programmeValid p ≡ true) where
 
   -- a valid one is given
   given : (Q : Trim → Type 0) (x : Trim) → trimValid (p .objects) x ≡ true → Q x → TrimGiven p Q
-  given Q x h q =
-      let r = round-trip (bare x) (bare-valid x h) in
-      record {
-        bytes = form (bare x);
-        short = few-fit (bare x) (bare-valid x h) (omega arith);
-        payload = r .payload;
-        end = r .end;
-        reads = r .reads;
-        programme = ap (λ (t : Tables). t .programme) (r .same);
-        trim = subst (λ (t : Tables). Q (t .trim)) (sym (r .same)) q;
-      }
+  given Q x h q = form-gives _ (bare x) (bare-valid x h) (few-fit (bare x) (bare-valid x h) (omega arith)) (refl, q)
 
   -- and what is given is valid
   given-valid : (Q : Trim → Type 0) (g : TrimGiven p Q)
@@ -78,14 +59,14 @@ module _ (p : Programme) (v : programmeValid p ≡ true) where
   unfolding tables
   given-valid Q g =
       let clear : hasReserved (g .payload .programme .content) ≡ false =
-      ap (λ (q : Programme). hasReserved (q .content)) (g .programme) ∙ programme-facts p v .reserved in
+      ap (λ (q : Programme). hasReserved (q .content)) (g .gives .0) ∙ programme-facts p v .reserved in
       let w = accepted-valid (g .bytes) (g .payload) (g .end) (g .reads) clear in
-      subst (λ (q : Programme). trimValid (q .objects) (tables (g .payload .programme) (g .payload .known) .trim) ≡ true) (g .programme) (w .trim)
+      subst (λ (q : Programme). trimValid (q .objects) (tables (g .payload .programme) (g .payload .known) .trim) ≡ true) (g .gives .0) (w .trim)
 
   -- ---- the statements
 
   pub trim-given : (x : Trim) → (trimValid (p .objects) x ≡ true) ↔ TrimGivenBy p x
-  trim-given x = (λ h. given _ x h refl, λ g. subst (λ (t : Trim). trimValid (p .objects) t ≡ true) (g .trim) (given-valid _ g))
+  trim-given x = (λ h. given _ x h refl, λ g. subst (λ (t : Trim). trimValid (p .objects) t ≡ true) (g .gives .1) (given-valid _ g))
 
   -- in the words of the document
   pub trim-bad : (x : Trim) → (trimValid (p .objects) x ≡ false) ↔ (TrimGivenBy p x → ⊥)
@@ -106,6 +87,6 @@ module _ (p : Programme) (v : programmeValid p ≡ true) where
         let tail : List ℕ = drop (trimNeeded (p .objects)) s in
         let e : trimAt (p .objects) s ≡ t =
         ap (trimAt (p .objects)) (sym (take-append-drop (trimNeeded (p .objects)) s))
-        ∙ ap (λ (l : List ℕ). trimAt (p .objects) (l ++ tail)) (sym (g .trim)) ∙ trim-again (p .objects) t (f .nine) (f .flags) tail in
+        ∙ ap (λ (l : List ℕ). trimAt (p .objects) (l ++ tail)) (sym (g .gives .1)) ∙ trim-again (p .objects) t (f .nine) (f .flags) tail in
         rw e h),
   )

@@ -7,6 +7,7 @@ use Prim.Native.Nat.{ℕ, zero, suc, _+_, _*_, _/_, _%_, _≤_, _<_}
 use native.Mathlib.Omega.{arith}
 use lib.ListN.{length, getD, drop, List·getD-append}
 use Rattle.bits.specs.Language.{ok, run, bit, pastPayload}
+use Rattle.bits.specs.Ensures.{Every}
 use Rattle.oamd.specs.declared.Timing.{Timing}
 use Rattle.oamd.specs.Tables.{recordStride}
 use Rattle.oamd.specs.Timing.{noUpdate}
@@ -22,7 +23,6 @@ use Rattle.demands.specs.Lemmas.Reading.{read-of}
 use Rattle.written.specs.Valid.{sampleOffset, updateValid, timingValid, sceneValid, mostDivergence, divergenceValid, recordValid, trimValid, recordCount}
 use Rattle.written.specs.Answer.{sceneAt, divergenceAt, preciseAt, recordAt}
 use Rattle.written.specs.Lemmas.Facts.{halves}
-use Rattle.written.specs.Lemmas.Entries.{Every}
 use Rattle.written.specs.Lemmas.TimingBack.{UpdateFacts, update-facts, no-update, timing-facts}
 use Rattle.written.specs.Lemmas.BlockBack.{scene-facts}
 use Rattle.written.specs.Lemmas.ExtendedBack.{divergence-facts, precise-facts}

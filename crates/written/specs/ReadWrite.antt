@@ -1,20 +1,21 @@
 -- What a read has given can be written, as the host calls it, and reads back the same.
-use mathlib.Core.Path.{_≡_, refl, sym, ap, _∙_}
+use mathlib.Core.Path.{_≡_, sym, ap, _∙_, subst}
 use mathlib.Core.Bool.{false}
 use mathlib.Core.List.{List, _++_}
-use Prim.Native.Nat.{ℕ, _*_, _≤_}
+use Prim.Native.Nat.{ℕ, _≤_}
 use native.Mathlib.Omega.{arith}
 use lib.ListN.{length, drop, length-append}
-use borrow.Author.Tests.{le-leb}
-use Rattle.bits.specs.Language.{ok, run, bit, pastPayload}
+use Rattle.bits.specs.Language.{ok}
+use Rattle.bits.specs.Steps.{value}
 use Rattle.oamd.specs.Tables.{mostBytes}
 use Rattle.oamd.specs.Programme.{hasReserved}
 use Rattle.oamd.specs.Trim.{trimBytesOf, trimNeeded}
 use Rattle.oamd.specs.Record.{bytesOf, onto}
 use Rattle.oamd.specs.Lengths.{length-bytes, length-trim}
-use Rattle.oamd.specs.Payload.{Payload, object-audio-metadata-payload, Tables, tables}
-use Rattle.oamd.specs.Answer.{accepted, needed, housed, reading}
-use Rattle.demands.specs.Answers.{accepted-when}
+use Rattle.oamd.specs.Payload.{Payload, Tables, tables}
+use Rattle.oamd.specs.Answer.{Outcome, needed, reading}
+use Rattle.demands.specs.Terms.{parsed}
+use Rattle.demands.specs.Lemmas.Reading.{Read, read-of}
 use Rattle.written.specs.Valid.{recordCount, Valid}
 use Rattle.written.specs.Form.{form}
 use Rattle.written.specs.Answer.{recordsAt, tablesOf, writtenTo, writing}
@@ -60,54 +61,42 @@ module _ (t : Tables) (buffer trim : List ℕ) (v : Valid t) where
 
 -- ---- the statements
 
-module _ (s buffer trim : List ℕ) (q : Payload) (to : ℕ) where
+-- the tables that a read has given: the programme and the timing of its answer, and the bytes in its buffers
+abbrev pub tablesGiven : Outcome → Tables
+tablesGiven o = tablesOf (o .answer .programme) (o .answer .timing) (o .buffer) (o .trim)
+
+-- of every accepted read, if the reserved content flag is clear
+module _ (s buffer trim : List ℕ) (accepted : reading s buffer trim .answer .refusal ≡ 0)
+    (clear : hasReserved (reading s buffer trim .answer .programme .content) ≡ false) where
+  -- what it rests on
+  abbrev r : Read s buffer trim
+  r = read-of s buffer trim accepted
+
   abbrev given : Tables
-  given = tables (q .programme) (q .known)
+  given = tables (r .payload .programme) (r .payload .known)
 
-  -- the bytes are a payload that a read with the room for its records and its trim table accepts
-  pub record Accepted : Type 0 where
-    pub short : length s ≤ mostBytes
-    pub reads : run object-audio-metadata-payload (bit s) 0 (8 * length s) pastPayload ≡ ok q to
-    pub room : needed (tables (q .programme) (q .known)) ≤ length buffer
-    pub trim-room : trimNeeded (q .programme .objects) ≤ length trim
+  given-valid : Valid given
+  unfolding tables
+  given-valid = accepted-valid s (r .payload) (r .to) (r .ran) (rw (r .is) at clear)
 
-  pub read-is : Accepted → reading s buffer trim ≡ accepted buffer trim (tables (q .programme) (q .known)) (q .unknown)
-  unfolding reading housed tables
-  read-is a =
-      rw (
-        le-leb (length s) mostBytes (a .short),
-        a .reads,
-        le-leb (needed given) (length buffer) (a .room),
-        le-leb (trimNeeded (q .programme .objects)) (length trim) (a .trim-room),
-      ) refl
+  given-again : tablesGiven (reading s buffer trim) ≡ given
+  given-again = ap tablesGiven (r .is) ∙ tables-again given buffer trim given-valid
 
-  -- the programme, the timing, the record bytes and the trim bytes that it gives are valid tables, if the reserved content flag is clear
-  pub read-valid : Accepted → hasReserved (q .programme .content) ≡ false
-      → Valid (tablesOf (reading s buffer trim .answer .programme) (reading s buffer trim .answer .timing) (reading s buffer trim .buffer)
-      (reading s buffer trim .trim))
-  read-valid a clear =
-      let v = accepted-valid s q to (a .reads) clear in
-      rw (read-is a, tables-again given buffer trim v) v
+  -- they are those of the payload as it was read,
+  pub read-tables : (q : Payload) (to : ℕ) → parsed s ≡ ok q to → tablesGiven (reading s buffer trim) ≡ tables (q .programme) (q .known)
+  read-tables q to h = given-again ∙ ap (λ (x : Payload). tables (x .programme) (x .known)) (value (sym (r .ran) ∙ h))
+
+  -- they are valid,
+  pub read-valid : Valid (tablesGiven (reading s buffer trim))
+  read-valid = subst Valid (sym given-again) given-valid
 
   -- and a write of them is accepted, where their form fits
-  pub read-write : (out : List ℕ) → Accepted → hasReserved (q .programme .content) ≡ false
-      → length (form (tables (q .programme) (q .known))) ≤ length out → length (form (tables (q .programme) (q .known))) ≤ mostBytes
+  pub read-write : (out : List ℕ) → length (form (tablesGiven (reading s buffer trim))) ≤ length out
+      → length (form (tablesGiven (reading s buffer trim))) ≤ mostBytes
       → writing (reading s buffer trim .answer .programme) (reading s buffer trim .answer .timing) (reading s buffer trim .buffer)
-      (reading s buffer trim .trim) out ≡ writtenTo out (form (tables (q .programme) (q .known)))
-  read-write out a clear room short =
-      let v = accepted-valid s q to (a .reads) clear in
-      let back = tables-again given buffer trim v in
-      rw (read-is a) (writes-valid (given .programme) (given .timing) (onto (bytesOf (given .records)) buffer) (onto (trimBytesOf (given .trim)) trim) out
-      (rw back v) (enough given buffer trim v) (trim-enough given buffer trim v) (rw back room)
-      (rw back short) ∙ ap (λ (t : Tables). writtenTo out (form t)) back)
-
--- of every accepted read, asked of its answer alone
-pub valid-read : (s buffer trim : List ℕ) → reading s buffer trim .answer .refusal ≡ 0
-    → hasReserved (reading s buffer trim .answer .programme .content) ≡ false
-    → Valid (tablesOf (reading s buffer trim .answer .programme) (reading s buffer trim .answer .timing) (reading s buffer trim .buffer)
-    (reading s buffer trim .trim))
-unfolding tables
-valid-read s buffer trim h clear =
-    let w = accepted-when s buffer trim .0 h in
-    let a : Accepted s buffer trim (w .1) (w .2) = record { short = w .0; reads = w .3; room = w .4; trim-room = w .5 } in
-    read-valid s buffer trim (w .1) (w .2) a (rw (read-is s buffer trim (w .1) (w .2) a) at clear)
+      (reading s buffer trim .trim) out ≡ writtenTo out (form (tablesGiven (reading s buffer trim)))
+  read-write out room short =
+      writes-valid _ _ _ _ out read-valid
+      (subst (λ (o : Outcome). needed (tablesGiven o) ≤ length (o .buffer)) (sym (r .is)) (enough given buffer trim given-valid))
+      (subst (λ (o : Outcome). trimNeeded (o .answer .programme .objects) ≤ length (o .trim)) (sym (r .is)) (trim-enough given buffer trim given-valid))
+      room short

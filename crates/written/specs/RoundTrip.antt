@@ -1,5 +1,5 @@
 -- The round trip: what is written of valid tables is read back as these tables.
-use mathlib.Core.Path.{_≡_, refl, sym, ap, _∙_, subst}
+use mathlib.Core.Path.{_≡_, refl, sym, ap, ap₂, _∙_, subst}
 use mathlib.Core.Bool.{false}
 use mathlib.Core.List.{List, [], _∷_, map}
 use mathlib.Core.Option.{Option, none, some}
@@ -7,10 +7,10 @@ use Prim.Native.Nat.{ℕ, suc, _+_, _*_, _≤_, _<_}
 use native.Mathlib.Omega.{arith}
 use native.Mathlib.Nat.{zero-mul, mul-zero, mul-le-mul}
 use lib.ListN.{length}
-use borrow.Author.Tests.{ne-eqb, le-leb, ltb-true, ltb-false}
-use Rattle.bits.specs.Language.{ok, run, bit, from, for, pastPayload}
-use Rattle.bits.specs.Writes.{toBits, only, eachBits, Writes, w-give, w-bits, w-bind, w-end, w-is, w-each}
-use Rattle.bits.specs.Bytes.{from-bytes}
+use borrow.Author.Tests.{lt-ltb, ltb-true, ltb-false}
+use Rattle.bits.specs.Language.{ok, from, for}
+use Rattle.bits.specs.Writes.{toBits, only, eachBits}
+use Rattle.bits.specs.Back.{Writes, w-give, w-bits, w-bind, w-end, w-each, from-bytes}
 use Rattle.oamd.specs.declared.Scene.{Scene}
 use Rattle.oamd.specs.declared.Kind.the-variants.{Object, Trim, Extended}
 use Rattle.oamd.specs.Tables.{mostBytes, mostObjects, mostBlocks}
@@ -22,6 +22,10 @@ use Rattle.oamd.specs.Record.{Record, plainRecords, extendedRecords}
 use Rattle.oamd.specs.Element.{kind, Known, nothing, scenes, fields, State, readKnown, oa-element, oa-element-md, elements}
 use Rattle.oamd.specs.Payload.{oa-element-count, Payload, object-audio-metadata-payload, Tables, timing, records, tables}
 use Rattle.oamd.specs.Answer.{accepted, needed, housed, reading}
+use Rattle.demands.specs.Terms.{parsed}
+use Rattle.demands.specs.Assembly.{countBits}
+use Rattle.demands.specs.Lemmas.Reading.{reading-ok, housed-fits}
+use Rattle.demands.specs.Lemmas.Assembled.{count-writes}
 use Rattle.written.specs.Valid.{recordCount, Valid}
 use Rattle.written.specs.Coded.{asFlag}
 use Rattle.written.specs.Form.{byObject, objectDataBits, objectElementBits, extendedElementBits, trimElementBits, elementBits, any, hasObject, hasExtended, hasTrim, formBits, form}
@@ -175,10 +179,8 @@ module _ (t : Tables) (v : Valid t) where
 
   -- a count of elements that needs no more than 4 bits
   count-written : (n : ℕ) → n < 15 → Writes oa-element-count (toBits 4 n) n
-  unfolding oa-element-count
-  count-written n l =
-      let e : n + 0 ≡ n = omega arith in
-      w-is e (w-end (w-bits 4 n (omega arith)) (rw (ne-eqb n 15 (λ q. omega arith)) (w-bind (w-give 0) (w-give _))))
+  unfolding countBits
+  count-written n l = rw (lt-ltb n 15 l) at (count-writes n (omega arith))
 
   payload-written : Written
   unfolding formBits object-audio-metadata-payload elements tables records scenes timing plainRecords hasExtended any
@@ -243,7 +245,7 @@ module _ (t : Tables) (v : Valid t) where
 pub record ReadAs (s : List ℕ) (t : Tables) : Type 0 where
   pub payload : Payload
   pub end : ℕ
-  pub reads : run object-audio-metadata-payload (bit s) 0 (8 * length s) pastPayload ≡ ok payload end
+  pub reads : parsed s ≡ ok payload end
   pub same : tables (payload .programme) (payload .known) ≡ t
   pub unknown : payload .unknown ≡ 0
 
@@ -263,15 +265,6 @@ round-trip t v =
 -- and a read is accepted with these tables, where a payload can have that length and the buffers have the room for their records and their trim table
 pub reads-back : (t : Tables) (buffer trim : List ℕ) → Valid t → length (form t) ≤ mostBytes → needed t ≤ length buffer
     → trimNeeded (t .programme .objects) ≤ length trim → reading (form t) buffer trim ≡ accepted buffer trim t 0
-unfolding reading housed
 reads-back t buffer trim v l room trim-room =
     let r = round-trip t v in
-    let e = r .same in
-    rw (
-      le-leb (length (form t)) mostBytes l,
-      r .reads,
-      r .unknown,
-      e,
-      le-leb (needed t) (length buffer) room,
-      le-leb (trimNeeded (t .programme .objects)) (length trim) trim-room,
-    ) refl
+    reading-ok (form t) buffer trim l (r .reads) ∙ ap₂ (housed buffer trim) (r .same) (r .unknown) ∙ housed-fits buffer trim t 0 room trim-room

@@ -1,237 +1,142 @@
 -- What is put together is read as such, and what is read was put together.
 use mathlib.Core.Path.{_≡_, refl, sym, ap, ap₂, _∙_, subst}
 use mathlib.Core.Bool.{Bool, true, false}
-use mathlib.Core.List.{List, [], _∷_, _++_}
+use mathlib.Core.List.{List, [], _∷_, _++_, append-nil, append-assoc}
 use mathlib.Core.Option.{some}
-use Prim.Native.Nat.{ℕ, zero, suc, _+_, _-_, _*_, _^_, _≤_, _<_}
+use Prim.Native.Nat.{ℕ, zero, suc, _+_, _-_, _*_, _≤_, _<_}
 use native.Mathlib.Omega.{arith}
-use native.Mathlib.Nat.{mod-eq-of-lt}
 use lib.Dec.{ltb, eqb}
-use lib.ListN.{length, getD, length-append}
-use lib.Seq.{ext-getD}
+use lib.ListN.{length, length-append}
 use borrow.Author.Tests.{ltb-true, ltb-false, lt-ltb, le-ltb, eqb-true, eqb-false, ne-eqb}
-use Rattle.bits.specs.Language.{ok, pick, Bits, slice, P, run, number, bits, bitsIf, bit, pastPayload}
-use Rattle.bits.specs.Steps.{ok-at, bind-ok, field-ok, give-ok, give-is, bind-is, field-is, listed, slice-get, slice-at, length-slice}
+use Rattle.bits.specs.Language.{ok, pick, Bits, slice, P, run, bit, pastPayload}
+use Rattle.bits.specs.Steps.{ok-at, give-ok, bind-ok, slice-get, slice-at, length-slice}
 use Rattle.bits.specs.Laws.{local}
+use Rattle.bits.specs.Writes.{Binary, listed, toBits, only, toBytes, Spells}
+use Rattle.bits.specs.Lists.{Holds, holds-left, binary-slice}
+use Rattle.bits.specs.Bytes.{bit-lt}
+use Rattle.bits.specs.Back.{Writes, w-give, w-bits, w-bind, w-end, w-is, w-exact, from-padded}
+use Rattle.bits.specs.Spells.{taken, taken-join, spelled, s-give, s-bind, s-bits, s-if}
 use Rattle.oamd.specs.Tables.{mostElements}
 use Rattle.oamd.specs.Payload.{oa-element-count, header}
 use Rattle.demands.specs.Terms.{runs}
 use Rattle.demands.specs.Skeleton.{Body, body, bodies, Outline, outline-payload, given, outline}
-use Rattle.demands.specs.Assembly.{Binary, Exactly, Head, Element, allBits, allBodies, toBits, countBits, payloadBits, toBytes, payloadOf, PutTogether}
-use Rattle.demands.specs.Lemmas.Packing.{Holds, holds-left, holds-right, binary-append, binary-slice, binary-bit, slice-append, length-toBits, binary-toBits, number-toBits, number-lt, toBits-number, bytes-hold, bytes-long}
+use Rattle.demands.specs.Assembly.{Exactly, Head, Element, allBits, allBodies, countBits, payloadOf, PutTogether}
 
--- ---- bits that a reader reads exactly
+-- ---- what is put together
 
--- wherever they stand
-exact-moves : {A : Type 0} (p : P A) (l : List ℕ) {v : A} → Exactly p l v → (b : Bits) (at e o : ℕ) → Holds b at l → at + length l ≤ e
-    → run p b at e o ≡ ok v (at + length l)
-exact-moves p l h b at e o holds fits =
-    let start : 0 ≤ length l = omega arith in
-    let x = local p (listed l) 0 (length l) pastPayload h start in
-    ok-at (x .moved b at e o (λ i j. ap (λ (k : ℕ). getD l k 0) (omega arith) ∙ sym (holds i (omega (arith, x .ends)))) (omega (arith, x .ends)))
-    (omega (arith, x .ends))
-
--- wherever they were read
-record Piece {A : Type 0} (p : P A) (b : Bits) (at : ℕ) (v : A) (to : ℕ) : Type 0 where
-  used : ℕ
-  ends : to ≡ at + used
-  exact : Exactly p (slice b at used) v
-
-piece : {A : Type 0} (p : P A) (b : Bits) (at e o : ℕ) {v : A} {to : ℕ} → run p b at e o ≡ ok v to → at ≤ e → Piece p b at v to
-piece p b at e o h le =
-    let x = local p b at e o h le in
-    let n = length-slice b at (x .used) in
-    record {
-      used = x .used;
-      ends = x .ends;
-      exact = ok-at (x .moved (listed (slice b at (x .used))) 0 (length (slice b at (x .used))) pastPayload (slice-at b at (x .used)) (omega arith)) (omega arith);
-    }
-
--- ---- the element count
-
-bits-read : (w v : ℕ) (b : Bits) (at e o : ℕ) → v < 2 ^ w → Holds b at (toBits w v) → at + w ≤ e → run (bits w) b at e o ≡ ok v (at + w)
-bits-read w v b at e o small holds fits =
-    let n = length-slice b at w in
-    let m = length-toBits w v in
-    let same : slice b at w ≡ toBits w v =
-    ext-getD 0 (slice b at w) (toBits w v) (n ∙ sym m) λ i j. sym (slice-get b at w i (omega arith)) ∙ holds i (omega arith) in
-    field-is w number b at e o fits ∙ ap (λ (x : ℕ). ok x (at + w)) (ap number same ∙ number-toBits w v ∙ mod-eq-of-lt small)
-
-absent : (t : Bool) (w : ℕ) (b : Bits) (at e o : ℕ) → t ≡ false → run (bitsIf t w) b at e o ≡ ok 0 at
-absent t w b at e o h = rw h (give-is 0 b at e o)
-
-count-reads : (n : ℕ) (b : Bits) (at e o : ℕ) → n ≤ mostElements → Holds b at (countBits n) → at + length (countBits n) ≤ e
-    → run oa-element-count b at e o ≡ ok n (at + length (countBits n))
+pub count-writes : (n : ℕ) → n ≤ mostElements → Writes oa-element-count (countBits n) n
 unfolding oa-element-count countBits
-count-reads n b at e o few holds fits = go (ltb n 15) refl holds fits
+count-writes n few = go (ltb n 15) refl
   where
-    go : (t : Bool) → ltb n 15 ≡ t → Holds b at (pick t (toBits 4 n) (toBits 4 15 ++ toBits 5 (n - 15)))
-        → at + length (pick t (toBits 4 n) (toBits 4 15 ++ toBits 5 (n - 15))) ≤ e
-        → run oa-element-count b at e o ≡ ok n (at + length (pick t (toBits 4 n) (toBits 4 15 ++ toBits 5 (n - 15))))
-    go true q holds fits =
+    go : (t : Bool) → ltb n 15 ≡ t → Writes oa-element-count (pick t (toBits 4 n) (toBits 4 15 ++ toBits 5 (n - 15))) n
+    go true q =
         let l = ltb-true n 15 q in
-        let m = length-toBits 4 n in
-        let v : n + 0 ≡ n = omega arith in
-        let i : at + 4 ≡ at + length (toBits 4 n) = omega arith in
-        bind-is _ _ b at e o (bits-read 4 n b at e o (omega arith) holds (omega arith))
-        ∙ bind-is _ _ b (at + 4) e o (absent (eqb n 15) 5 b (at + 4) e o (ne-eqb n 15 (omega arith))) ∙ give-is _ b (at + 4) e o ∙ ap₂ ok v i
-    go false q holds fits =
+        let e : n + 0 ≡ n = omega arith in
+        w-is e (w-end (w-bits 4 n (omega arith)) (rw (ne-eqb n 15 (omega arith)) (w-bind (w-give 0) (w-give _))))
+    go false q =
         let l = ltb-false n 15 q in
-        let m = length-toBits 4 15 in
-        let k = length-toBits 5 (n - 15) in
-        let j = length-append (toBits 4 15) (toBits 5 (n - 15)) in
-        let v : 15 + (n - 15) ≡ n = omega arith in
-        let i : at + 4 + 5 ≡ at + length (toBits 4 15 ++ toBits 5 (n - 15)) = omega arith in
-        let right = subst (λ (x : ℕ). Holds b (at + x) (toBits 5 (n - 15))) m (holds-right b at (toBits 4 15) (toBits 5 (n - 15)) holds) in
-        bind-is _ _ b at e o (bits-read 4 15 b at e o (omega arith) (holds-left b at (toBits 4 15) (toBits 5 (n - 15)) holds) (omega arith))
-        ∙ bind-is _ _ b (at + 4) e o (bits-read 5 (n - 15) b (at + 4) e o (omega arith) right (omega arith)) ∙ give-is _ b (at + 4 + 5) e o ∙ ap₂ ok v i
+        let e : 15 + (n - 15) ≡ n = omega arith in
+        w-is e (w-bind (w-bits 4 15 (omega arith)) (w-end (w-bits 5 (n - 15) (omega arith)) (w-give _)))
 
--- as it was read
-record Counted (b : Bits) (at n to : ℕ) : Type 0 where
-  used : ℕ
-  ends : to ≡ at + used
-  bits : slice b at used ≡ countBits n
-  few : n ≤ mostElements
-
--- w bits are those of their number, which is small
-slice-number : (b : Bits) (at w : ℕ) → ((i : ℕ) → b i < 2) → (slice b at w ≡ toBits w (number (slice b at w))) × (number (slice b at w) < 2 ^ w)
-slice-number b at w h =
-    let l : List ℕ = slice b at w in
-    let n = length-slice b at w in
-    let bin = binary-slice b at w h in
-    (sym (toBits-number l bin) ∙ ap (λ (k : ℕ). toBits k (number l)) n, subst (λ (k : ℕ). number l < 2 ^ k) n (number-lt l bin))
-
-count-of : (b : Bits) (at e o : ℕ) {n to : ℕ} → ((i : ℕ) → b i < 2) → run oa-element-count b at e o ≡ ok n to → Counted b at n to
-unfolding oa-element-count countBits
-count-of b at e o {n} {to} bin h =
-    bind-ok _ _ b at e o h λ c p1 h1 h.
-    bind-ok _ _ b p1 e o h λ x p2 h2 h.
-    go c p1 x p2 (field-ok 4 number b at e o h1) (eqb c 15) refl h2 (give-ok _ b p2 e o h)
-  where
-    go : (c p1 x p2 : ℕ) → (at + 4 ≤ e) × (number (slice b at 4) ≡ c) × (p1 ≡ at + 4) → (t : Bool) → eqb c 15 ≡ t → run (bitsIf t 5) b p1 e o ≡ ok x p2
-        → (c + x ≡ n) × (to ≡ p2) → Counted b at n to
-    go c p1 x p2 r true q h2 g =
-        let c15 = eqb-true c 15 q in
-        let f = field-ok 5 number b p1 e o h2 in
-        let four = slice-number b at 4 bin in
-        let five = slice-number b p1 5 bin in
-        let long : 15 ≤ n = omega arith in
-        let a : number (slice b at 4) ≡ 15 = omega arith in
-        let d : number (slice b p1 5) ≡ n - 15 = omega arith in
-        record {
-          used = 4 + 5;
-          ends = omega arith;
-          few = omega arith;
-          bits = slice-append b at 4 5 ∙ ap (λ (k : ℕ). slice b at 4 ++ slice b k 5) (sym (r .2))
-              ∙ ap₂ (λ (u v : List ℕ). u ++ v) (four .0 ∙ ap (toBits 4) a) (five .0 ∙ ap (toBits 5) d)
-              ∙ ap (λ (t : Bool). pick t (toBits 4 n) (toBits 4 15 ++ toBits 5 (n - 15))) (sym (le-ltb n 15 long));
-        }
-    go c p1 x p2 r false q h2 g =
-        let c15 = eqb-false c 15 q in
-        let f = give-ok 0 b p1 e o h2 in
-        let four = slice-number b at 4 bin in
-        let a : number (slice b at 4) ≡ n = omega arith in
-        let ne : number (slice b at 4) ≡ 15 → ⊥ = λ z. c15 (omega arith) in
-        let short : n < 15 = omega arith in
-        record {
-          used = 4;
-          ends = omega arith;
-          few = omega arith;
-          bits = four .0 ∙ ap (toBits 4) a ∙ ap (λ (t : Bool). pick t (toBits 4 n) (toBits 4 15 ++ toBits 5 (n - 15))) (sym (lt-ltb n 15 short));
-        }
-
--- ---- the elements
-
-bodies-read : (alternate : ℕ) (es : List (Element alternate)) (b : Bits) (at e o : ℕ) → Holds b at (allBits es) → at + length (allBits es) ≤ e
-    → run (bodies alternate (length es)) b at e o ≡ ok (allBodies es) (at + length (allBits es))
+bodies-write : (alternate : ℕ) (es : List (Element alternate)) → Writes (bodies alternate (length es)) (allBits es) (allBodies es)
 unfolding bodies
-bodies-read alternate [] b at e o holds fits = ok-at (give-is [] b at e o) (omega arith)
-bodies-read alternate (x ∷ xs) b at e o holds fits =
-    let n = length-append (x .bits) (allBits xs) in
-    ok-at (bind-is _ _ b at e o (exact-moves (body alternate) (x .bits) (x .whole) b at e o (holds-left b at (x .bits) (allBits xs) holds) (omega arith))
-    ∙ bind-is _ _ b (at + length (x .bits)) e o
-    (bodies-read alternate xs b (at + length (x .bits)) e o (holds-right b at (x .bits) (allBits xs) holds) (omega arith))
-    ∙ give-is _ b _ e o) (omega arith)
-
-record Elements (alternate n : ℕ) (b : Bits) (at : ℕ) (xs : List Body) (to : ℕ) : Type 0 where
-  es : List (Element alternate)
-  many : length es ≡ n
-  used : ℕ
-  ends : to ≡ at + used
-  bits : slice b at used ≡ allBits es
-  bodies : allBodies es ≡ xs
-
-bodies-of : (alternate n : ℕ) (b : Bits) (at e o : ℕ) {xs : List Body} {to : ℕ} → ((i : ℕ) → b i < 2) → at ≤ e → run (bodies alternate n) b at e o ≡ ok xs to
-    → Elements alternate n b at xs to
-unfolding bodies slice
-bodies-of alternate zero b at e o bin le h =
-    let g = give-ok [] b at e o h in
-    record { es = []; many = refl; used = 0; ends = omega arith; bits = refl; bodies = g .0 }
-bodies-of alternate (suc n) b at e o bin le h =
-    bind-ok _ _ b at e o h λ x p1 h1 h.
-    bind-ok _ _ b p1 e o h λ xs p2 h2 h.
-    let g = give-ok (x ∷ xs) b p2 e o h in
-    let y = piece (body alternate) b at e o h1 le in
-    let z = bodies-of alternate n b p1 e o bin (local (body alternate) b at e o h1 le .fits) h2 in
-    record {
-      es = record { bits = slice b at (y .used); binary = binary-slice b at (y .used) bin; is = x; whole = y .exact } ∷ z .es;
-      many = ap suc (z .many);
-      used = y .used + z .used;
-      ends = omega (arith, y .ends, z .ends);
-      bits = slice-append b at (y .used) (z .used)
-          ∙ ap (λ (l : List ℕ). slice b at (y .used) ++ l) (ap (λ (k : ℕ). slice b k (z .used)) (sym (y .ends)) ∙ z .bits);
-      bodies = ap (λ (l : List Body). x ∷ l) (z .bodies) ∙ g .0;
-    }
-
--- ---- the payload
-
-binary-all : (alternate : ℕ) (es : List (Element alternate)) → Binary (allBits es)
-binary-all alternate [] i = omega arith
-binary-all alternate (x ∷ xs) i = binary-append (x .bits) (allBits xs) (x .binary) (binary-all alternate xs) i
-
-binary-count : (n : ℕ) → Binary (countBits n)
-unfolding countBits
-binary-count n = go (ltb n 15)
-  where
-    go : (t : Bool) → Binary (pick t (toBits 4 n) (toBits 4 15 ++ toBits 5 (n - 15)))
-    go true = binary-toBits 4 n
-    go false = binary-append (toBits 4 15) (toBits 5 (n - 15)) (binary-toBits 4 15) (binary-toBits 5 (n - 15))
-
-binary-payload : (h : Head) (es : List (Element (h .is .alternate))) (padding : List ℕ) → Binary padding → Binary (payloadBits h es padding)
-binary-payload h es padding bin =
-    binary-append (h .bits) _ (h .binary)
-    (binary-append (countBits (length es)) _ (binary-count (length es)) (binary-append (allBits es) padding (binary-all (h .is .alternate) es) bin))
+bodies-write alternate [] = w-give []
+bodies-write alternate (x ∷ xs) =
+    w-bind (w-exact (body alternate) (x .bits) pastPayload (x .binary) (x .whole)) (w-end (bodies-write alternate xs) (w-give _))
 
 -- bits so put together have the outline of the parts
-outline-reads : (h : Head) (es : List (Element (h .is .alternate))) (padding : List ℕ) → length es ≤ mostElements
-    → (b : Bits) (e o : ℕ) → Holds b 0 (payloadBits h es padding) → length (payloadBits h es padding) ≤ e
-    → (to : ℕ) × (run outline-payload b 0 e o ≡ ok (record { header = h .is; elements = allBodies es }) to)
+outline-writes : (h : Head) (es : List (Element (h .is .alternate))) → length es ≤ mostElements
+    → Writes outline-payload (h .bits ++ (countBits (length es) ++ allBits es)) (record { header = h .is; elements = allBodies es })
 unfolding outline-payload
-outline-reads h es padding few b e o holds fits =
-    let head = h .bits in
-    let count = countBits (length es) in
-    let tail : List ℕ = allBits es ++ padding in
-    let rest : List ℕ = count ++ tail in
-    let n1 = length-append head rest in
-    let n2 = length-append count tail in
-    let n3 = length-append (allBits es) padding in
-    let p1 : ℕ = 0 + length head in
-    let p2 : ℕ = p1 + length count in
-    let h1 = holds-right b 0 head rest holds in
-    let h2 = holds-right b p1 count tail h1 in (
-      p2 + length (allBits es),
-      bind-is _ _ b 0 e o (exact-moves header head (h .whole) b 0 e o (holds-left b 0 head rest holds) (omega arith))
-          ∙ bind-is _ _ b p1 e o (count-reads (length es) b p1 e o few (holds-left b p1 count tail h1) (omega arith))
-          ∙ bind-is _ _ b p2 e o (bodies-read (h .is .alternate) es b p2 e o (holds-left b p2 (allBits es) padding h2) (omega arith))
-          ∙ give-is _ b _ e o,
-    )
+outline-writes h es few =
+    w-bind (w-exact header (h .bits) pastPayload (h .binary) (h .whole))
+    (w-bind (count-writes (length es) few) (w-end (bodies-write (h .is .alternate) es) (w-give _)))
+
+-- with the padding behind them
+padded : (a b c d : List ℕ) → (a ++ (b ++ c)) ++ d ≡ a ++ (b ++ (c ++ d))
+padded a b c d = append-assoc a (b ++ c) d ∙ ap (λ (l : List ℕ). a ++ l) (append-assoc b c d)
 
 pub outline-is : (h : Head) (es : List (Element (h .is .alternate))) (padding : List ℕ) → length es ≤ mostElements → Binary padding
     → outline (payloadOf h es padding) ≡ some (record { header = h .is; elements = allBodies es })
 unfolding outline payloadOf
 outline-is h es padding few bin =
-    let l : List ℕ = payloadBits h es padding in
-    ap given (outline-reads h es padding few (bit (toBytes l)) (8 * length (toBytes l)) pastPayload (bytes-hold l (binary-payload h es padding bin)) (bytes-long l) .1)
+    subst (λ (l : List ℕ). given (runs outline-payload (toBytes l) 0) ≡ some (record { header = h .is; elements = allBodies es }))
+    (padded (h .bits) (countBits (length es)) (allBits es) padding) (ap given (from-padded padding (outline-writes h es few) bin))
+
+-- and so has what they were put together into
+pub outline-together : (s : List ℕ) (x : PutTogether s) → outline s ≡ some (record { header = x .head .is; elements = allBodies (x .elements) })
+unfolding outline
+outline-together s x =
+    let b = bit s in
+    let e : ℕ = 8 * length s in
+    let l : List ℕ = x .head .bits ++ (countBits (length (x .elements)) ++ allBits (x .elements)) in
+    let n = length-slice b 0 e in
+    let same : slice b 0 e ≡ l ++ x .padding = x .together ∙ sym (padded (x .head .bits) (countBits (length (x .elements))) (allBits (x .elements)) (x .padding)) in
+    let holds : Holds b 0 (l ++ x .padding) = subst (Holds b 0) same (λ i j. slice-get b 0 e i (omega arith)) in
+    let fits : length l ≤ e = omega (arith, length-append l (x .padding), ap length same) in
+    ap given (outline-writes (x .head) (x .elements) (x .few) .reads b 0 e pastPayload (holds-left b 0 l (x .padding) holds) (omega arith))
+
+pub bodies-append : {alternate : ℕ} (xs ys : List (Element alternate)) → allBodies (xs ++ ys) ≡ allBodies xs ++ allBodies ys
+bodies-append [] ys = refl
+bodies-append (x ∷ xs) ys = ap (λ (l : List Body). x .is ∷ l) (bodies-append xs ys)
+
+-- ---- what is read
+
+-- the bits that a reader took it reads exactly
+piece : {A : Type 0} (p : P A) (b : Bits) (at e o : ℕ) {v : A} {to : ℕ} → run p b at e o ≡ ok v to → at ≤ e → Exactly p (taken b at to) v
+piece p b at e o {v} {to} h le =
+    let x = local p b at e o h le in
+    let n = length-slice b at (x .used) in
+    let used : x .used ≡ to - at = omega (arith, x .ends) in
+    subst (λ (k : ℕ). Exactly p (slice b at k) v) used
+    (ok-at (x .moved (listed (slice b at (x .used))) 0 (length (slice b at (x .used))) pastPayload (slice-at b at (x .used)) (omega arith)) (omega arith))
+
+count-spells : Spells oa-element-count (λ l n. (l ≡ countBits n) × (n ≤ mostElements))
+unfolding oa-element-count countBits
+count-spells =
+    s-bind _ _ _ (s-bits 4 _ λ c a.
+    s-bind _ _ _ (s-if (eqb c 15) 5 _ λ x b b'.
+    s-give _ _ (go c x (eqb c 15) refl a b b')))
+  where
+    go : (c x : ℕ) (t : Bool) → eqb c 15 ≡ t → c < 16 → (t ≡ true → x < 32) → (t ≡ false → 0 ≡ x)
+        → (toBits 4 c ++ (only t (toBits 5 x) ++ []) ≡ pick (ltb (c + x) 15) (toBits 4 (c + x)) (toBits 4 15 ++ toBits 5 (c + x - 15)))
+        × (c + x ≤ mostElements)
+    go c x true q a b b' =
+        let e : c ≡ 15 = eqb-true c 15 q in
+        let l = b refl in
+        let f : 15 + x - 15 ≡ x = omega arith in
+        (rw (e, le-ltb (15 + x) 15 (omega arith), f, append-nil (toBits 5 x)), omega arith)
+    go c x false q a b b' =
+        let n : c ≡ 15 → ⊥ = eqb-false c 15 q in
+        let z : 0 ≡ x = b' refl in
+        let f : c + 0 ≡ c = omega arith in
+        (rw (← z, f, lt-ltb c 15 (omega arith), append-nil (toBits 4 c)), omega arith)
+
+-- n elements, as they were read
+record Elements (alternate n : ℕ) (b : Bits) (at to : ℕ) : Type 0 where
+  es : List (Element alternate)
+  many : length es ≡ n
+  bits : taken b at to ≡ allBits es
+
+bodies-of : (alternate n : ℕ) (b : Bits) (at e o : ℕ) {xs : List Body} {to : ℕ} → ((i : ℕ) → b i < 2) → at ≤ e → run (bodies alternate n) b at e o ≡ ok xs to
+    → Elements alternate n b at to
+unfolding bodies slice
+bodies-of alternate zero b at e o {xs} {to} bin le h =
+    let z : to - at ≡ 0 = omega (arith, give-ok [] b at e o h .1) in
+    record { es = []; many = refl; bits = rw z }
+bodies-of alternate (suc n) b at e o {xs} {to} bin le h =
+    bind-ok _ _ b at e o h λ x p1 h1 h.
+    bind-ok _ _ b p1 e o h λ xs p2 h2 h.
+    let first = local (body alternate) b at e o h1 le in
+    let rest = local (bodies alternate n) b p1 e o h2 (first .fits) in
+    let end = give-ok (x ∷ xs) b p2 e o h .1 in
+    let z = bodies-of alternate n b p1 e o bin (first .fits) h2 in
+    record {
+      es = record { bits = taken b at p1; binary = binary-slice b at (p1 - at) bin; is = x; whole = piece (body alternate) b at e o h1 le } ∷ z .es;
+      many = ap suc (z .many);
+      bits = ap (taken b at) end
+          ∙ sym (ap (λ (l : List ℕ). taken b at p1 ++ l) (sym (z .bits)) ∙ taken-join b at p1 p2 (omega (arith, first .ends)) (omega (arith, rest .ends)));
+    }
 
 -- what has an outline was put together
 pub together-of : (s : List ℕ) {x : Outline} {to : ℕ} → runs outline-payload s 0 ≡ ok x to → PutTogether s
@@ -240,32 +145,27 @@ together-of s {x} {to} h =
     let b = bit s in
     let e : ℕ = 8 * length s in
     let o : ℕ = pastPayload in
-    let bin = binary-bit s in
+    let bin = bit-lt s in
     let start : 0 ≤ e = omega arith in
     bind-ok _ _ b 0 e o h λ hd p1 h1 h.
     bind-ok _ _ b p1 e o h λ n p2 h2 h.
     bind-ok _ _ b p2 e o h λ xs p3 h3 h.
-    let f1 = local header b 0 e o h1 start .fits in
-    let f2 = local oa-element-count b p1 e o h2 f1 .fits in
-    let f3 = local (bodies (hd .alternate) n) b p2 e o h3 f2 .fits in
-    let x1 = piece header b 0 e o h1 start in
-    let x2 = count-of b p1 e o bin h2 in
-    let x3 = bodies-of (hd .alternate) n b p2 e o bin f2 h3 in
-    let left : ℕ = e - p3 in
-    let i1 : 8 * length s ≡ x1 .used + (x2 .used + (x3 .used + left)) = omega (arith, x1 .ends, x2 .ends, x3 .ends) in
-    let i2 : 0 + x1 .used ≡ p1 = sym (x1 .ends) in
-    let i3 : p1 + x2 .used ≡ p2 = sym (x2 .ends) in
-    let i4 : p2 + x3 .used ≡ p3 = sym (x3 .ends) in
+    let l1 = local header b 0 e o h1 start in
+    let l2 = local oa-element-count b p1 e o h2 (l1 .fits) in
+    let l3 = local (bodies (hd .alternate) n) b p2 e o h3 (l2 .fits) in
+    let count = spelled oa-element-count _ count-spells b bin p1 e o (l1 .fits) h2 in
+    let elements = bodies-of (hd .alternate) n b p2 e o bin (l2 .fits) h3 in
+    let j3 = taken-join b p2 p3 e (omega (arith, l3 .ends)) (l3 .fits) in
+    let j2 = taken-join b p1 p2 e (omega (arith, l2 .ends)) (l2 .fits) in
+    let j1 = taken-join b 0 p1 e (omega arith) (l1 .fits) in
+    let whole : e ≡ e - 0 = omega arith in
+    let c : countBits (length (elements .es)) ≡ taken b p1 p2 = ap countBits (elements .many) ∙ sym (count .0) in
     record {
-      head = record { bits = slice b 0 (x1 .used); binary = binary-slice b 0 (x1 .used) bin; is = hd; whole = x1 .exact };
-      elements = x3 .es;
-      few = omega (arith, x2 .few, x3 .many);
-      padding = slice b p3 left;
-      binary = binary-slice b p3 left bin;
-      together = ap (slice b 0) i1 ∙ slice-append b 0 (x1 .used) (x2 .used + (x3 .used + left))
-          ∙ ap (λ (l : List ℕ). slice b 0 (x1 .used) ++ l)
-          (ap (λ (k : ℕ). slice b k (x2 .used + (x3 .used + left))) i2 ∙ slice-append b p1 (x2 .used) (x3 .used + left)
-          ∙ ap₂ (λ (u v : List ℕ). u ++ v) (x2 .bits ∙ ap countBits (sym (x3 .many)))
-          (ap (λ (k : ℕ). slice b k (x3 .used + left)) i3 ∙ slice-append b p2 (x3 .used) left
-          ∙ ap₂ (λ (u v : List ℕ). u ++ v) (x3 .bits) (ap (λ (k : ℕ). slice b k left) i4)));
+      head = record { bits = taken b 0 p1; binary = binary-slice b 0 (p1 - 0) bin; is = hd; whole = piece header b 0 e o h1 start };
+      elements = elements .es;
+      few = omega (arith, count .1, elements .many);
+      padding = taken b p3 e;
+      binary = binary-slice b p3 (e - p3) bin;
+      together = ap (slice b 0) whole ∙ sym (ap (λ (l : List ℕ). taken b 0 p1 ++ l)
+          (ap₂ (λ (u v : List ℕ). u ++ v) c (ap (λ (l : List ℕ). l ++ taken b p3 e) (sym (elements .bits)) ∙ j3) ∙ j2) ∙ j1);
     }

@@ -11,6 +11,7 @@ use lib.ListN.{length, replicate, length-append, length-replicate}
 use Rattle.bits.specs.Language.{ok, Bits, P, give, _>>=_, run, bits, when, each}
 use Rattle.bits.specs.Steps.{value, andThen-ok, bind-ok, give-ok}
 use Rattle.bits.specs.Laws.{each-long, length-from}
+use Rattle.bits.specs.Ensures.{Every}
 use Rattle.oamd.specs.declared.Block.{Block}
 use Rattle.oamd.specs.declared.Kind.{Kind}
 use Rattle.oamd.specs.declared.Kind.the-variants.{Unknown, Object, Trim, Extended}
@@ -37,19 +38,14 @@ use Rattle.demands.specs.Lemmas.Elements.{by-kind, fields-of}
 
 -- ---- lists that a loop gives
 
--- Q holds of every entry
-abbrev pub All : {A : Type 0} → (A → Type 0) → List A → Type 0
-All Q [] = Unit {0}
-All Q (x ∷ xs) = Q x × All Q xs
-
 each-all : {X A : Type 0} (f : X → P A) (Q : A → Type 0) → ((x : X) (b : Bits) (at e o : ℕ) (v : A) (to : ℕ) → run (f x) b at e o ≡ ok v to → Q v)
-    → (xs : List X) (b : Bits) (at e o : ℕ) {v : List A} {to : ℕ} → run (each f xs) b at e o ≡ ok v to → All Q v
+    → (xs : List X) (b : Bits) (at e o : ℕ) {v : List A} {to : ℕ} → run (each f xs) b at e o ≡ ok v to → Every Q v
 unfolding each
-each-all f Q one [] b at e o {v} h = subst (All Q) (give-ok [] b at e o h .0) tt
+each-all f Q one [] b at e o {v} h = subst (Every Q) (give-ok [] b at e o h .0) tt
 each-all f Q one (x ∷ xs) b at e o {v} h =
     bind-ok (f x) (λ a. each f xs >>= λ rest. give (a ∷ rest)) b at e o h λ a mid r s.
     bind-ok (each f xs) (λ rest. give (a ∷ rest)) b mid e o s λ rest mid' t u.
-    subst (All Q) (give-ok (a ∷ rest) b mid' e o u .0) (one x b at e o a mid r, each-all f Q one xs b mid e o t)
+    subst (Every Q) (give-ok (a ∷ rest) b mid' e o u .0) (one x b at e o a mid r, each-all f Q one xs b mid e o t)
 
 -- n entries, read or blank
 when-long : {X A : Type 0} (t : Bool) (f : X → P A) (blank : A) (xs : List X) (n : ℕ) (b : Bits) (at e o : ℕ) {v : List A} {to : ℕ} → length xs ≡ n
@@ -64,7 +60,7 @@ unfolding scenesFrom
 length-scenes before above [] = refl
 length-scenes before above (b ∷ bs) = ap suc (length-scenes (resolve before (firstGain above) b) (behindFirst above) bs)
 
-length-all : (k : ℕ) (above : List Scene) (os : List (List Block)) → All (λ o. length o ≡ k) os → length (allScenes above os) ≡ length os * k
+length-all : (k : ℕ) (above : List Scene) (os : List (List Block)) → Every (λ o. length o ≡ k) os → length (allScenes above os) ≡ length os * k
 unfolding allScenes scenesOf
 length-all k above [] h = sym (zero-mul k)
 length-all k above (o ∷ os) h =

@@ -7,8 +7,9 @@ use Prim.Native.Nat.{ℕ, zero, suc, _+_, _-_, _*_, _≤_}
 use native.Mathlib.Omega.{arith}
 use lib.ListN.{length}
 use Rattle.bits.specs.Language.{Res, ok, no, pick, Bits, slice, andThen, run, bit, pastPayload, pastDeclared}
-use Rattle.bits.specs.Steps.{value, next, andThen-ok, ok-at, bind-ok, give-ok, give-is, bind-is, field-is, listed, slice-at, length-slice}
+use Rattle.bits.specs.Steps.{value, next, andThen-ok, ok-at, bind-ok, give-ok, give-is, bind-is, field-is, slice-at, length-slice}
 use Rattle.bits.specs.Laws.{local}
+use Rattle.bits.specs.Writes.{listed}
 use Rattle.oamd.specs.declared.Kind.{Kind}
 use Rattle.oamd.specs.declared.Kind.the-variants.{Unknown}
 use Rattle.oamd.specs.declared.Programme.{Programme}
@@ -298,16 +299,7 @@ taken-some (some z) h = (z, refl, cc)
 
 -- ---- unknown elements among others
 
-pub known-append : (xs ys : List Body) → known (xs ++ ys) ≡ known xs ++ known ys
+pub known-without : (before behind : List Body) (u : Body) → u .kind ≡ Unknown → known (before ++ (u ∷ behind)) ≡ known (before ++ behind)
 unfolding known
-known-append [] ys = refl
-known-append (x ∷ xs) ys = go (isKnown (x .kind)) (known-append xs ys)
-  where
-    go : (t : Bool) → known (xs ++ ys) ≡ known xs ++ known ys
-        → pick t (x ∷ known (xs ++ ys)) (known (xs ++ ys)) ≡ pick t (x ∷ known xs) (known xs) ++ known ys
-    go true h = ap (λ (l : List Body). x ∷ l) h
-    go false h = h
-
-pub known-but : (x : Body) (xs : List Body) → x .kind ≡ Unknown → known (x ∷ xs) ≡ known xs
-unfolding known
-known-but x xs h = ap (λ (k : Kind). pick (isKnown k) (x ∷ known xs) (known xs)) h
+known-without [] behind u h = ap (λ (k : Kind). pick (isKnown k) (u ∷ known behind) (known behind)) h
+known-without (x ∷ xs) behind u h = ap (λ (l : List Body). pick (isKnown (x .kind)) (x ∷ l) l) (known-without xs behind u h)

@@ -9,7 +9,7 @@ use lib.Dec.{leb, eqb}
 use borrow.Author.Tests.{eqb-true, eq-eqb, le-leb, not-false}
 use Rattle.bits.specs.Language.{pick, both, from}
 use Rattle.bits.specs.Laws.{length-from}
-use Rattle.bits.specs.Ensures.{Ensures, All, e-give, e-bits, e-bind, e-any, e-then, e-pass, e-if, e-each}
+use Rattle.bits.specs.Ensures.{Ensures, All, Every, e-give, e-bits, e-bind, e-any, e-then, e-pass, e-if, e-each}
 use Rattle.oamd.specs.declared.Programme.{Programme}
 use Rattle.oamd.specs.Tables.{mostObjects, mostBeds}
 use Rattle.oamd.specs.Programme.{set?, clear?, hasBeds, hasIsf, hasDynamic, hasReserved, bedInstances, bedOf, bed-assignment, filled, noBed, Beds, bed-instances, intermediate-spatial-format, num-dynamic-objects, program-assignment, agrees}
@@ -18,7 +18,6 @@ use Rattle.oamd.specs.Payload.{oa-md-version, object-count, header}
 use Rattle.written.specs.Valid.{_and_, ranged, bedValid, entriesValid, programmeValid}
 use Rattle.written.specs.Lemmas.Facts.{whole, by-test, in-range, is-ranged}
 use Rattle.written.specs.Lemmas.Unreserved.{under, e-unreserved}
-use Rattle.written.specs.Lemmas.Entries.{Every}
 use Rattle.written.specs.Lemmas.ProgrammeBack.{instances-le}
 
 -- a field as it was read: in its range where it is carried, else 0

@@ -1,13 +1,16 @@
 -- 5.5.13 to 5.5.15: what an accepted extended object element carries is valid, and so are the records.
 use mathlib.Core.Path.{_≡_, refl, ap}
 use mathlib.Core.Bool.{Bool, true, false, false≢true}
-use mathlib.Core.List.{List, [], _∷_}
+use mathlib.Core.List.{List, [], _∷_, append-nil}
 use Prim.Native.Nat.{ℕ, suc, _+_, _<_}
 use native.Mathlib.Omega.{arith}
 use lib.ListN.{length, replicate}
 use lib.Dec.{eqb}
+use borrow.Author.Tests.{eqb-true}
 use Rattle.bits.specs.Language.{both, each}
-use Rattle.bits.specs.Ensures.{Ensures, All, e-give, e-bind, e-any, e-then, e-when, e-if, e-each}
+use Rattle.bits.specs.Writes.{toBits, only, Spells}
+use Rattle.bits.specs.Spells.{s-give, s-bind, s-if}
+use Rattle.bits.specs.Ensures.{Ensures, All, e-spells, e-give, e-bind, e-any, e-then, e-when, e-if, e-each}
 use Rattle.oamd.specs.declared.Shares.{Shares}
 use Rattle.oamd.specs.declared.Scene.{Scene}
 use Rattle.oamd.specs.declared.Divergence.{Divergence}
@@ -16,9 +19,10 @@ use Rattle.oamd.specs.Programme.{set?}
 use Rattle.oamd.specs.Reserved.{ObjectDivMode, ObjectDivCode}
 use Rattle.oamd.specs.Extended.{obj-div-block, ext-prec-pos-block, hasX, hasY, hasZ, noDivergence, noPrecise, Extension, extended-object-element}
 use Rattle.oamd.specs.Record.{Record, carries, allCarry, plainRecords, extendedRecords}
-use Rattle.written.specs.Valid.{_and_, ranged, leastDivergence, mostDivergence, divergenceValid, preciseValid, recordValid, firstBad}
+use Rattle.written.specs.Valid.{ranged, leastDivergence, mostDivergence, divergenceValid, preciseValid, recordValid, firstBad}
+use Rattle.written.specs.Form.{divergenceBits}
 use Rattle.written.specs.Lemmas.Facts.{whole, by-test, by-eq, is-ranged}
-use Rattle.written.specs.Lemmas.Unreserved.{Free, under, over, e-unreserved}
+use Rattle.written.specs.Lemmas.Unreserved.{Free, under, over, s-unreserved}
 use Rattle.written.specs.Lemmas.ObjectsBack.{ValidFrom}
 use Rattle.written.specs.Lemmas.AcceptedProgramme.{read-ranged, always}
 use Rattle.written.specs.Lemmas.AcceptedScenes.{ScenesValid}
@@ -54,16 +58,37 @@ value-read false mode table code m m' t t' c c' =
     let b : 0 ≡ code = c' (rw (← e) refl) in
     is-ranged false _ _ 0 (table + code) (λ q. absurd (false≢true q)) (λ q. absurd (false≢true q)) (λ q. omega arith)
 
-divergence-ensures : (sent : Bool) → Ensures (obj-div-block sent) (λ d. divergenceValid sent d ≡ true)
-unfolding obj-div-block divergenceValid
-divergence-ensures sent =
-    e-bind _ _ _ (e-if sent 1 _ λ used u u'.
-    e-bind _ _ _ (e-unreserved (set? used) ObjectDivMode _ λ mode m m'.
-    e-bind _ _ _ (e-if (both (set? used) (eqb mode 0)) 2 _ λ table t t'.
-    e-bind _ _ _ (e-unreserved (eqb mode 2) ObjectDivCode _ λ code c c'.
+-- a divergence is valid, and leaves no choice of its bits
+pub divergence-spells : (sent : Bool) → Spells (obj-div-block sent) (λ l d. (divergenceBits sent d ≡ l) × (divergenceValid sent d ≡ true))
+unfolding obj-div-block divergenceValid divergenceBits
+divergence-spells sent =
+    s-bind _ _ _ (s-if sent 1 _ λ used u u'.
+    s-bind _ _ _ (s-unreserved (set? used) ObjectDivMode _ λ mode m m'.
+    s-bind _ _ _ (s-if (both (set? used) (eqb mode 0)) 2 _ λ table t t'.
+    s-bind _ _ _ (s-unreserved (eqb mode 2) ObjectDivCode _ λ code c c'.
     let n : set? used ≡ true → mode < 3 = λ q. under ObjectDivMode mode (omega arith) (m q) in
-    e-give _ _ (whole _ _ (read-ranged sent 1 used u u') (whole _ _ (read-ranged (set? used) 2 mode n m')
-    (value-read (set? used) mode table code n m' t t' c c')))))))
+    let a : only (both (set? used) (eqb mode 0)) (toBits 2 (table + code)) ≡ only (both (set? used) (eqb mode 0)) (toBits 2 table) =
+    by-test (eqb mode 0)
+    (λ q. let e : mode ≡ 0 = eqb-true mode 0 q in let y : 0 ≡ code = c' (rw e refl) in let s : table + code ≡ table = omega arith in rw s refl)
+    (λ q. rw q (off (set? used) _ _)) in
+    let b : only (eqb mode 2) (toBits 6 (table + code)) ≡ only (eqb mode 2) (toBits 6 code) =
+    by-test (eqb mode 2)
+    (λ q. let e : mode ≡ 2 = eqb-true mode 2 q in let y : 0 ≡ table = t'
+    (rw e (none (set? used))) in let s : table + code ≡ code = omega arith in rw s refl)
+    (λ q. rw q refl) in
+    s-give _ _ (
+      rw (append-nil (only (eqb mode 2) (toBits 6 code)), a, b) refl,
+      whole _ _ (read-ranged sent 1 used u u') (whole _ _ (read-ranged (set? used) 2 mode n m')
+          (value-read (set? used) mode table code n m' t t' c c')),
+    )))))
+  where
+    off : (t : Bool) (l m : List ℕ) → only (both t false) l ≡ only (both t false) m
+    off true l m = refl
+    off false l m = refl
+
+    none : (t : Bool) → both t false ≡ false
+    none true = refl
+    none false = refl
 
 precise-ensures : (sent : Bool) → Ensures (ext-prec-pos-block sent) (λ p. preciseValid sent p ≡ true)
 unfolding ext-prec-pos-block preciseValid
@@ -102,7 +127,7 @@ unfolding extended-object-element
 extension-ensures sent =
     e-bind _ _ _ (e-any _ _ λ b.
     e-bind _ _ _ (e-then _ (All (λ c d. divergenceValid c d ≡ true) sent) _ (e-when (set? b) (each obj-div-block sent) _ _
-    (λ q. e-each obj-div-block (λ c d. divergenceValid c d ≡ true) divergence-ensures sent)
+    (λ q. e-each obj-div-block (λ c d. divergenceValid c d ≡ true) (λ c. e-spells _ _ _ (divergence-spells c) λ l d h. h .1) sent)
     (λ q. none-carried divergenceValid noDivergence no-divergence-valid sent)) λ ds d.
     e-bind _ _ _ (e-any _ _ λ c.
     e-bind _ _ _ (e-then _ (All (λ c p. preciseValid c p ≡ true) sent) _ (e-when (set? c) (each ext-prec-pos-block sent) _ _

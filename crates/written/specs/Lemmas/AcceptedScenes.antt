@@ -1,8 +1,8 @@
 -- 5.6.1: what the blocks of an accepted payload mean, block by block and object by object, is valid.
 use mathlib.Core.Path.{_≡_, refl, sym, ap, _∙_}
-use mathlib.Core.Bool.{Bool, true, false, not}
+use mathlib.Core.Bool.{Bool, true, false}
 use mathlib.Core.List.{List, [], _∷_, _++_}
-use Prim.Native.Nat.{ℕ, zero, suc, _+_, _-_, _*_, _/_, _≤_, _<_}
+use Prim.Native.Nat.{ℕ, zero, suc, _+_, _-_, _*_, _≤_, _<_}
 use native.Mathlib.Omega.{arith}
 use native.Mathlib.Nat.{suc-mul, zero-mul}
 use lib.Arith.{digits-div}
@@ -10,7 +10,7 @@ use lib.ListN.{length, length-append}
 use lib.Dec.{ltb, eqb}
 use borrow.Author.Tests.{eq-eqb, ltb-true, ltb-false}
 use Rattle.bits.specs.Language.{from}
-use Rattle.bits.specs.Ensures.{All}
+use Rattle.bits.specs.Ensures.{All, Every}
 use Rattle.oamd.specs.declared.Status.{Status}
 use Rattle.oamd.specs.declared.Status.the-variants.{Default, Full, Reuse, Mixed}
 use Rattle.oamd.specs.declared.Position.{Position}
@@ -28,7 +28,7 @@ use Rattle.oamd.specs.Meaning.{valueOf, gainOf, priorityOf, clamp, movedBy, acr
 use Rattle.oamd.specs.Record.{carries}
 use Rattle.written.specs.Valid.{_and_, ranged, placeValid, volumeValid, zoneValid, screenValid, sceneValid}
 use Rattle.written.specs.Lemmas.Facts.{whole, by-test, is-ranged}
-use Rattle.written.specs.Lemmas.Entries.{Every}
+use Rattle.written.specs.Lemmas.Entries.{ByClass}
 use Rattle.written.specs.Lemmas.AcceptedProgramme.{always}
 use Rattle.written.specs.Lemmas.AcceptedTiming.{picked-le}
 use Rattle.written.specs.Lemmas.AcceptedBlock.{BlockRead}
@@ -188,8 +188,7 @@ object-sound class before above (b ∷ bs) w a h =
 
 -- each scene is valid by the class of its object, the indices counting from i
 abbrev pub ScenesValid : Shares → ℕ → ℕ → List Scene → Type 0
-ScenesValid s blocks i [] = Unit {0}
-ScenesValid s blocks i (x ∷ xs) = (sceneValid (classOf s (i / blocks)) x ≡ true) × ScenesValid s blocks (suc i) xs
+ScenesValid s blocks i xs = ByClass sceneValid s blocks i xs
 
 -- the blocks of an object, as they were read
 pub record ObjectRead (s : Shares) (blocks j : ℕ) (o : List Block) : Type 0 where

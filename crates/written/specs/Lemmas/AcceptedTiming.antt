@@ -9,7 +9,7 @@ use lib.Dec.{leb, eqb}
 use borrow.Author.Tests.{leb-true, eq-eqb}
 use Rattle.bits.specs.Language.{pick, both, from}
 use Rattle.bits.specs.Laws.{length-from}
-use Rattle.bits.specs.Ensures.{Ensures, e-give, e-bits, e-bind, e-any, e-then, e-if, e-each}
+use Rattle.bits.specs.Ensures.{Ensures, Every, e-give, e-bits, e-bind, e-any, e-then, e-if, e-each}
 use Rattle.oamd.specs.declared.Offset.{Offset}
 use Rattle.oamd.specs.declared.BlockUpdate.{BlockUpdate}
 use Rattle.oamd.specs.declared.Update.{Update}
@@ -18,7 +18,6 @@ use Rattle.oamd.specs.Programme.{set?, clear?, filled}
 use Rattle.oamd.specs.Timing.{sample-offset, block-update-info, MdUpdateInfo, md-update-info, offsetOf, rampOf, startOf, updateOf, noUpdate, timingOf}
 use Rattle.written.specs.Valid.{_and_, ranged, entriesValid, sampleOffset, updateValid, timingValid}
 use Rattle.written.specs.Lemmas.Facts.{halves, whole, by-test}
-use Rattle.written.specs.Lemmas.Entries.{Every}
 use Rattle.written.specs.Lemmas.AcceptedProgramme.{always, all-every, entries-make}
 
 -- ---- what is read

@@ -10,14 +10,17 @@ use borrow.Author.Tests.{eq-eqb}
 use Rattle.bits.specs.Language.{pick, both, between, P, bits, when, from, for}
 use Rattle.bits.specs.Steps.{free-above}
 use Rattle.bits.specs.Laws.{length-from}
-use Rattle.bits.specs.Ensures.{Ensures, e-give, e-bits, e-bind, e-any, e-then, e-when, e-if, e-each}
+use Rattle.bits.specs.Writes.{toBits, only, Spells}
+use Rattle.bits.specs.Spells.{s-give, s-bind, s-bits, s-if}
+use Rattle.bits.specs.Ensures.{Ensures, e-spells, e-give, e-bits, e-bind, e-any, e-then, e-when, e-each}
 use Rattle.oamd.specs.Tables.{trimConfigs}
 use Rattle.oamd.specs.Programme.{set?, clear?}
 use Rattle.oamd.specs.Reserved.{WarpMode, GlobalTrimMode, TrimSurround, TrimHeight}
 use Rattle.oamd.specs.Trim.{hasCentre, hasSurround, hasHeight, hasTb, hasLis, trim-config, noConfig, trim-element, noTrim}
 use Rattle.written.specs.Valid.{ranged, entriesValid, configValid, trimValid}
+use Rattle.written.specs.Form.{configBits}
 use Rattle.written.specs.Lemmas.Facts.{whole, is-ranged}
-use Rattle.written.specs.Lemmas.Unreserved.{under, e-unreserved}
+use Rattle.written.specs.Lemmas.Unreserved.{under, e-unreserved, s-unreserved}
 use Rattle.written.specs.Lemmas.AcceptedProgramme.{read-ranged, always, all-every, entries-make}
 
 -- ---- a configuration
@@ -26,28 +29,32 @@ use Rattle.written.specs.Lemmas.AcceptedProgramme.{read-ranged, always, 
 code-ranged : (sent : Bool) (v : ℕ) → (sent ≡ true → (v < 16) × (between 0 3 v ≡ false)) → (sent ≡ false → 0 ≡ v) → ranged sent 4 15 0 v ≡ true
 code-ranged sent v f g = is-ranged sent 4 15 0 v (λ q. free-above 0 3 v (f q .1) (omega arith)) (λ q. let x = f q .0 in omega arith) (λ q. sym (g q))
 
-config-ensures : Ensures trim-config (λ c. configValid true c ≡ true)
-unfolding trim-config configValid
-config-ensures =
-    e-bind _ _ _ (e-bits 1 _ λ bydefault a.
-    e-bind _ _ _ (e-if (clear? bydefault) 1 _ λ disabled b b'.
-    e-bind _ _ _ (e-if (both (clear? bydefault) (clear? disabled)) 5 _ λ presence c c'.
-    e-bind _ _ _ (e-if (hasCentre presence) 4 _ λ centre d d'.
-    e-bind _ _ _ (e-unreserved (hasSurround presence) TrimSurround _ λ surround e e'.
-    e-bind _ _ _ (e-unreserved (hasHeight presence) TrimHeight _ λ height f f'.
-    e-bind _ _ _ (e-if (hasTb presence) 1 _ λ tbsign g g'.
-    e-bind _ _ _ (e-if (hasTb presence) 4 _ λ tbamount h h'.
-    e-bind _ _ _ (e-if (hasLis presence) 1 _ λ lissign i i'.
-    e-bind _ _ _ (e-if (hasLis presence) 4 _ λ lisamount j j'.
-    e-give _ _ (whole _ _ (always 0 1 0 bydefault (omega arith) (omega arith))
-    (whole _ _ (read-ranged (clear? bydefault) 1 disabled b b')
-    (whole _ _ (read-ranged (both (clear? bydefault) (clear? disabled)) 31 presence c c')
-    (whole _ _ (read-ranged (hasCentre presence) 15 centre d d')
-    (whole _ _ (code-ranged (hasSurround presence) surround e e')
-    (whole _ _ (code-ranged (hasHeight presence) height f f')
-    (whole _ _ (read-ranged (hasTb presence) 1 tbsign g g')
-    (whole _ _ (read-ranged (hasTb presence) 15 tbamount h h')
-    (whole _ _ (read-ranged (hasLis presence) 1 lissign i i') (read-ranged (hasLis presence) 15 lisamount j j'))))))))))))))))))))
+-- it is valid, and leaves no choice of its bits
+pub config-spells : Spells trim-config (λ l c. (configBits c ≡ l) × (configValid true c ≡ true))
+unfolding trim-config configValid configBits
+config-spells =
+    s-bind _ _ _ (s-bits 1 _ λ bydefault a.
+    s-bind _ _ _ (s-if (clear? bydefault) 1 _ λ disabled b b'.
+    s-bind _ _ _ (s-if (both (clear? bydefault) (clear? disabled)) 5 _ λ presence c c'.
+    s-bind _ _ _ (s-if (hasCentre presence) 4 _ λ centre d d'.
+    s-bind _ _ _ (s-unreserved (hasSurround presence) TrimSurround _ λ surround e e'.
+    s-bind _ _ _ (s-unreserved (hasHeight presence) TrimHeight _ λ height f f'.
+    s-bind _ _ _ (s-if (hasTb presence) 1 _ λ tbsign g g'.
+    s-bind _ _ _ (s-if (hasTb presence) 4 _ λ tbamount h h'.
+    s-bind _ _ _ (s-if (hasLis presence) 1 _ λ lissign i i'.
+    s-bind _ _ _ (s-if (hasLis presence) 4 _ λ lisamount j j'.
+    s-give _ _ (
+      rw (append-nil (only (hasLis presence) (toBits 4 lisamount))) refl,
+      whole _ _ (always 0 1 0 bydefault (omega arith) (omega arith))
+          (whole _ _ (read-ranged (clear? bydefault) 1 disabled b b')
+          (whole _ _ (read-ranged (both (clear? bydefault) (clear? disabled)) 31 presence c c')
+          (whole _ _ (read-ranged (hasCentre presence) 15 centre d d')
+          (whole _ _ (code-ranged (hasSurround presence) surround e e')
+          (whole _ _ (code-ranged (hasHeight presence) height f f')
+          (whole _ _ (read-ranged (hasTb presence) 1 tbsign g g')
+          (whole _ _ (read-ranged (hasTb presence) 15 tbamount h h')
+          (whole _ _ (read-ranged (hasLis presence) 1 lissign i i') (read-ranged (hasLis presence) 15 lisamount j j'))))))))),
+    )))))))))))
 
 no-config-valid : configValid false noConfig ≡ true
 unfolding configValid ranged
@@ -86,7 +93,7 @@ trim-ensures objects =
     e-bind _ _ _ (e-unreserved true WarpMode _ λ warp w w'.
     e-bind _ _ _ (e-any _ _ λ reserved.
     e-bind _ _ _ (e-unreserved true GlobalTrimMode _ λ mode m m'.
-    e-bind _ _ _ (e-then _ _ _ (array-ensures configValid noConfig trim-config config-ensures no-config-valid (eqb mode 2) trimConfigs) λ configs c.
+    e-bind _ _ _ (e-then _ _ _ (array-ensures configValid noConfig trim-config (e-spells _ _ _ config-spells λ l c h. h .1) no-config-valid (eqb mode 2) trimConfigs) λ configs c.
     e-bind _ _ _ (e-bits 1 _ λ flag f.
     e-bind _ _ _ (e-then _ _ _ (array-ensures (λ used x. ranged used 0 1 0 x) 0 (bits 1)
     (e-bits 1 _ λ x l. always 0 1 0 x (omega arith) (omega arith)) flag-off (set? flag) objects) λ flags d.

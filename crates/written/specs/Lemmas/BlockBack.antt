@@ -7,7 +7,8 @@ use native.Mathlib.Omega.{arith}
 use lib.Dec.{eqb}
 use borrow.Author.Tests.{eqb-true}
 use Rattle.bits.specs.Language.{pick}
-use Rattle.bits.specs.Writes.{toBits, only, Writes, w-give, w-bits, w-bind, w-end}
+use Rattle.bits.specs.Writes.{toBits, only}
+use Rattle.bits.specs.Back.{Writes, w-give, w-bits, w-bind, w-end}
 use Rattle.oamd.specs.declared.Status.{Status}
 use Rattle.oamd.specs.declared.Status.the-variants.{Default, Full}
 use Rattle.oamd.specs.declared.Position.the-variants.{Absolute}
@@ -18,7 +19,7 @@ use Rattle.oamd.specs.Programme.{set?, dynamicClass}
 use Rattle.oamd.specs.Block.{status-idx, object-basic-info, nowhere, position, distance, zone, extent, screen, object-render-info, additional-table-data, object-info-block}
 use Rattle.oamd.specs.Meaning.{placeOf, defaultPlace, defaultVolume, defaultZone, defaultScreen, resolve}
 use Rattle.oamd.specs.Record.{carries}
-use Rattle.written.specs.Valid.{_and_, ranged, placeValid, volumeValid, zoneValid, screenValid, sceneValid}
+use Rattle.written.specs.Valid.{ranged, placeValid, volumeValid, zoneValid, screenValid, sceneValid}
 use Rattle.written.specs.Coded.{codedGain, codedPriority, zSign, zBits, codedDistance, codedExtent}
 use Rattle.written.specs.Form.{statusBits, positionBits, basicBits, renderBits, blockBits}
 use Rattle.written.specs.Lemmas.Facts.{halves, by-test, by-flag, Ranged, in-range}

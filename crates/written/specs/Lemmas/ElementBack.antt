@@ -9,7 +9,9 @@ use Rattle.bits.specs.declared.Size.{Size}
 use Rattle.bits.specs.Language.{P}
 use Rattle.bits.specs.Steps.{by-order}
 use Rattle.bits.specs.Size.{sizeOf, sizeFrom, variable-bits-max}
-use Rattle.bits.specs.Writes.{toBits, length-toBits, Writes, w-give, w-bits, w-bind, w-end, w-list, w-within}
+use Rattle.bits.specs.Writes.{toBits}
+use Rattle.bits.specs.Lists.{length-toBits}
+use Rattle.bits.specs.Back.{Writes, w-give, w-bits, w-bind, w-end, w-list, w-within}
 use Rattle.oamd.specs.declared.Kind.{Kind}
 use Rattle.oamd.specs.Element.{kind, framed}
 use Rattle.written.specs.Form.{groupBits, sizeBits, sizeFor, framedBits, elementBits}

@@ -2,20 +2,23 @@
 use mathlib.Core.Path.{_≡_, refl, sym, ap, ap₂}
 use mathlib.Core.Bool.{Bool, true, false}
 use mathlib.Core.List.{List, [], _∷_, _++_}
-use Prim.Native.Nat.{ℕ, zero, suc, _-_, _≤_}
+use Prim.Native.Nat.{ℕ, zero, suc, _-_, _/_, _≤_}
 use native.Mathlib.Omega.{arith}
 use lib.ListN.{length, replicate, take}
 use lib.Dec.{leb}
 use borrow.Author.Tests.{le-leb}
 use Rattle.bits.specs.Language.{from}
-use Rattle.bits.specs.Writes.{Along}
-use Rattle.written.specs.Valid.{_and_, entriesValid}
+use Rattle.bits.specs.Back.{Along}
+use Rattle.bits.specs.Ensures.{Every}
+use Rattle.oamd.specs.declared.Shares.{Shares}
+use Rattle.oamd.specs.Programme.{classOf}
+use Rattle.written.specs.Valid.{entriesValid}
 use Rattle.written.specs.Lemmas.Facts.{halves}
 
--- each entry passes
-abbrev pub Every : {A : Type 0} → (A → Type 0) → List A → Type 0
-Every Q [] = Unit {0}
-Every Q (a ∷ rest) = Q a × Every Q rest
+-- each entry passes by the class of its object, the indices counting from i
+abbrev pub ByClass : {A : Type 0} → (ℕ → A → Bool) → Shares → ℕ → ℕ → List A → Type 0
+ByClass valid s blocks i [] = Unit {0}
+ByClass valid s blocks i (x ∷ xs) = (valid (classOf s (i / blocks)) x ≡ true) × ByClass valid s blocks (suc i) xs
 
 module _ {A : Type 0} (valid : Bool → A → Bool) where
   -- the first n are valid as used ones

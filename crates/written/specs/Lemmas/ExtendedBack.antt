@@ -10,7 +10,9 @@ use lib.Dec.{ltb, eqb}
 use borrow.Author.Tests.{eqb-false, ltb-false}
 use Rattle.bits.specs.Language.{pick, both, P, when, bitsIf}
 use Rattle.bits.specs.Steps.{above-free}
-use Rattle.bits.specs.Writes.{toBits, only, Along, Writes, w-give, w-bits, w-bind, w-end, w-is, w-if, w-when, w-each}
+use Rattle.bits.specs.Writes.{toBits, only}
+use Rattle.bits.specs.Back.{Along, Writes, w-give, w-bits, w-bind, w-end, w-is, w-if, w-when, w-each}
+use Rattle.bits.specs.Ensures.{Every}
 use Rattle.oamd.specs.declared.Shares.{Shares}
 use Rattle.oamd.specs.declared.Divergence.{Divergence}
 use Rattle.oamd.specs.declared.Precise.{Precise}
@@ -23,7 +25,6 @@ use Rattle.written.specs.Coded.{asFlag}
 use Rattle.written.specs.Form.{divergenceBits, preciseBits, any, diverges, refines, hasExtended, extendedElementBits}
 use Rattle.written.specs.Lemmas.Facts.{halves, by-test, by-flag, by-eq, Ranged, in-range, w-ranged, w-picked}
 use Rattle.written.specs.Lemmas.Unreserved.{w-unreserved, w-within}
-use Rattle.written.specs.Lemmas.Entries.{Every}
 use Rattle.written.specs.Lemmas.ObjectsBack.{ValidFrom}
 
 -- ---- divergence

@@ -1,13 +1,14 @@
 -- What the tests of valid tables say, as facts.
 use mathlib.Core.Path.{_≡_, refl, sym}
-use mathlib.Core.Bool.{Bool, true, false, not, false≢true}
+use mathlib.Core.Bool.{Bool, true, false, false≢true}
 use Prim.Native.Nat.{ℕ, zero, suc, _^_, _≤_, _<_}
 use native.Mathlib.Omega.{arith}
 use lib.Dec.{leb}
 use borrow.Author.Tests.{leb-true, eqb-true, le-leb, eq-eqb}
-use Rattle.bits.specs.Language.{pick, both, bitsIf}
+use Rattle.bits.specs.Language.{pick, bitsIf}
 use Rattle.bits.specs.Steps.{by-order}
-use Rattle.bits.specs.Writes.{toBits, only, Writes, w-give, w-bits, w-if}
+use Rattle.bits.specs.Writes.{toBits, only}
+use Rattle.bits.specs.Back.{Writes, w-give, w-bits, w-if}
 use Rattle.written.specs.Valid.{_and_, ranged}
 
 -- both halves of a test, and both together

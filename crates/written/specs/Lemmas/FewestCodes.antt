@@ -4,12 +4,11 @@ use mathlib.Core.Bool.{Bool, true, false, not, false≢true}
 use mathlib.Core.List.{_++_}
 use Prim.Native.Nat.{ℕ, suc, _+_, _*_, _/_, _≤_, _<_}
 use native.Mathlib.Omega.{arith}
-use lib.ListN.{length}
 use lib.Dec.{eqb}
 use borrow.Author.Tests.{ne-eqb, eq-eqb}
 use Rattle.bits.specs.Language.{pick, number}
-use Rattle.bits.specs.Writes.{toBits, only}
-use Rattle.bits.specs.First.{First, first?, first-of, first-same, first-append, first-cancel}
+use Rattle.bits.specs.Writes.{toBits, First}
+use Rattle.bits.specs.First.{first?, first-of, first-same, first-append, first-cancel}
 use Rattle.oamd.specs.declared.Offset.{Offset}
 use Rattle.oamd.specs.declared.BlockUpdate.{BlockUpdate}
 use Rattle.oamd.specs.declared.Gain.{Gain}

@@ -8,7 +8,9 @@ use native.Mathlib.Nat.{mul-suc, mul-add}
 use lib.ListN.{length, take, drop, replicate, length-append, length-replicate, take-append-drop}
 use lib.Dec.{leb, ltb, eqb}
 use Rattle.bits.specs.Language.{both}
-use Rattle.bits.specs.Writes.{toBits, only, eachBits, length-toBits}
+use Rattle.bits.specs.Writes.{toBits, only, eachBits}
+use Rattle.bits.specs.Lists.{length-toBits}
+use Rattle.bits.specs.Ensures.{Every}
 use Rattle.oamd.specs.declared.Programme.{Programme}
 use Rattle.oamd.specs.declared.Bed.{Bed}
 use Rattle.oamd.specs.declared.Offset.{Offset}
@@ -29,7 +31,6 @@ use Rattle.oamd.specs.Record.{Record, carries}
 use Rattle.oamd.specs.Payload.{Tables}
 use Rattle.written.specs.Coded.{codedUpdate, codedGain, codedPriority, codedDistance, codedExtent}
 use Rattle.written.specs.Form.{countBits, bedBits, bedsBits, assignmentBits, headerBits, offsetBits, updateBits, timingBits, statusBits, gainBits, priorityBits, positionBits, distanceBits, zoneBits, extentBits, screenBits, basicBits, renderBits, blockBits, byObject, objectDataBits, objectElementBits, any, diverges, refines, extendedElementBits, divergenceBits, preciseBits, configBits, trimElementBits, groupBits, sizeBits, sizeFor, framedBits, elementBits}
-use Rattle.written.specs.Lemmas.Entries.{Every}
 
 -- l has at most n bits
 pub record Short (l : List ℕ) (n : ℕ) : Type 0 where

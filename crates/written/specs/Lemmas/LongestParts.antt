@@ -9,7 +9,8 @@ use lib.ListN.{length, take, drop, replicate, length-append, length-take, length
 use lib.Dec.{leb, eqb}
 use borrow.Author.Tests.{eqb-true, lt-leb}
 use Rattle.bits.specs.Language.{pick, both}
-use Rattle.bits.specs.Writes.{toBits, only, eachBits, length-toBits}
+use Rattle.bits.specs.Writes.{toBits, only, eachBits}
+use Rattle.bits.specs.Lists.{length-toBits}
 use Rattle.oamd.specs.declared.Programme.{Programme}
 use Rattle.oamd.specs.declared.Bed.{Bed}
 use Rattle.oamd.specs.declared.Offset.{Offset}

@@ -9,8 +9,9 @@ use lib.Arith.{digits-div}
 use lib.ListN.{length, take, drop, length-drop, take-append-drop}
 use lib.Seq.{length-take-le}
 use lib.Dec.{eqb}
-use Rattle.bits.specs.Language.{from, each}
-use Rattle.bits.specs.Writes.{Along, Writes, w-each}
+use Rattle.bits.specs.Language.{from}
+use Rattle.bits.specs.Back.{Along, Writes, w-each}
+use Rattle.bits.specs.Ensures.{Every}
 use Rattle.oamd.specs.declared.Shares.{Shares}
 use Rattle.oamd.specs.declared.Block.{Block}
 use Rattle.oamd.specs.declared.Scene.{Scene}
@@ -19,18 +20,17 @@ use Rattle.oamd.specs.Block.{object-info-block}
 use Rattle.oamd.specs.ObjectElement.{object-data}
 use Rattle.oamd.specs.Meaning.{firstGain, behindFirst, idle, scenesFrom, scenesOf, allScenes}
 use Rattle.oamd.specs.Record.{Record}
-use Rattle.written.specs.Valid.{_and_, sceneValid, recordValid, firstBad}
+use Rattle.written.specs.Valid.{sceneValid, recordValid, firstBad}
 use Rattle.written.specs.Form.{blockBits, byObject, objectDataBits}
 use Rattle.written.specs.Lemmas.Facts.{halves, by-test}
-use Rattle.written.specs.Lemmas.Entries.{Every, along}
+use Rattle.written.specs.Lemmas.Entries.{ByClass, along}
 use Rattle.written.specs.Lemmas.BlockBack.{SceneFacts, scene-facts, codedBlock, block-writes, block-means}
 
 -- ---- which records are valid
 
 -- each record is valid by the class of its object, the indices counting from i
 abbrev pub ValidFrom : Shares → ℕ → ℕ → List Record → Type 0
-ValidFrom s blocks i [] = Unit {0}
-ValidFrom s blocks i (r ∷ rs) = (recordValid (classOf s (i / blocks)) r ≡ true) × ValidFrom s blocks (suc i) rs
+ValidFrom s blocks i rs = ByClass recordValid s blocks i rs
 
 pub none-bad : (s : Shares) (blocks i : ℕ) (rs : List Record) → firstBad s blocks i rs ≡ i + length rs → ValidFrom s blocks i rs
 unfolding firstBad

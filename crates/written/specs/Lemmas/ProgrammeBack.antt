@@ -11,7 +11,8 @@ use lib.Dec.{eqb}
 use borrow.Author.Tests.{eqb-true, eq-eqb, ne-eqb, lt-ltb, le-ltb, not-true}
 use Rattle.bits.specs.Language.{pick, both, give, _>>=_, bits, bitsIf, from, for}
 use Rattle.bits.specs.Steps.{by-order}
-use Rattle.bits.specs.Writes.{toBits, only, eachBits, Writes, w-give, w-bits, w-bind, w-end, w-is, w-pass, w-each}
+use Rattle.bits.specs.Writes.{toBits, only, eachBits}
+use Rattle.bits.specs.Back.{Writes, w-give, w-bits, w-bind, w-end, w-is, w-pass, w-each}
 use Rattle.oamd.specs.declared.Bed.{Bed}
 use Rattle.oamd.specs.declared.Programme.{Programme}
 use Rattle.oamd.specs.Tables.{mostObjects, mostBeds}

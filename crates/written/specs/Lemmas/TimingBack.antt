@@ -9,19 +9,21 @@ use lib.Seq.{length-take-le}
 use lib.Dec.{eqb}
 use borrow.Author.Tests.{eqb-true}
 use Rattle.bits.specs.Language.{pick, from, for}
-use Rattle.bits.specs.Writes.{eachBits, Writes, w-give, w-bits, w-bind, w-end, w-each}
+use Rattle.bits.specs.Writes.{eachBits}
+use Rattle.bits.specs.Back.{Writes, w-give, w-bits, w-bind, w-end, w-each}
+use Rattle.bits.specs.Ensures.{Every}
 use Rattle.oamd.specs.declared.Update.{Update}
 use Rattle.oamd.specs.declared.Timing.{Timing}
 use Rattle.oamd.specs.Tables.{mostBlocks}
 use Rattle.oamd.specs.Programme.{filled}
 use Rattle.oamd.specs.Timing.{block-update-info, MdUpdateInfo, md-update-info, samples, offsetOf, updateOf, noUpdate, timingOf}
 use Rattle.oamd.specs.Payload.{noTiming}
-use Rattle.written.specs.Valid.{_and_, ranged, entriesValid, sampleOffset, updateValid, timingValid}
+use Rattle.written.specs.Valid.{ranged, entriesValid, sampleOffset, updateValid, timingValid}
 use Rattle.written.specs.Coded.{codedOffset, codedUpdate}
 use Rattle.written.specs.Lemmas.Codable.{updateCodable}
 use Rattle.written.specs.Form.{updateBits, timingBits}
 use Rattle.written.specs.Lemmas.Facts.{halves, whole, Ranged, in-range, is-ranged}
-use Rattle.written.specs.Lemmas.Entries.{Every, entries-used, entries-filled, along}
+use Rattle.written.specs.Lemmas.Entries.{entries-used, entries-filled, along}
 use Rattle.written.specs.Lemmas.Means.{offset-codable, offset-means, ramp-codable, ramp-means, start-means}
 use Rattle.written.specs.Lemmas.Fields.{offset-writes, update-writes}
 

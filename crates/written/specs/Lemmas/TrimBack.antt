@@ -11,7 +11,9 @@ use lib.Seq.{take-length}
 use lib.Dec.{eqb}
 use borrow.Author.Tests.{eqb-true, eqb-false}
 use Rattle.bits.specs.Language.{pick, P, bits, when, from, for}
-use Rattle.bits.specs.Writes.{toBits, only, eachBits, Writes, w-give, w-bits, w-bind, w-end, w-is, w-when, w-each}
+use Rattle.bits.specs.Writes.{toBits, only, eachBits}
+use Rattle.bits.specs.Back.{Writes, w-give, w-bits, w-bind, w-end, w-is, w-when, w-each}
+use Rattle.bits.specs.Ensures.{Every}
 use Rattle.oamd.specs.declared.TrimConfig.{TrimConfig}
 use Rattle.oamd.specs.Tables.{trimConfigs}
 use Rattle.oamd.specs.Programme.{set?, clear?}
@@ -21,7 +23,7 @@ use Rattle.written.specs.Valid.{_and_, ranged, entriesValid, configValid
 use Rattle.written.specs.Form.{configBits, trimElementBits, hasTrim}
 use Rattle.written.specs.Lemmas.Facts.{halves, by-test, by-flag, Ranged, in-range, w-ranged}
 use Rattle.written.specs.Lemmas.Unreserved.{w-under, w-within}
-use Rattle.written.specs.Lemmas.Entries.{Every, entries-used, entries-unused, along}
+use Rattle.written.specs.Lemmas.Entries.{entries-used, entries-unused, along}
 
 -- ---- a configuration
 
