@@ -22,7 +22,7 @@ use Rattle.demands.specs.Lemmas.Plain.{size-plain}
 use Rattle.demands.specs.Lemmas.Frame.{size-goes, alternate-goes}
 
 -- no reader is marked
-pub data Unmarked : (A : Type 0) → P A → Type 1 where
+data Unmarked : (A : Type 0) → P A → Type 1 where
 
 -- p comes to a field that passes the end to which p itself is held
 pub record Passes {A : Type 0} (p : P A) (b : Bits) (at e o r pl : ℕ) : Type 1 where

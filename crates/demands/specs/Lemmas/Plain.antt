@@ -94,11 +94,11 @@ module _ (M : (A : Type 0) → P A → Type 1) (Q : ℕ → Type 0) where
       let ih = size-plain k in
       search (plainly, ih) depth 12
 
-  pub count-plain : Plain M Q _ object-count
+  count-plain : Plain M Q _ object-count
   unfolding object-count
   count-plain = search plainly depth 12
 
-  pub many-plain : Plain M Q _ oa-element-count
+  many-plain : Plain M Q _ oa-element-count
   unfolding oa-element-count
   many-plain = search plainly depth 12
 
@@ -112,7 +112,7 @@ module _ (M : (A : Type 0) → P A → Type 1) (Q : ℕ → Type 0) where
     unfolding intermediate-spatial-format
     isf-plain content = search (plainly, mark IntermediateSpatialFormatIdx) depth 12
 
-    pub assignment-plain : (objects : ℕ) → Plain M Q _ (program-assignment objects)
+    assignment-plain : (objects : ℕ) → Plain M Q _ (program-assignment objects)
     unfolding program-assignment
     assignment-plain objects = search (plainly, beds-plain, isf-plain, dynamics-plain, data-plain) depth 12
 
