@@ -2,10 +2,10 @@
 use mathlib.Core.Path.{_≡_, refl}
 use mathlib.Core.Bool.{Bool, true, false}
 use Prim.Native.Nat.{ℕ, _+_, _*_, _<_, _≤_}
-use borrow.Author.Tests.{leb-true, leb-false}
-use denote.Ref.{now}
 use lib.Dec.{leb}
 use lib.ListN.{length}
+use denote.Ref.{now}
+use borrow.Author.Tests.{leb-true, leb-false}
 use Rattle.bits.specs.Language.{pick}
 use Rattle.checks.proofs.carries as carries
 use Rattle.checks.proofs.config_at as config-at
@@ -43,7 +43,9 @@ pub one-sample-offset : OneAnswer sample-offset.ended (λ M. sample-offset.claus
 one-sample-offset = by-equation (result-set sample-offset.ended) (λ w. refl) _ (λ w κs a r z p. said (λ h. h) (p .holds))
 
 pub one-trim-valid : OneAnswer trim-valid.ended (λ M. trim-valid.clauses) (λ M. trim-valid.spec) (λ κs a. a .0 beside now (a .1 .0)) (λ κs a r z. r)
-one-trim-valid = by-equation (result-set trim-valid.ended) (λ w. refl) (λ i. leb (trimNeeded (i .0)) (length (i .1)) and trimValid (i .0) (trimAt (i .0) (i .1))) (λ w κs a r z p. said (λ h. h) (p .holds))
+one-trim-valid =
+    by-equation (result-set trim-valid.ended) (λ w. refl) (λ i. leb (trimNeeded (i .0)) (length (i .1)) and trimValid (i .0) (trimAt (i .0) (i .1)))
+    (λ w κs a r z p. said (λ h. h) (p .holds))
 
 -- One clause for enough bytes and one for fewer: these are all cases, and each has one answer.
 enough-or-fewer : {A : Type 0} (n m : ℕ) (x y : A) {r : A} → (n ≤ m → r ≡ x) → (m < n → r ≡ y) → r ≡ pick (leb n m) x y
@@ -53,17 +55,28 @@ enough-or-fewer n m x y {r} enough fewer = go (leb n m) refl
     go true q = enough (leb-true n m q)
     go false q = fewer (leb-false n m q)
 
-pub one-first-bad : OneAnswer first-bad.ended (λ M. first-bad.clauses) (λ M. first-bad.spec) (λ κs a. a .0 beside a .1 .0 beside now (a .1 .1 .0)) (λ κs a r z. r)
-one-first-bad = by-equation (result-set first-bad.ended) (λ w. refl) (λ i. pick (leb (recordStride * recordCount (i .0) (i .1 .0)) (length (i .1 .1))) (firstBad (shares (i .0)) (i .1 .0 .blocks) 0 (recordsAt (i .1 .1) (recordCount (i .0) (i .1 .0)) 0)) 0) (λ w κs a r z p. both-said (enough-or-fewer _ _ _ _) (p .holds))
+pub one-first-bad : OneAnswer first-bad.ended (λ M. first-bad.clauses) (λ M. first-bad.spec)
+    (λ κs a. a .0 beside a .1 .0 beside now (a .1 .1 .0)) (λ κs a r z. r)
+one-first-bad =
+    by-equation (result-set first-bad.ended) (λ w. refl) (λ i. pick (leb (recordStride * recordCount (i .0) (i .1 .0)) (length (i .1 .1))) (firstBad (shares (i .0)) (i .1 .0 .blocks) 0 (recordsAt (i .1 .1) (recordCount (i .0) (i .1 .0)) 0)) 0)
+    (λ w κs a r z p. both-said (enough-or-fewer _ _ _ _) (p .holds))
 
 pub one-scene-at : OneAnswer scene-at.ended (λ M. scene-at.clauses) (λ M. scene-at.spec) (λ κs a. now (a .0) beside a .1) (λ κs a r z. r)
-one-scene-at = by-equation (result-set scene-at.ended) (λ w. refl) (λ i. pick (leb (i .1 .0 + recordStride) (length (i .0))) (sceneAt (i .0) (i .1 .0)) (idle 0)) (λ w κs a r z p. both-said (enough-or-fewer _ _ _ _) (p .holds))
+one-scene-at =
+    by-equation (result-set scene-at.ended) (λ w. refl) (λ i. pick (leb (i .1 .0 + recordStride) (length (i .0))) (sceneAt (i .0) (i .1 .0)) (idle 0))
+    (λ w κs a r z p. both-said (enough-or-fewer _ _ _ _) (p .holds))
 
 pub one-divergence-at : OneAnswer divergence-at.ended (λ M. divergence-at.clauses) (λ M. divergence-at.spec) (λ κs a. now (a .0) beside a .1) (λ κs a r z. r)
-one-divergence-at = by-equation (result-set divergence-at.ended) (λ w. refl) (λ i. pick (leb (i .1 .0 + recordStride) (length (i .0))) (divergenceAt (i .0) (i .1 .0)) noDivergence) (λ w κs a r z p. both-said (enough-or-fewer _ _ _ _) (p .holds))
+one-divergence-at =
+    by-equation (result-set divergence-at.ended) (λ w. refl) (λ i. pick (leb (i .1 .0 + recordStride) (length (i .0))) (divergenceAt (i .0) (i .1 .0)) noDivergence)
+    (λ w κs a r z p. both-said (enough-or-fewer _ _ _ _) (p .holds))
 
 pub one-precise-at : OneAnswer precise-at.ended (λ M. precise-at.clauses) (λ M. precise-at.spec) (λ κs a. now (a .0) beside a .1) (λ κs a r z. r)
-one-precise-at = by-equation (result-set precise-at.ended) (λ w. refl) (λ i. pick (leb (i .1 .0 + recordStride) (length (i .0))) (preciseAt (i .0) (i .1 .0)) noPrecise) (λ w κs a r z p. both-said (enough-or-fewer _ _ _ _) (p .holds))
+one-precise-at =
+    by-equation (result-set precise-at.ended) (λ w. refl) (λ i. pick (leb (i .1 .0 + recordStride) (length (i .0))) (preciseAt (i .0) (i .1 .0)) noPrecise)
+    (λ w κs a r z p. both-said (enough-or-fewer _ _ _ _) (p .holds))
 
 pub one-config-at : OneAnswer config-at.ended (λ M. config-at.clauses) (λ M. config-at.spec) (λ κs a. now (a .0) beside a .1) (λ κs a r z. r)
-one-config-at = by-equation (result-set config-at.ended) (λ w. refl) (λ i. pick (leb (i .1 .0 + configBytes) (length (i .0))) (configAt (i .0) (i .1 .0)) noConfig) (λ w κs a r z p. both-said (enough-or-fewer _ _ _ _) (p .holds))
+one-config-at =
+    by-equation (result-set config-at.ended) (λ w. refl) (λ i. pick (leb (i .1 .0 + configBytes) (length (i .0))) (configAt (i .0) (i .1 .0)) noConfig)
+    (λ w κs a r z p. both-said (enough-or-fewer _ _ _ _) (p .holds))

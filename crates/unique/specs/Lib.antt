@@ -8,3 +8,4 @@ pub mod Meaning
 pub mod Syntax
 pub mod Checks
 pub mod Coding
+pub mod Open

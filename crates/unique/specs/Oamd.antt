@@ -1,14 +1,14 @@
 -- The public functions of oamd.
 use mathlib.Core.Path.{refl}
-use Rattle.unique.specs.OneAnswer.{OneAnswer, by-equation, said, result-set}
-use Rattle.oamd.proofs.flag as flag
-use Rattle.oamd.proofs.both as both
-use Rattle.oamd.proofs.kind_of as kind-of
 use Rattle.oamd.proofs.bed_labels as bed-labels
+use Rattle.oamd.proofs.both as both
+use Rattle.oamd.proofs.flag as flag
 use Rattle.oamd.proofs.isf_objects as isf-objects
+use Rattle.oamd.proofs.kind_of as kind-of
 use Rattle.oamd.proofs.ramp_code as ramp-code
 use Rattle.oamd.proofs.ramp_duration as ramp-duration
 use Rattle.oamd.proofs.sample_offset as sample-offset
+use Rattle.unique.specs.OneAnswer.{OneAnswer, by-equation, said, result-set}
 
 pub one-flag : OneAnswer flag.ended (λ M. flag.clauses) (λ M. flag.spec) (λ κs a. a) (λ κs a r z. r)
 one-flag = by-equation (result-set flag.ended) (λ w. refl) _ (λ w κs a r z p. said (λ h. h) (p .holds))
