@@ -8,5 +8,4 @@ pub mod Cut
 pub mod Unknown
 pub mod Edited
 pub mod Refusals
-pub mod Unique
 pub mod Answers

@@ -21,8 +21,8 @@ use Rattle.bits.specs.View.{wordAt}
 use Rattle.unique.specs.OneAnswer.{OneAnswer, by-equation, said, result-set, _beside_}
 use Rattle.unique.specs.Readings.{asRead, readBy, reading-set}
 
-pub one-opens : OneAnswer opens.ended (λ M. opens.clauses) (λ M. opens.spec) (λ κs a. a) (λ κs a r z. r)
-one-opens = by-equation (result-set opens.ended) (λ w. refl) _ (λ w κs a r z p. said (λ h. h) (p .holds))
+pub one-open : OneAnswer opens.ended (λ M. opens.clauses) (λ M. opens.spec) (λ κs a. a) (λ κs a r z. r)
+one-open = by-equation (result-set opens.ended) (λ w. refl) _ (λ w κs a r z p. said (λ h. h) (p .holds))
 
 pub one-inner-of : OneAnswer inner-of.ended (λ M. inner-of.clauses) (λ M. inner-of.spec) (λ κs a. a) (λ κs a r z. r)
 one-inner-of = by-equation (result-set inner-of.ended) (λ w. refl) _ (λ w κs a r z p. said (λ h. h) (p .holds))

@@ -1,6 +1,5 @@
 -- The functions that callers use: `read` of reader, `write` of writer, and the three of host.
 use mathlib.Core.Path.{refl}
-use Prim.Native.Nat.{ℕ}
 use base.Stored.{coded-set, codedVia, codedℕ, coded×, codedList}
 use denote.Ref.{now}
 use Rattle.host.proofs.skriemelt_read as skriemelt-read

@@ -14,4 +14,3 @@ pub mod Fewest
 pub mod FewestFrames
 pub mod FewestExtended
 pub mod FewestTrim
-pub mod Unique
