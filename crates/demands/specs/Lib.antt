@@ -10,7 +10,6 @@ pub mod Unknown
 pub mod Edited
 pub mod Demand3
 pub mod Refusals
-pub mod Unique
 pub mod Buffers
 pub mod Answers
 pub mod Numbers

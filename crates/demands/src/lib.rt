@@ -1,1 +1,1 @@
-// Demands 1 to 3, uniqueness and tightness as theorems, in specs/: no code.
+// Demands 1 to 3 and tightness as theorems, in specs/: no code.

@@ -14,7 +14,6 @@ pub mod Fewest
 pub mod FewestFrames
 pub mod FewestExtended
 pub mod FewestTrim
-pub mod Unique
 pub mod AcceptedRecords
 pub mod Ranges
 pub mod Longest

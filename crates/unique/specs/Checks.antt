@@ -1,0 +1,82 @@
+-- The public functions of checks.
+use mathlib.Core.Path.{_≡_, refl}
+use mathlib.Core.Bool.{Bool, true, false}
+use Prim.Native.Nat.{ℕ, _+_, _*_, _<_, _≤_}
+use lib.Dec.{leb}
+use lib.ListN.{length}
+use denote.Ref.{now}
+use borrow.Author.Tests.{leb-true, leb-false}
+use Rattle.bits.specs.Language.{pick}
+use Rattle.checks.proofs.carries as carries
+use Rattle.checks.proofs.config_at as config-at
+use Rattle.checks.proofs.divergence_at as divergence-at
+use Rattle.checks.proofs.first_bad as first-bad
+use Rattle.checks.proofs.precise_at as precise-at
+use Rattle.checks.proofs.programme_valid as programme-valid
+use Rattle.checks.proofs.record_count as record-count
+use Rattle.checks.proofs.sample_offset as sample-offset
+use Rattle.checks.proofs.scene_at as scene-at
+use Rattle.checks.proofs.timing_valid as timing-valid
+use Rattle.checks.proofs.trim_valid as trim-valid
+use Rattle.oamd.specs.Extended.{noDivergence, noPrecise}
+use Rattle.oamd.specs.Meaning.{idle}
+use Rattle.oamd.specs.Programme.{shares}
+use Rattle.oamd.specs.Tables.{recordStride, configBytes}
+use Rattle.oamd.specs.Trim.{noConfig, trimNeeded}
+use Rattle.written.specs.Answer.{sceneAt, divergenceAt, preciseAt, configAt, recordsAt, trimAt}
+use Rattle.written.specs.Valid.{_and_, firstBad, recordCount, trimValid}
+use Rattle.unique.specs.OneAnswer.{OneAnswer, by-equation, said, both-said, result-set, _beside_}
+
+pub one-programme-valid : OneAnswer programme-valid.ended (λ M. programme-valid.clauses) (λ M. programme-valid.spec) (λ κs a. a) (λ κs a r z. r)
+one-programme-valid = by-equation (result-set programme-valid.ended) (λ w. refl) _ (λ w κs a r z p. said (λ h. h) (p .holds))
+
+pub one-timing-valid : OneAnswer timing-valid.ended (λ M. timing-valid.clauses) (λ M. timing-valid.spec) (λ κs a. a) (λ κs a r z. r)
+one-timing-valid = by-equation (result-set timing-valid.ended) (λ w. refl) _ (λ w κs a r z p. said (λ h. h) (p .holds))
+
+pub one-carries : OneAnswer carries.ended (λ M. carries.clauses) (λ M. carries.spec) (λ κs a. a) (λ κs a r z. r)
+one-carries = by-equation (result-set carries.ended) (λ w. refl) _ (λ w κs a r z p. said (λ h. h) (p .holds))
+
+pub one-record-count : OneAnswer record-count.ended (λ M. record-count.clauses) (λ M. record-count.spec) (λ κs a. a) (λ κs a r z. r)
+one-record-count = by-equation (result-set record-count.ended) (λ w. refl) _ (λ w κs a r z p. said (λ h. h .0) (p .holds))
+
+pub one-sample-offset : OneAnswer sample-offset.ended (λ M. sample-offset.clauses) (λ M. sample-offset.spec) (λ κs a. a) (λ κs a r z. r)
+one-sample-offset = by-equation (result-set sample-offset.ended) (λ w. refl) _ (λ w κs a r z p. said (λ h. h) (p .holds))
+
+pub one-trim-valid : OneAnswer trim-valid.ended (λ M. trim-valid.clauses) (λ M. trim-valid.spec) (λ κs a. a .0 beside now (a .1 .0)) (λ κs a r z. r)
+one-trim-valid =
+    by-equation (result-set trim-valid.ended) (λ w. refl) (λ i. leb (trimNeeded (i .0)) (length (i .1)) and trimValid (i .0) (trimAt (i .0) (i .1)))
+    (λ w κs a r z p. said (λ h. h) (p .holds))
+
+-- One clause for enough bytes and one for fewer: these are all cases, and each has one answer.
+enough-or-fewer : {A : Type 0} (n m : ℕ) (x y : A) {r : A} → (n ≤ m → r ≡ x) → (m < n → r ≡ y) → r ≡ pick (leb n m) x y
+enough-or-fewer n m x y {r} enough fewer = go (leb n m) refl
+  where
+    go : (t : Bool) → leb n m ≡ t → r ≡ pick t x y
+    go true q = enough (leb-true n m q)
+    go false q = fewer (leb-false n m q)
+
+pub one-first-bad : OneAnswer first-bad.ended (λ M. first-bad.clauses) (λ M. first-bad.spec)
+    (λ κs a. a .0 beside a .1 .0 beside now (a .1 .1 .0)) (λ κs a r z. r)
+one-first-bad =
+    by-equation (result-set first-bad.ended) (λ w. refl) (λ i. pick (leb (recordStride * recordCount (i .0) (i .1 .0)) (length (i .1 .1))) (firstBad (shares (i .0)) (i .1 .0 .blocks) 0 (recordsAt (i .1 .1) (recordCount (i .0) (i .1 .0)) 0)) 0)
+    (λ w κs a r z p. both-said (enough-or-fewer _ _ _ _) (p .holds))
+
+pub one-scene-at : OneAnswer scene-at.ended (λ M. scene-at.clauses) (λ M. scene-at.spec) (λ κs a. now (a .0) beside a .1) (λ κs a r z. r)
+one-scene-at =
+    by-equation (result-set scene-at.ended) (λ w. refl) (λ i. pick (leb (i .1 .0 + recordStride) (length (i .0))) (sceneAt (i .0) (i .1 .0)) (idle 0))
+    (λ w κs a r z p. both-said (enough-or-fewer _ _ _ _) (p .holds))
+
+pub one-divergence-at : OneAnswer divergence-at.ended (λ M. divergence-at.clauses) (λ M. divergence-at.spec) (λ κs a. now (a .0) beside a .1) (λ κs a r z. r)
+one-divergence-at =
+    by-equation (result-set divergence-at.ended) (λ w. refl) (λ i. pick (leb (i .1 .0 + recordStride) (length (i .0))) (divergenceAt (i .0) (i .1 .0)) noDivergence)
+    (λ w κs a r z p. both-said (enough-or-fewer _ _ _ _) (p .holds))
+
+pub one-precise-at : OneAnswer precise-at.ended (λ M. precise-at.clauses) (λ M. precise-at.spec) (λ κs a. now (a .0) beside a .1) (λ κs a r z. r)
+one-precise-at =
+    by-equation (result-set precise-at.ended) (λ w. refl) (λ i. pick (leb (i .1 .0 + recordStride) (length (i .0))) (preciseAt (i .0) (i .1 .0)) noPrecise)
+    (λ w κs a r z p. both-said (enough-or-fewer _ _ _ _) (p .holds))
+
+pub one-config-at : OneAnswer config-at.ended (λ M. config-at.clauses) (λ M. config-at.spec) (λ κs a. now (a .0) beside a .1) (λ κs a r z. r)
+one-config-at =
+    by-equation (result-set config-at.ended) (λ w. refl) (λ i. pick (leb (i .1 .0 + configBytes) (length (i .0))) (configAt (i .0) (i .1 .0)) noConfig)
+    (λ w κs a r z p. both-said (enough-or-fewer _ _ _ _) (p .holds))

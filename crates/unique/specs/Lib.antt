@@ -1,0 +1,11 @@
+pub mod OneAnswer
+pub mod Readings
+pub mod Callers
+pub mod Units
+pub mod Bits
+pub mod Oamd
+pub mod Meaning
+pub mod Syntax
+pub mod Checks
+pub mod Coding
+pub mod Open

@@ -1,0 +1,1 @@
+// One answer only, of the contracts themselves, as theorems, in specs/: no code.
