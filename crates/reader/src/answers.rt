@@ -1,5 +1,7 @@
 // What is answered.
 ghost use mathlib.Core.Path.{_≡_};
+ghost use Rattle.bits.specs.declared.Refusal.the-variants.{Room};
+ghost use Rattle.bits.specs.Refusals.{numberOf};
 ghost use Rattle.oamd.specs.Answer.{refusedWith, acceptedWith};
 use oamd::Bed;
 use oamd::Programme;
@@ -36,6 +38,15 @@ pub fn refused(refusal: u8, place: u64) -> ReadAnswer
         programme,
         timing,
     }
+}
+
+// Refusal 9, with the bytes that are needed: both lent buffers stay as they came.
+pub fn no_room(needed: usize, records: &mut [u8], trim: &mut [u8]) -> ReadAnswer
+    ensures { λ r. ⌜ r ≡ refusedWith (numberOf Room) needed ⌝ }
+    ensures { λ r. ⌜ now (records .exit) ≡ now (records .entry) ⌝ }
+    ensures { λ r. ⌜ now (trim .exit) ≡ now (trim .entry) ⌝ }
+{
+    refused(9, needed as u64)
 }
 
 pub fn accepted(programme: Programme, timing: Timing, unknown: u8) -> ReadAnswer

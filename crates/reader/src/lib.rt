@@ -86,11 +86,11 @@ pub fn read(payload: &[u8], records: &mut [u8], trim: &mut [u8]) -> ReadAnswer
     let timing = state.timing;
     let need = STRIDE * (programme.objects as usize * timing.blocks as usize);
     if records.len() < need {
-        return answers::refused(9, need as u64);
+        return answers::no_room(need, records, trim);
     }
     let taken = TRIM_FIXED + programme.objects as usize;
     if trim.len() < taken {
-        return answers::refused(9, taken as u64);
+        return answers::no_room(taken, records, trim);
     }
     bytes::copy(&scratch[..need], records);
     bytes::copy(&table[..taken], trim);

@@ -19,11 +19,25 @@ mul-need-2 : tie.Need-mul-need-2
 mul-need-2 c = let e = c .before .before .before .before .before .before .before .before .read-payload .ensures in omega (arith, small _ _ (e .few) (e .little))
 
 returns-3 : tie.Need-returns-3
-returns-3 c = rw (c .refused3 .ensures) (no-room _ _ _ (c .before .before .before .before .before .before .before .before .before .before .before .before .before .before .before .if1 .left) (c .before .before .before .before .before .before .before .before .before .before .read-payload .ensures) (c .before .before .before .before .before .before .before .if2 .left) (c .before .if3 .taken))
+returns-3 c =
+    let answered = c .before .before .before .before in
+    let short = answered .before .before .before in
+    let accepted = short .before .before .before .before .before .before in
+    let read = accepted .before .before .before in
+    let e = answered .no-room .ensures in
+    rw (e .0, e .1 .0, e .1 .1)
+    (no-room _ _ _ (read .before .before .before .before .before .if1 .left) (read .read-payload .ensures) (accepted .if2 .left) (short .if3 .taken))
 
 returns-4 : tie.Need-returns-4
 returns-4 c =
-    rw (c .refused4 .ensures) (no-trim-room _ _ _ (c .before .before .before .before .before .before .before .before .before .before .before .before .before .before .before .before .before .if1 .left) (c .before .before .before .before .before .before .before .before .before .before .before .before .read-payload .ensures) (c .before .before .before .before .before .before .before .before .before .if2 .left) (c .before .before .before .if3 .left) (c .before .if4 .taken))
+    let answered = c .before .before .before .before in
+    let short = answered .before .before .before in
+    let roomy = short .before .before in
+    let accepted = roomy .before .before .before .before .before .before in
+    let read = accepted .before .before .before in
+    let e = answered .no-room2 .ensures in
+    rw (e .0, e .1 .0, e .1 .1)
+    (no-trim-room _ _ _ (read .before .before .before .before .before .if1 .left) (read .read-payload .ensures) (accepted .if2 .left) (roomy .if3 .left) (short .if4 .taken))
 
 array-share-prefix-scratch : tie.Need-array-share-prefix-scratch
 array-share-prefix-scratch c = fits (c .before .before .before .before .before .before .before .before .before .before .before .read-payload .ensures) (c .before .before .before .before .before .before .before .before .if2 .left)
@@ -71,10 +85,14 @@ read-spec =
     mul-need
     mul-need-2
     (λ c κs. search needs)
+    (λ c. search needs)
+    (λ c. search needs)
     returns-3
     (λ c. search needs)
     (λ c. search needs)
     (λ c κs. search needs)
+    (λ c. search needs)
+    (λ c. search needs)
     returns-4
     array-share-prefix-scratch
     slice-aggregate-copy
