@@ -34,8 +34,7 @@ fn read_object(
     let mut at = from;
     let mut i: usize = 0;
     while i < blocks {
-        let blk = i as u32;
-        let step = syntax::read_block(s, l, cur, class, blk);
+        let step = syntax::read_block(s, l, cur, class, i as u32);
         let block = step.block;
         let above = gain_above(out, at, back);
         scene = meaning::resolved(scene, above, block);
