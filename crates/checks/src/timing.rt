@@ -10,28 +10,40 @@ use crate::ranges::wide_ranged;
 use oamd::Timing;
 use oamd::Update;
 use oamd::both;
+use units::SampleCount;
 
-fn offset_if(used: bool, offset: u16) -> u16
-    ensures { λ r. ⌜ r ≡ pick used offset 0 ⌝ }
+// What a start leaves by 32.
+fn behind_step(start: SampleCount) -> SampleCount
+    ensures { λ r. ⌜ r .0 ≡ start .0 % 32 ⌝ }
 {
-    if used { offset } else { 0 }
+    SampleCount::new(start.raw() % 32)
+}
+
+fn offset_if(used: bool, offset: SampleCount) -> SampleCount
+    ensures { λ r. ⌜ r .0 ≡ pick used (offset .0) 0 ⌝ }
+{
+    if used {
+        return offset;
+    }
+    SampleCount::new(0)
 }
 
 // An entry of the updates: what its start leaves by 32 is the offset.
-fn update_valid(offset: u16, used: bool, u: Update) -> bool
-    ensures { λ r. ⌜ r ≡ updateValid offset used u ⌝ }
+fn update_valid(offset: SampleCount, used: bool, u: Update) -> bool
+    ensures { λ r. ⌜ r ≡ updateValid (offset .0) used u ⌝ }
 {
-    let start = u.start.raw();
-    let ramp = u.ramp.raw();
+    let start = u.start;
+    let ramp = u.ramp;
+    let found = behind_step(start);
     let left = offset_if(used, offset);
-    let started = wide_ranged(used, 0, 2047, 0, start as u32);
-    let ramped = wide_ranged(used, 0, 2048, 0, ramp as u32);
-    both(started, both(start % 32 == left, ramped))
+    let started = wide_ranged(used, 0, 2047, 0, start.raw() as u32);
+    let ramped = wide_ranged(used, 0, 2048, 0, ramp.raw() as u32);
+    both(started, both(found.raw() == left.raw(), ramped))
 }
 
 // The first `blocks` of the eight updates are used.
-fn updates_valid(offset: u16, updates: [Update; 8], blocks: u8) -> bool
-    ensures { λ r. ⌜ (r ≡ entriesValid (updateValid offset) blocks updates) × (length updates ≡ mostBlocks) ⌝ }
+fn updates_valid(offset: SampleCount, updates: [Update; 8], blocks: u8) -> bool
+    ensures { λ r. ⌜ (r ≡ entriesValid (updateValid (offset .0)) blocks updates) × (length updates ≡ mostBlocks) ⌝ }
 {
     let used = blocks as usize;
     let mut valid = true;
@@ -44,13 +56,13 @@ fn updates_valid(offset: u16, updates: [Update; 8], blocks: u8) -> bool
     valid
 }
 
-// What the first start leaves by 32.
-pub fn sample_offset(updates: [Update; 8]) -> u16
-    ensures { λ r. ⌜ r ≡ firstStart updates % 32 ⌝ }
+// That of the first one.
+pub fn sample_offset(updates: [Update; 8]) -> SampleCount
+    ensures { λ r. ⌜ r .0 ≡ firstStart updates % 32 ⌝ }
 {
     let first = updates[0];
-    let start = first.start.raw();
-    start % 32
+    let start = first.start;
+    behind_step(start)
 }
 
 // A timing such as some accepted payload gives.

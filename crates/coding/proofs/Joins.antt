@@ -26,7 +26,7 @@ low-bits w v h =
 mod-bits : (w v : ℕ) → toBits w (v % 2 ^ w) ≡ toBits w v
 mod-bits w v = ap₂ toBits (sym (length-toBits w v)) (sym (number-toBits w v)) ∙ bits-number (toBits w v) (binary-toBits w v)
 
-pub field-packs : (p : Packed) (w v : ℕ) → w ≤ 24 → p .width ≡ w → p .value ≡ v * 2 ^ (32 - w) % 2 ^ 32 / 2 ^ (32 - w) → Packs p (toBits w v)
+pub field-packs : (p : Packed) (w v : ℕ) → w ≤ 24 → p .width .0 ≡ w → p .value ≡ v * 2 ^ (32 - w) % 2 ^ 32 / 2 ^ (32 - w) → Packs p (toBits w v)
 field-packs p w v h e f =
     let g : p .value ≡ v % 2 ^ w = f ∙ low-bits w v (omega arith) in
     record {
@@ -60,7 +60,7 @@ module _ (w n u v : ℕ) (hu : u < 2 ^ w) (hv : v < 2 ^ n) where
   pub join-fits : w + n ≤ 24 → u * 2 ^ n % 2 ^ 32 + v < 2 ^ 32
   join-fits h = let e = both-exact h in let f = both-under h in omega arith
 
-  pub join-packs : (p : Packed) → w + n ≤ 24 → p .width ≡ w + n → p .value ≡ u * 2 ^ n % 2 ^ 32 + v → Packs p both
+  pub join-packs : (p : Packed) → w + n ≤ 24 → p .width .0 ≡ w + n → p .value ≡ u * 2 ^ n % 2 ^ 32 + v → Packs p both
   join-packs p h e f =
       let g : p .value ≡ u * 2 ^ n + v = f ∙ ap (λ (x : ℕ). x + v) (both-exact h) in
       record {
@@ -73,19 +73,19 @@ module _ (w n u v : ℕ) (hu : u < 2 ^ w) (hv : v < 2 ^ n) where
 pub packs-is : {p : Packed} {l m : List ℕ} → l ≡ m → Packs p l → Packs p m
 packs-is {p} e h = subst (λ (x : List ℕ). Packs p x) e h
 
-pub then-packs : {a b r : Packed} {l m : List ℕ} → Packs a l → Packs b m → Packs r (toBits (a .width) (a .value) ++ toBits (b .width) (b .value)) → Packs r (l ++ m)
+pub then-packs : {a b r : Packed} {l m : List ℕ} → Packs a l → Packs b m → Packs r (toBits (a .width .0) (a .value) ++ toBits (b .width .0) (b .value)) → Packs r (l ++ m)
 then-packs {l = l} {m} f g h = packs-is (ap₂ (λ (x y : List ℕ). x ++ y) (f .same) (g .same)) h
 
-pub if-packs : {p r : Packed} {l : List ℕ} (on : Bool) → Packs p l → Packs r (only on (toBits (p .width) (p .value))) → Packs r (only on l)
+pub if-packs : {p r : Packed} {l : List ℕ} (on : Bool) → Packs p l → Packs r (only on (toBits (p .width .0) (p .value))) → Packs r (only on l)
 if-packs on f h = packs-is (ap (λ (x : List ℕ). only on x) (f .same)) h
 
-pub packs-length : {p : Packed} {l : List ℕ} → Packs p l → p .width ≡ length l
-packs-length {p} h = sym (length-toBits (p .width) (p .value)) ∙ ap length (h .same)
+pub packs-length : {p : Packed} {l : List ℕ} → Packs p l → p .width .0 ≡ length l
+packs-length {p} h = sym (length-toBits (p .width .0) (p .value)) ∙ ap length (h .same)
 
 -- two numbers that pack the same bits are the same
-pub one-packed : (p q : Packed) (l : List ℕ) → Packs p l → Packs q l → (p .width ≡ q .width) × (p .value ≡ q .value)
+pub one-packed : (p q : Packed) (l : List ℕ) → Packs p l → Packs q l → (p .width .0 ≡ q .width .0) × (p .value ≡ q .value)
 one-packed p q l f g =
-    let n : p .width ≡ q .width = packs-length f ∙ sym (packs-length g) in
+    let n : p .width .0 ≡ q .width .0 = packs-length f ∙ sym (packs-length g) in
     let value : (r : Packed) → Packs r l → number l ≡ r .value =
-    λ r h. sym (ap number (h .same)) ∙ number-toBits (r .width) (r .value) ∙ mod-eq-of-lt (h .small) in
+    λ r h. sym (ap number (h .same)) ∙ number-toBits (r .width .0) (r .value) ∙ mod-eq-of-lt (h .small) in
     (n, sym (value p f) ∙ value q g)

@@ -12,8 +12,8 @@ use Rattle.coding.specs.declared.Packed.{Packed}
 
 -- the bits of p are those of l
 pub record Packs (p : Packed) (l : List ℕ) : Type 0 where
-  pub same : toBits (p .width) (p .value) ≡ l
-  pub small : p .value < 2 ^ p .width
+  pub same : toBits (p .width .0) (p .value) ≡ l
+  pub small : p .value < 2 ^ p .width .0
 
 -- ---- a block (5.5.9 to 5.5.11), in parts of at most 24 bits
 

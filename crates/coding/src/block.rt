@@ -21,7 +21,7 @@ use oamd::Scene;
 // Whether it is active, and gain and priority.
 pub fn opening(first: bool, s: Scene) -> Packed
     ensures { λ r. ⌜ Packs r (openingBits first s) ⌝ }
-    ensures { λ r. ⌜ (1 ≤ r .width) × (r .width ≤ 17) ⌝ }
+    ensures { λ r. ⌜ (1 ≤ r .width .0) × (r .width .0 ≤ 17) ⌝ }
 {
     let idle = less(1, s.active);
     let flag = field(1, idle as u32);
@@ -35,7 +35,7 @@ pub fn opening(first: bool, s: Scene) -> Packed
 // Where render info is sent: its status and the position.
 pub fn placing(first: bool, s: Scene) -> Packed
     ensures { λ r. ⌜ Packs r (placingBits first s) ⌝ }
-    ensures { λ r. ⌜ (1 ≤ r .width) × (r .width ≤ 20) ⌝ }
+    ensures { λ r. ⌜ (1 ≤ r .width .0) × (r .width .0 ≤ 20) ⌝ }
 {
     let full = status(true, first);
     let place = position(first, s.place);
@@ -45,7 +45,7 @@ pub fn placing(first: bool, s: Scene) -> Packed
 // The distance and the zone.
 pub fn around(s: Scene) -> Packed
     ensures { λ r. ⌜ Packs r (aroundBits s) ⌝ }
-    ensures { λ r. ⌜ (1 ≤ r .width) × (r .width ≤ 10) ⌝ }
+    ensures { λ r. ⌜ (1 ≤ r .width .0) × (r .width .0 ≤ 10) ⌝ }
 {
     let far = distance(s.place.distance);
     let zones = zone(s.zone);
@@ -55,7 +55,7 @@ pub fn around(s: Scene) -> Packed
 // The size.
 pub fn sized(s: Scene) -> Packed
     ensures { λ r. ⌜ Packs r (sizedBits s) ⌝ }
-    ensures { λ r. ⌜ (1 ≤ r .width) × (r .width ≤ 22) ⌝ }
+    ensures { λ r. ⌜ (1 ≤ r .width .0) × (r .width .0 ≤ 22) ⌝ }
 {
     extent(s.volume)
 }
@@ -63,7 +63,7 @@ pub fn sized(s: Scene) -> Packed
 // Screen and snap where they are sent, and no additional table data.
 pub fn ending(sent: bool, s: Scene) -> Packed
     ensures { λ r. ⌜ Packs r (endingBits sent s) ⌝ }
-    ensures { λ r. ⌜ (1 ≤ r .width) × (r .width ≤ 8) ⌝ }
+    ensures { λ r. ⌜ (1 ≤ r .width .0) × (r .width .0 ≤ 8) ⌝ }
 {
     let used = screen(s.screen);
     let snap = field(1, s.snap as u32);
@@ -76,7 +76,7 @@ pub fn ending(sent: bool, s: Scene) -> Packed
 // A whole block whose render info is not sent.
 pub fn short(first: bool, s: Scene) -> Packed
     ensures { λ r. ⌜ Packs r (openingBits first s ++ endingBits false s) ⌝ }
-    ensures { λ r. ⌜ (1 ≤ r .width) × (r .width ≤ 18) ⌝ }
+    ensures { λ r. ⌜ (1 ≤ r .width .0) × (r .width .0 ≤ 18) ⌝ }
 {
     let start = opening(first, s);
     let none = field(1, 0);

@@ -1,5 +1,7 @@
 // The written form's choices: from a value of the tables to the coded fields that carry it, and the fields of a block packed into numbers. Each is total:
 // what is not valid gets some code, too.
+use units::BitCount;
+
 mod choices; // choices.rt: from a value to coded fields
 mod packing; // packing.rt: bits packed into a number
 mod parts; // parts.rt: the groups of a block, packed
@@ -22,6 +24,6 @@ pub use choices::ramp_indexed;
 
 // At most 24 bits: how many, and the number that they make.
 pub struct Packed {
-    pub width: u32,
+    pub width: BitCount,
     pub value: u32,
 }

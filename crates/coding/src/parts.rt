@@ -23,7 +23,7 @@ use oamd::Zone;
 // Full status, in a later block of a group that is sent.
 pub fn status(sent: bool, first: bool) -> Packed
     ensures { λ r. ⌜ Packs r (statusBits sent first) ⌝ }
-    ensures { λ r. ⌜ r .width ≤ 2 ⌝ }
+    ensures { λ r. ⌜ r .width .0 ≤ 2 ⌝ }
 {
     let on = oamd::both(sent, !first);
     let full = field(2, 1);
@@ -32,7 +32,7 @@ pub fn status(sent: bool, first: bool) -> Packed
 
 fn gain(v: u8) -> Packed
     ensures { λ r. ⌜ Packs r (gainBits (codedGain v)) ⌝ }
-    ensures { λ r. ⌜ r .width ≤ 8 ⌝ }
+    ensures { λ r. ⌜ r .width .0 ≤ 8 ⌝ }
 {
     let g = coded_gain(v);
     let index = field(2, g.index as u32);
@@ -43,7 +43,7 @@ fn gain(v: u8) -> Packed
 
 fn priority(v: u8) -> Packed
     ensures { λ r. ⌜ Packs r (priorityBits (codedPriority v)) ⌝ }
-    ensures { λ r. ⌜ r .width ≤ 6 ⌝ }
+    ensures { λ r. ⌜ r .width .0 ≤ 6 ⌝ }
 {
     let p = coded_priority(v);
     let standard = field(1, p.standard as u32);
@@ -54,7 +54,7 @@ fn priority(v: u8) -> Packed
 
 pub fn basic(s: Scene) -> Packed
     ensures { λ r. ⌜ Packs r (basicBits s) ⌝ }
-    ensures { λ r. ⌜ r .width ≤ 14 ⌝ }
+    ensures { λ r. ⌜ r .width .0 ≤ 14 ⌝ }
 {
     let first = gain(s.gain);
     let second = priority(s.priority);
@@ -64,7 +64,7 @@ pub fn basic(s: Scene) -> Packed
 // An absolute position; in a later block it says that it is one.
 pub fn position(first: bool, p: Place) -> Packed
     ensures { λ r. ⌜ Packs r (positionBits first p) ⌝ }
-    ensures { λ r. ⌜ (1 ≤ r .width) × (r .width ≤ 18) ⌝ }
+    ensures { λ r. ⌜ (1 ≤ r .width .0) × (r .width .0 ≤ 18) ⌝ }
 {
     let sign = z_sign(p.z);
     let size = z_bits(p.z);
@@ -82,7 +82,7 @@ pub fn position(first: bool, p: Place) -> Packed
 
 pub fn distance(v: u8) -> Packed
     ensures { λ r. ⌜ Packs r (distanceBits (codedDistance v)) ⌝ }
-    ensures { λ r. ⌜ r .width ≤ 6 ⌝ }
+    ensures { λ r. ⌜ r .width .0 ≤ 6 ⌝ }
 {
     let d = coded_distance(v);
     let near = oamd::both(d.given == 1, d.infinite == 0);
@@ -97,7 +97,7 @@ pub fn distance(v: u8) -> Packed
 
 pub fn zone(z: Zone) -> Packed
     ensures { λ r. ⌜ Packs r (zoneBits z) ⌝ }
-    ensures { λ r. ⌜ r .width ≡ 4 ⌝ }
+    ensures { λ r. ⌜ r .width .0 ≡ 4 ⌝ }
 {
     let index = field(3, z.index as u32);
     let elevation = field(1, z.elevation as u32);
@@ -106,7 +106,7 @@ pub fn zone(z: Zone) -> Packed
 
 pub fn extent(v: Volume) -> Packed
     ensures { λ r. ⌜ Packs r (extentBits (codedExtent v)) ⌝ }
-    ensures { λ r. ⌜ (1 ≤ r .width) × (r .width ≤ 22) ⌝ }
+    ensures { λ r. ⌜ (1 ≤ r .width .0) × (r .width .0 ≤ 22) ⌝ }
 {
     let e = coded_extent(v);
     let index = field(2, e.index as u32);
@@ -126,7 +126,7 @@ pub fn extent(v: Volume) -> Packed
 
 pub fn screen(s: Screen) -> Packed
     ensures { λ r. ⌜ Packs r (screenBits s) ⌝ }
-    ensures { λ r. ⌜ r .width ≤ 6 ⌝ }
+    ensures { λ r. ⌜ r .width .0 ≤ 6 ⌝ }
 {
     let used = field(1, s.used as u32);
     let factor = field(3, s.factor as u32);

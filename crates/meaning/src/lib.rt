@@ -10,5 +10,4 @@ pub use programme::shares;
 pub use scenes::idle;
 pub use scenes::resolved;
 pub use timing::no_timing;
-pub use timing::offset_of;
 pub use timing::update_of;

@@ -1,5 +1,6 @@
 // When updates start and how long they take (5.6.2).
 ghost use mathlib.Core.Path.{_≡_};
+ghost use Prim.Native.Nat.{_≤_};
 ghost use Rattle.oamd.specs.Timing.{offsetOf, rampOf, startOf, updateOf, noUpdate};
 ghost use Rattle.oamd.specs.Payload.{noTiming};
 use oamd::BlockUpdate;
@@ -9,48 +10,48 @@ use oamd::Update;
 use units::SampleCount;
 
 // Tables 22 and 23.
-pub fn offset_of(o: Offset) -> u8
-    ensures { λ r. ⌜ r ≡ offsetOf o ⌝ }
+fn offset_of(o: Offset) -> SampleCount
+    ensures { λ r. ⌜ (r .0 ≡ offsetOf o) × (r .0 ≤ 255) ⌝ }
 {
     if o.code == 0 {
-        return 0;
+        return SampleCount::new(0);
     }
     if o.code == 1 {
-        return oamd::sample_offset(o.index);
+        return SampleCount::new(oamd::sample_offset(o.index) as u16);
     }
-    o.bits
+    SampleCount::new(o.bits as u16)
 }
 
 // Tables 24 and 25.
-fn ramp_of(u: BlockUpdate) -> u16
-    ensures { λ r. ⌜ r ≡ rampOf u ⌝ }
+fn ramp_of(u: BlockUpdate) -> SampleCount
+    ensures { λ r. ⌜ r .0 ≡ rampOf u ⌝ }
 {
     if u.code != 3 {
-        return oamd::ramp_code(u.code);
+        return SampleCount::new(oamd::ramp_code(u.code));
     }
     if u.indexed == 1 {
-        return oamd::ramp_duration(u.index);
+        return SampleCount::new(oamd::ramp_duration(u.index));
     }
-    u.bits
+    SampleCount::new(u.bits)
 }
 
 // An update keeps its start, past the end of the frame too.
-fn start_of(offset: u8, factor: u8) -> u16
-    ensures { λ r. ⌜ r ≡ startOf offset factor ⌝ }
+fn start_of(offset: SampleCount, factor: u8) -> SampleCount
+    requires { ⌜ offset .0 ≤ 255 ⌝ }
+    ensures { λ r. ⌜ r .0 ≡ startOf (offset .0) factor ⌝ }
 {
-    offset as u16 + 32 * factor as u16
+    let steps = SampleCount::new(32 * factor as u16);
+    offset.plus(steps)
 }
 
-// The timing of one block.
-pub fn update_of(offset: u8, u: BlockUpdate) -> Update
-    ensures { λ r. ⌜ r ≡ updateOf offset u ⌝ }
+// The timing of one block, by the sample offset of the frame.
+pub fn update_of(o: Offset, u: BlockUpdate) -> Update
+    ensures { λ r. ⌜ r ≡ updateOf (offsetOf o) u ⌝ }
 {
+    let offset = offset_of(o);
     let start = start_of(offset, u.factor);
     let ramp = ramp_of(u);
-    Update {
-        start: SampleCount::new(start),
-        ramp: SampleCount::new(ramp),
-    }
+    Update { start, ramp }
 }
 
 // The timing of a payload without an object element.

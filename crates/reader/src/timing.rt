@@ -10,8 +10,7 @@ pub fn read_timing(s: &[u8], l: Limit, c: Cur) -> TimingStep
 {
     let start = syntax::read_offset(s, l, c);
     let behind = start.cur;
-    let coded = start.offset;
-    let offset = meaning::offset_of(coded);
+    let offset = start.offset;
     let count = bits::take(s, l, behind, 3);
     let n = count.v as usize + 1;
     let mut timing = meaning::no_timing();

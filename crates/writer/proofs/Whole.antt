@@ -2,7 +2,7 @@
 use mathlib.Core.Path.{_≡_, refl, sym, ap, ap₂, _∙_, subst}
 use mathlib.Core.Bool.{Bool, true, false}
 use mathlib.Core.List.{List, _++_}
-use Prim.Native.Nat.{ℕ, _+_, _-_, _*_, _/_, _≤_, _<_}
+use Prim.Native.Nat.{ℕ, _+_, _-_, _*_, _/_, _%_, _≤_, _<_}
 use native.Mathlib.Omega.{arith}
 use borrow.Author.Tests.{le-leb, lt-leb, lt-ltb, le-ltb}
 use lib.Dec.{leb}
@@ -48,6 +48,24 @@ element-length id n fields true e =
     let g = length-toBits 4 id in
     let h = length-toBits 1 0 in
     ap framed e ∙ omega arith
+
+-- a sum of counts that are not long does not wrap
+added : (a b r : ℕ) (n m : ℕ) → r ≡ (a + b) % 4294967296 → a ≤ n → b ≤ m → n + m < 4294967296 → (r ≡ a + b) × (r ≤ n + m)
+added a b r n m e f g h = (omega arith, omega arith)
+
+five : (header four first second third a b c whole : ℕ) → four ≡ 4 → a ≡ header + four → b ≡ a + first → c ≡ b + second → whole ≡ c + third
+    → whole ≡ header + 4 + first + second + third
+five header four first second third a b c whole d e f g h = omega arith
+
+pub all-bits : (header four first second third a b c whole : ℕ) → four ≡ 4 → a ≡ (header + four) % 4294967296 → b ≡ (a + first) % 4294967296 → c ≡ (b + second) % 4294967296
+    → whole ≡ (c + third) % 4294967296 → header ≤ 302 → first ≤ 200100 → second ≤ 200100 → third ≤ 200100
+    → (whole ≡ header + 4 + first + second + third) × (whole ≤ 600606)
+all-bits header four first second third a b c whole d e f g h i j k l =
+    let u = added header four a 302 4 e i (omega (arith, d)) (omega arith) in
+    let v = added a first b 306 200100 f (u .1) j (omega arith) in
+    let w = added b second c 200406 200100 g (v .1) k (omega arith) in
+    let x = added c third whole 400506 200100 h (w .1) l (omega arith) in
+    (five header four first second third a b c whole d (u .0) (v .0) (w .0) (x .0), x .1)
 
 -- the object element's fields look at no trim table
 pub object-any : (q : Programme) (t : Timing) (s x : List ℕ) → objectBits q t s ≡ objectElementBits (tablesOf q t s x)

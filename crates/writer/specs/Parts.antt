@@ -63,8 +63,8 @@ pub record Needed (rs : List Record) (g : Groups) : Type 0 where
 pub record Measured (t : Tables) (m : Measures) : Type 0 where
   pub count : m .count ≡ recordCount (t .programme) (t .timing)
   pub needed : Needed (t .records) (m .groups)
-  pub object : m .object ≡ 1 + length (objectElementBits t)
-  pub extended : m .extended ≡ 1 + length (extendedElementBits (t .records))
-  pub trim : m .trim ≡ 1 + length (trimElementBits (t .trim))
-  pub whole : m .whole ≡ length (formBits t)
-  pub small : (m .count ≤ 2040) × (m .object ≤ 200000) × (m .extended ≤ 200000) × (m .trim ≤ 200000) × (m .whole ≤ 700000)
+  pub object : m .object .0 ≡ 1 + length (objectElementBits t)
+  pub extended : m .extended .0 ≡ 1 + length (extendedElementBits (t .records))
+  pub trim : m .trim .0 ≡ 1 + length (trimElementBits (t .trim))
+  pub whole : m .whole .0 ≡ length (formBits t)
+  pub small : (m .count ≤ 2040) × (m .object .0 ≤ 200000) × (m .extended .0 ≤ 200000) × (m .trim .0 ≤ 200000) × (m .whole .0 ≤ 700000)

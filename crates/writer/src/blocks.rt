@@ -12,6 +12,7 @@ ghost use Rattle.writer.specs.Parts.{middleBits};
 use crate::putting::put_packed;
 use checks::carries;
 use oamd::Scene;
+use units::BitCount;
 use units::BitPos;
 
 // Render info up to the size.
@@ -54,24 +55,24 @@ pub fn put_block(first: bool, out: &mut [u8], at: BitPos, s: Scene) -> BitPos
 }
 
 // How many bits those are.
-fn middle_width(on: bool, first: bool, s: Scene) -> u32
-    ensures { λ r. ⌜ (r ≡ length (only on (middleBits first s))) × (r ≤ 52) ⌝ }
+fn middle_width(on: bool, first: bool, s: Scene) -> BitCount
+    ensures { λ r. ⌜ (r .0 ≡ length (only on (middleBits first s))) × (r .0 ≤ 52) ⌝ }
 {
     if on {
-        let place = coding::placing(first, s);
-        let around = coding::around(s);
-        let size = coding::sized(s);
-        return place.width + around.width + size.width;
+        let place = coding::placing(first, s).width;
+        let around = coding::around(s).width;
+        let size = coding::sized(s).width;
+        return place.plus(around).plus(size);
     }
-    0
+    BitCount::new(0)
 }
 
-pub fn block_width(first: bool, s: Scene) -> u32
-    ensures { λ r. ⌜ (r ≡ length (blockBits first s)) × (r ≤ 77) ⌝ }
+pub fn block_width(first: bool, s: Scene) -> BitCount
+    ensures { λ r. ⌜ (r .0 ≡ length (blockBits first s)) × (r .0 ≤ 77) ⌝ }
 {
     let sent = carries(s);
-    let opening = coding::opening(first, s);
-    let ending = coding::ending(sent, s);
+    let opening = coding::opening(first, s).width;
+    let ending = coding::ending(sent, s).width;
     let middle = middle_width(sent, first, s);
-    opening.width + middle + ending.width
+    opening.plus(middle).plus(ending)
 }

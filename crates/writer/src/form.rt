@@ -19,35 +19,38 @@ use crate::frames::trim_inside;
 use crate::head::put_header;
 use crate::putting::put;
 use crate::sizes::put_size;
+use crate::sizes::room_of;
 use crate::sizes::size_for;
 use checks::record_count;
 use coding::as_flag;
 use oamd::Programme;
 use oamd::Timing;
+use units::BitCount;
 use units::BitPos;
 
 // The bits before the element count, laid where there is no room.
-fn header_bits(q: Programme) -> u32
+fn header_bits(q: Programme) -> BitCount
     requires { ⌜ q .bedcount ≤ 9 ⌝ }
-    ensures { λ r. ⌜ (r ≡ length (headerBits q)) × (r ≤ 302) ⌝ }
+    ensures { λ r. ⌜ (r .0 ≡ length (headerBits q)) × (r .0 ≤ 302) ⌝ }
 {
     let mut scratch = [0u8; 1];
-    let p = put_header(&mut scratch, BitPos::new(0), q);
-    p.raw()
+    let start = BitPos::new(0);
+    put_header(&mut scratch, start, q).since(start)
 }
 
 // The bits of an element with n bits inside: id, size, and the bytes that the size counts; 0 for one that is not there.
-fn element_bits(on: bool, n: u32) -> u32
-    requires { ⌜ (1 ≤ n) × (n ≤ 200000) ⌝ }
-    ensures { λ r. ⌜ (r ≡ pick on (4 + length (sizeBits (sizeFor n)) + 8 * (sizeFor n + 1)) 0) × (r ≤ 200100) ⌝ }
+fn element_bits(on: bool, n: BitCount) -> BitCount
+    requires { ⌜ (1 ≤ n .0) × (n .0 ≤ 200000) ⌝ }
+    ensures { λ r. ⌜ (r .0 ≡ pick on (4 + length (sizeBits (sizeFor (n .0))) + 8 * (sizeFor (n .0) + 1)) 0) × (r .0 ≤ 200100) ⌝ }
 {
     if on {
         let v = size_for(n);
         let mut scratch = [0u8; 1];
-        let p = put_size(&mut scratch, BitPos::new(0), v);
-        return 4 + p.raw() + 8 * (v + 1);
+        let start = BitPos::new(0);
+        let size = put_size(&mut scratch, start, v).since(start);
+        return BitCount::new(4).plus(size).plus(room_of(v));
     }
-    0
+    BitCount::new(0)
 }
 
 // How long the form and its parts are, before a byte is written.
@@ -63,13 +66,14 @@ pub fn measure(q: Programme, t: Timing, records: &[u8], trim: &[u8]) -> Measures
     let first = element_bits(0 < t.blocks, object);
     let second = element_bits(either(groups.diverges, groups.refines), extended);
     let third = element_bits(trim[0] == 1, trims);
+    let before = header_bits(q).plus(BitCount::new(4));
     Measures {
         count,
         groups,
         object,
         extended,
         trim: trims,
-        whole: header_bits(q) + 4 + first + second + third,
+        whole: before.plus(first).plus(second).plus(third),
     }
 }
 
@@ -94,7 +98,10 @@ pub fn put_form(
     let three = as_flag(there);
     let header = put_header(out, BitPos::new(0), q);
     let count = put(out, header, 4, one as u32 + two as u32 + three as u32);
-    let object = put_object_element_if(0 < t.blocks, out, count, q, t, records, m.object);
-    let extended = put_extended_element_if(some, out, object, records, m.count, groups, m.extended);
-    put_trim_element_if(there, out, extended, trim, q.objects, m.trim)
+    let inside = m.object;
+    let object = put_object_element_if(0 < t.blocks, out, count, q, t, records, inside);
+    let inside = m.extended;
+    let extended = put_extended_element_if(some, out, object, records, m.count, groups, inside);
+    let inside = m.trim;
+    put_trim_element_if(there, out, extended, trim, q.objects, inside)
 }

@@ -14,13 +14,14 @@ use crate::objects::objects_width;
 use crate::objects::put_object_fields;
 use crate::putting::put;
 use crate::putting::put_zeros;
-use crate::sizes::minus;
+use crate::sizes::padding;
 use crate::sizes::put_size;
 use crate::sizes::size_for;
 use crate::timing::put_timing;
 use crate::trim::put_trim_fields;
 use oamd::Programme;
 use oamd::Timing;
+use units::BitCount;
 use units::BitPos;
 
 fn put_front(out: &mut [u8], at: BitPos, id: u32, v: u32) -> BitPos
@@ -34,35 +35,38 @@ fn put_front(out: &mut [u8], at: BitPos, id: u32, v: u32) -> BitPos
 }
 
 // The bits inside the object element: the discard flag, the timing, laid where there is no room, the flag for reserved data, and the objects.
-pub fn object_inside(q: Programme, t: Timing, records: &[u8]) -> u32
+pub fn object_inside(q: Programme, t: Timing, records: &[u8]) -> BitCount
     requires { ⌜ (t .blocks ≤ 8) × (24 * (q .objects * (t .blocks)) ≤ length (now records)) ⌝ }
-    ensures { λ r. ⌜ (r ≡ 1 + length (objectBits q t (now (records .entry)))) × (r ≤ 206 + 616 * (q .objects)) ⌝ }
+    ensures { λ r. ⌜ (r .0 ≡ 1 + length (objectBits q t (now (records .entry)))) × (r .0 ≤ 206 + 616 * (q .objects)) ⌝ }
 {
     let mut scratch = [0u8; 1];
-    let p = put_timing(&mut scratch, BitPos::new(0), t);
+    let start = BitPos::new(0);
+    let timing = put_timing(&mut scratch, start, t).since(start);
     let objects = objects_width(records, q.objects as usize, t.blocks as usize);
-    2 + p.raw() + objects
+    BitCount::new(2).plus(timing).plus(objects)
 }
 
 // And inside the extended object element.
-pub fn extended_inside(records: &[u8], count: usize, groups: Groups) -> u32
+pub fn extended_inside(records: &[u8], count: usize, groups: Groups) -> BitCount
     requires { ⌜ (count ≤ 2040) × (24 * count ≤ length (now records)) ⌝ }
     requires { ⌜ Needed (recordsAt (now records) count 0) groups ⌝ }
-    ensures { λ r. ⌜ (r ≡ 1 + length (extendedElementBits (recordsAt (now (records .entry)) count 0))) × (r ≤ 3 + 22 * count) ⌝ }
+    ensures { λ r. ⌜ (r .0 ≡ 1 + length (extendedElementBits (recordsAt (now (records .entry)) count 0))) × (r .0 ≤ 3 + 22 * count) ⌝ }
 {
     let mut scratch = [0u8; 1];
-    let p = put_extended_fields(&mut scratch, BitPos::new(0), records, count, groups);
-    1 + p.raw()
+    let start = BitPos::new(0);
+    let fields = put_extended_fields(&mut scratch, start, records, count, groups).since(start);
+    BitCount::new(1).plus(fields)
 }
 
 // And inside the trim element.
-pub fn trim_inside(trim: &[u8], objects: u8) -> u32
+pub fn trim_inside(trim: &[u8], objects: u8) -> BitCount
     requires { ⌜ 94 + objects ≤ length (now trim) ⌝ }
-    ensures { λ r. ⌜ (r ≡ 1 + length (trimElementBits (trimAt objects (now (trim .entry))))) × (r ≤ 269 + objects) ⌝ }
+    ensures { λ r. ⌜ (r .0 ≡ 1 + length (trimElementBits (trimAt objects (now (trim .entry))))) × (r .0 ≤ 269 + objects) ⌝ }
 {
     let mut scratch = [0u8; 1];
-    let p = put_trim_fields(&mut scratch, BitPos::new(0), trim, objects);
-    1 + p.raw()
+    let start = BitPos::new(0);
+    let fields = put_trim_fields(&mut scratch, start, trim, objects).since(start);
+    BitCount::new(1).plus(fields)
 }
 
 // The object element, with n bits inside.
@@ -72,16 +76,16 @@ fn put_object_element(
     q: Programme,
     t: Timing,
     records: &[u8],
-    n: u32,
+    n: BitCount,
 ) -> BitPos
     requires { ⌜ at .0 ≤ 1300000 ⌝ }
     requires { ⌜ (t .blocks ≤ 8) × (24 * (q .objects * (t .blocks)) ≤ length (now records)) ⌝ }
-    requires { ⌜ (n ≤ 200000) × (n ≡ 1 + length (objectBits q t (now records))) ⌝ }
+    requires { ⌜ (n .0 ≤ 200000) × (n .0 ≡ 1 + length (objectBits q t (now records))) ⌝ }
     ensures { λ r. ⌜ Laid (now (out .entry)) (now (out .exit)) (at .0) (r .0) (elementBits 1 (objectBits q t (now (records .entry)))) ⌝ }
     ensures { λ r. ⌜ r .0 ≤ at .0 + 260 + 616 * (q .objects) ⌝ }
 {
     let v = size_for(n);
-    let pad = minus(8 * (v + 1), n);
+    let pad = padding(v, n);
     let p = put_front(out, at, 1, v);
     let p = put_object_fields(out, p, q, t, records);
     put_zeros(out, p, pad)
@@ -94,32 +98,32 @@ fn put_extended_element(
     records: &[u8],
     count: usize,
     groups: Groups,
-    n: u32,
+    n: BitCount,
 ) -> BitPos
     requires { ⌜ at .0 ≤ 1600000 ⌝ }
     requires { ⌜ (count ≤ 2040) × (24 * count ≤ length (now records)) ⌝ }
     requires { ⌜ Needed (recordsAt (now records) count 0) groups ⌝ }
-    requires { ⌜ (n ≤ 200000) × (n ≡ 1 + length (extendedElementBits (recordsAt (now records) count 0))) ⌝ }
+    requires { ⌜ (n .0 ≤ 200000) × (n .0 ≡ 1 + length (extendedElementBits (recordsAt (now records) count 0))) ⌝ }
     ensures { λ r. ⌜ Laid (now (out .entry)) (now (out .exit)) (at .0) (r .0) (elementBits 5 (extendedElementBits (recordsAt (now (records .entry)) count 0))) ⌝ }
     ensures { λ r. ⌜ r .0 ≤ at .0 + 60 + 22 * count ⌝ }
 {
     let v = size_for(n);
-    let pad = minus(8 * (v + 1), n);
+    let pad = padding(v, n);
     let p = put_front(out, at, 5, v);
     let p = put_extended_fields(out, p, records, count, groups);
     put_zeros(out, p, pad)
 }
 
 // The trim element, with n bits inside.
-fn put_trim_element(out: &mut [u8], at: BitPos, trim: &[u8], objects: u8, n: u32) -> BitPos
+fn put_trim_element(out: &mut [u8], at: BitPos, trim: &[u8], objects: u8, n: BitCount) -> BitPos
     requires { ⌜ at .0 ≤ 1600000 ⌝ }
     requires { ⌜ 94 + objects ≤ length (now trim) ⌝ }
-    requires { ⌜ (n ≤ 200000) × (n ≡ 1 + length (trimElementBits (trimAt objects (now trim)))) ⌝ }
+    requires { ⌜ (n .0 ≤ 200000) × (n .0 ≡ 1 + length (trimElementBits (trimAt objects (now trim)))) ⌝ }
     ensures { λ r. ⌜ Laid (now (out .entry)) (now (out .exit)) (at .0) (r .0) (elementBits 2 (trimElementBits (trimAt objects (now (trim .entry))))) ⌝ }
     ensures { λ r. ⌜ r .0 ≤ at .0 + 300 + objects ⌝ }
 {
     let v = size_for(n);
-    let pad = minus(8 * (v + 1), n);
+    let pad = padding(v, n);
     let p = put_front(out, at, 2, v);
     let p = put_trim_fields(out, p, trim, objects);
     put_zeros(out, p, pad)
@@ -133,11 +137,11 @@ pub fn put_object_element_if(
     q: Programme,
     t: Timing,
     records: &[u8],
-    n: u32,
+    n: BitCount,
 ) -> BitPos
     requires { ⌜ at .0 ≤ 1300000 ⌝ }
     requires { ⌜ (t .blocks ≤ 8) × (24 * (q .objects * (t .blocks)) ≤ length (now records)) ⌝ }
-    requires { ⌜ (n ≤ 200000) × (n ≡ 1 + length (objectBits q t (now records))) ⌝ }
+    requires { ⌜ (n .0 ≤ 200000) × (n .0 ≡ 1 + length (objectBits q t (now records))) ⌝ }
     ensures { λ r. ⌜ Laid (now (out .entry)) (now (out .exit)) (at .0) (r .0) (only on (elementBits 1 (objectBits q t (now (records .entry))))) ⌝ }
     ensures { λ r. ⌜ r .0 ≤ at .0 + 260 + 616 * (q .objects) ⌝ }
 {
@@ -154,12 +158,12 @@ pub fn put_extended_element_if(
     records: &[u8],
     count: usize,
     groups: Groups,
-    n: u32,
+    n: BitCount,
 ) -> BitPos
     requires { ⌜ at .0 ≤ 1600000 ⌝ }
     requires { ⌜ (count ≤ 2040) × (24 * count ≤ length (now records)) ⌝ }
     requires { ⌜ Needed (recordsAt (now records) count 0) groups ⌝ }
-    requires { ⌜ (n ≤ 200000) × (n ≡ 1 + length (extendedElementBits (recordsAt (now records) count 0))) ⌝ }
+    requires { ⌜ (n .0 ≤ 200000) × (n .0 ≡ 1 + length (extendedElementBits (recordsAt (now records) count 0))) ⌝ }
     ensures { λ r. ⌜ Laid (now (out .entry)) (now (out .exit)) (at .0) (r .0) (only on (elementBits 5 (extendedElementBits (recordsAt (now (records .entry)) count 0)))) ⌝ }
     ensures { λ r. ⌜ r .0 ≤ at .0 + 60 + 22 * count ⌝ }
 {
@@ -175,11 +179,11 @@ pub fn put_trim_element_if(
     at: BitPos,
     trim: &[u8],
     objects: u8,
-    n: u32,
+    n: BitCount,
 ) -> BitPos
     requires { ⌜ at .0 ≤ 1600000 ⌝ }
     requires { ⌜ 94 + objects ≤ length (now trim) ⌝ }
-    requires { ⌜ (n ≤ 200000) × (n ≡ 1 + length (trimElementBits (trimAt objects (now trim)))) ⌝ }
+    requires { ⌜ (n .0 ≤ 200000) × (n .0 ≡ 1 + length (trimElementBits (trimAt objects (now trim)))) ⌝ }
     ensures { λ r. ⌜ Laid (now (out .entry)) (now (out .exit)) (at .0) (r .0) (only on (elementBits 2 (trimElementBits (trimAt objects (now (trim .entry)))))) ⌝ }
     ensures { λ r. ⌜ r .0 ≤ at .0 + 300 + objects ⌝ }
 {

@@ -7,6 +7,7 @@ ghost use Rattle.writer.specs.Parts.{Enough};
 use oamd::Programme;
 use oamd::Timing;
 use oamd::WriteAnswer;
+use units::BitCount;
 use units::ByteCount;
 
 mod putting; // putting.rt: a field written
@@ -33,10 +34,10 @@ pub struct Groups {
 pub struct Measures {
     pub count: usize,
     pub groups: Groups,
-    pub object: u32,
-    pub extended: u32,
-    pub trim: u32,
-    pub whole: u32,
+    pub object: BitCount,
+    pub extended: BitCount,
+    pub trim: BitCount,
+    pub whole: BitCount,
 }
 
 fn refused(refusal: u8, place: u64) -> WriteAnswer
@@ -61,7 +62,9 @@ fn write_form(
     ensures { λ r. ⌜ (record { answer = r; out = now (payload .exit) }) ≡ fitted (now (payload .entry)) (form (tablesOf q t (now (records .entry)) (now (trim .entry)))) ⌝ }
 {
     let m = form::measure(q, t, records, trim);
-    let bytes = (m.whole + 7) / 8;
+    let whole = m.whole;
+    let length = whole.bytes();
+    let bytes = length.raw();
     if payload.len() < bytes as usize {
         return refused(11, bytes as u64);
     }
@@ -69,10 +72,11 @@ fn write_form(
         return refused(11, bytes as u64);
     }
     let p = form::put_form(payload, q, t, records, trim, m);
-    putting::put_zeros(payload, p, 8 * bytes - m.whole);
+    let pad = length.bit_count().minus(whole);
+    putting::put_zeros(payload, p, pad);
     WriteAnswer {
         place: 0,
-        length: ByteCount::new(bytes),
+        length,
         refusal: 0,
     }
 }

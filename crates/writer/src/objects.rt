@@ -15,6 +15,7 @@ use crate::timing::put_timing;
 use checks::scene_at;
 use oamd::Programme;
 use oamd::Timing;
+use units::BitCount;
 use units::BitPos;
 
 // The blocks of one object, whose records begin at a byte.
@@ -56,17 +57,17 @@ fn put_objects(out: &mut [u8], at: BitPos, records: &[u8], objects: usize, block
 }
 
 // How many bits those of one object are.
-fn object_data_width(records: &[u8], from: usize, blocks: usize) -> u32
+fn object_data_width(records: &[u8], from: usize, blocks: usize) -> BitCount
     requires { ⌜ (blocks ≤ 8) × (from + 24 * blocks ≤ length (now records)) ⌝ }
-    ensures { λ r. ⌜ (r ≡ length (objectDataBits (recordsAt (now (records .entry)) blocks from))) × (r ≤ 616) ⌝ }
+    ensures { λ r. ⌜ (r .0 ≡ length (objectDataBits (recordsAt (now (records .entry)) blocks from))) × (r .0 ≤ 616) ⌝ }
 {
-    let mut total: u32 = 0;
+    let mut total = BitCount::new(0);
     let mut k = from;
     let mut i: usize = 0;
     while i < blocks {
         let s = scene_at(records, k);
         let width = block_width(i == 0, s);
-        total = total + width;
+        total = total.plus(width);
         k = k + 24;
         i = i + 1;
     }
@@ -74,17 +75,17 @@ fn object_data_width(records: &[u8], from: usize, blocks: usize) -> u32
 }
 
 // And those of all.
-pub fn objects_width(records: &[u8], objects: usize, blocks: usize) -> u32
+pub fn objects_width(records: &[u8], objects: usize, blocks: usize) -> BitCount
     requires { ⌜ (objects ≤ 255) × (blocks ≤ 8) × (24 * (objects * blocks) ≤ length (now records)) ⌝ }
-    ensures { λ r. ⌜ (r ≡ length (eachBits (λ j rs. objectDataBits rs) 0 (byObject blocks objects (recordsAt (now (records .entry)) (objects * blocks) 0)))) × (r ≤ 616 * objects) ⌝ }
+    ensures { λ r. ⌜ (r .0 ≡ length (eachBits (λ j rs. objectDataBits rs) 0 (byObject blocks objects (recordsAt (now (records .entry)) (objects * blocks) 0)))) × (r .0 ≤ 616 * objects) ⌝ }
 {
     let step = 24 * blocks;
-    let mut total: u32 = 0;
+    let mut total = BitCount::new(0);
     let mut k: usize = 0;
     let mut i: usize = 0;
     while i < objects {
         let width = object_data_width(records, k, blocks);
-        total = total + width;
+        total = total.plus(width);
         k = k + step;
         i = i + 1;
     }

@@ -7,6 +7,7 @@ ghost use Rattle.bits.specs.Writes.{toBits, only};
 ghost use Rattle.writer.specs.Laying.{Laid, putWord, setWord};
 use bits::word;
 use coding::Packed;
+use units::BitCount;
 use units::BitPos;
 
 // Stores a byte, where the buffer has it.
@@ -58,7 +59,7 @@ fn put_inside(out: &mut [u8], at: BitPos, w: u32, v: u32) -> BitPos
     let x = word(out, at);
     let y = mixed(x, p % 8, w, v);
     store_word(out, (p / 8) as usize, y);
-    BitPos::new(p + w)
+    at.after(BitCount::new(w))
 }
 
 // The same at any position; past the end of the buffer nothing is stored, so that the length of a form costs little.
@@ -71,7 +72,7 @@ pub fn put(out: &mut [u8], at: BitPos, w: u32, v: u32) -> BitPos
     if ((p / 8) as usize) < out.len() {
         return put_inside(out, at, w, v);
     }
-    BitPos::new(p + w)
+    at.after(BitCount::new(w))
 }
 
 // A field where a flag says that it is there.
@@ -98,21 +99,23 @@ pub fn put_both(a: bool, b: bool, out: &mut [u8], at: BitPos, w: u32, v: u32) ->
 
 // Packed bits.
 pub fn put_packed(out: &mut [u8], at: BitPos, p: Packed) -> BitPos
-    requires { ⌜ (1 ≤ p .width) × (p .width ≤ 24) × (at .0 < 4000000000) ⌝ }
-    ensures { λ r. ⌜ Laid (now (out .entry)) (now (out .exit)) (at .0) (r .0) (toBits (p .width) (p .value)) ⌝ }
-    ensures { λ r. ⌜ r .0 ≡ at .0 + p .width ⌝ }
+    requires { ⌜ (1 ≤ p .width .0) × (p .width .0 ≤ 24) × (at .0 < 4000000000) ⌝ }
+    ensures { λ r. ⌜ Laid (now (out .entry)) (now (out .exit)) (at .0) (r .0) (toBits (p .width .0) (p .value)) ⌝ }
+    ensures { λ r. ⌜ r .0 ≡ at .0 + p .width .0 ⌝ }
 {
-    put(out, at, p.width, p.value)
+    let width = p.width;
+    put(out, at, width.raw(), p.value)
 }
 
 // Fewer than 8 zeros.
-pub fn put_zeros(out: &mut [u8], at: BitPos, n: u32) -> BitPos
-    requires { ⌜ (n < 8) × (at .0 < 4000000000) ⌝ }
-    ensures { λ r. ⌜ Laid (now (out .entry)) (now (out .exit)) (at .0) (r .0) (replicate n 0) ⌝ }
-    ensures { λ r. ⌜ r .0 ≡ at .0 + n ⌝ }
+pub fn put_zeros(out: &mut [u8], at: BitPos, n: BitCount) -> BitPos
+    requires { ⌜ (n .0 < 8) × (at .0 < 4000000000) ⌝ }
+    ensures { λ r. ⌜ Laid (now (out .entry)) (now (out .exit)) (at .0) (r .0) (replicate (n .0) 0) ⌝ }
+    ensures { λ r. ⌜ r .0 ≡ at .0 + n .0 ⌝ }
 {
-    if n == 0 {
+    let w = n.raw();
+    if w == 0 {
         return at;
     }
-    put(out, at, n, 0)
+    put(out, at, w, 0)
 }

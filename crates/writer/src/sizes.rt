@@ -6,21 +6,41 @@ ghost use Prim.Native.Nat.{_-_};
 ghost use Rattle.bits.specs.Writes.{only};
 ghost use Rattle.written.specs.Form.{groupBits, sizeBits, sizeFor};
 use crate::putting::put;
+use units::BitCount;
 use units::BitPos;
+use units::ByteCount;
 
 // a - b, or 0.
-pub fn minus(a: u32, b: u32) -> u32
+fn minus(a: u32, b: u32) -> u32
     ensures { λ r. ⌜ r ≡ a - b ⌝ }
 {
     if a < b { 0 } else { a - b }
 }
 
 // The size of an element with n bits inside.
-pub fn size_for(n: u32) -> u32
-    requires { ⌜ (1 ≤ n) × (n ≤ 2000000) ⌝ }
-    ensures { λ r. ⌜ (r ≡ sizeFor n) × (8 * (r + 1) ≤ n + 7) × (n ≤ 8 * (r + 1)) ⌝ }
+pub fn size_for(n: BitCount) -> u32
+    requires { ⌜ (1 ≤ n .0) × (n .0 ≤ 2000000) ⌝ }
+    ensures { λ r. ⌜ (r ≡ sizeFor (n .0)) × (8 * (r + 1) ≤ n .0 + 7) × (n .0 ≤ 8 * (r + 1)) ⌝ }
 {
-    minus((n + 7) / 8, 1)
+    let bytes = n.bytes();
+    minus(bytes.raw(), 1)
+}
+
+// The bits that an element of size v has inside: its size counts the bytes, less 1.
+pub fn room_of(v: u32) -> BitCount
+    requires { ⌜ v ≤ 2000000 ⌝ }
+    ensures { λ r. ⌜ r .0 ≡ 8 * (v + 1) ⌝ }
+{
+    let bytes = ByteCount::new(v + 1);
+    bytes.bit_count()
+}
+
+// The zeros behind n bits inside an element of size v.
+pub fn padding(v: u32, n: BitCount) -> BitCount
+    requires { ⌜ v ≤ 2000000 ⌝ }
+    ensures { λ r. ⌜ r .0 ≡ 8 * (v + 1) - n .0 ⌝ }
+{
+    room_of(v).minus(n)
 }
 
 fn put_group(out: &mut [u8], at: BitPos, digit: u32, more: u32) -> BitPos

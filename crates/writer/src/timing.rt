@@ -87,7 +87,7 @@ pub fn put_timing(out: &mut [u8], at: BitPos, t: Timing) -> BitPos
     ensures { λ r. ⌜ r .0 ≤ at .0 + 204 ⌝ }
 {
     let updates = t.updates;
-    let first = sample_offset(updates);
+    let first = sample_offset(updates).raw();
     let offset = coded_offset(first as u8);
     let more = less(t.blocks, 1);
     let p = put_offset(out, at, offset);

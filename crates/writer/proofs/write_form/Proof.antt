@@ -1,8 +1,8 @@
 -- `write_form` meets its contract: the length first, then the room, then the bytes. Assumes nothing.
 use borrow.Author.Needs.{needs}
 use denote.Ref.{now}
-use mathlib.Core.Path.{ap, _∙_}
-use Prim.Native.Nat.{ℕ, _+_, _-_, _*_, _/_}
+use mathlib.Core.Path.{_≡_, sym, ap, _∙_}
+use Prim.Native.Nat.{ℕ, _+_, _*_, _/_}
 use native.Mathlib.Omega.{arith}
 use Rattle.oamd.specs.declared.WriteAnswer.{WriteAnswer}
 use Rattle.written.specs.Answer.{tablesOf}
@@ -14,45 +14,53 @@ use Rattle.writer.proofs.write_form.Tie as tie
 returns : tie.Need-returns
 returns c =
     let room = c .before in
-    let length = room .before .before in
-    let start = length .before .before .before .before in
-    let a = start .args in
+    let raw = room .before in
+    let bytes = raw .before in
+    let length = bytes .before .before in
+    let a = length .before .before .before .before .args in
+    let whole = raw .raw .ensures ∙ bytes .bytes .ensures ∙ ap (λ (n : ℕ). (n + 7) / 8) (length .measure .ensures .whole) in
     ap (λ (r : WriteAnswer). gives r (now (a .payload))) (c .refused .ensures)
-    ∙ no-room (now (a .payload)) (tablesOf (a .q) (a .t) (now (a .records)) (now (a .trim))) _ (ap (λ (n : ℕ). (n + 7) / 8) (length .measure .ensures .whole)) (room .if1 .taken)
+    ∙ no-room (now (a .payload)) (tablesOf (a .q) (a .t) (now (a .records)) (now (a .trim))) _ whole (room .if1 .taken)
 
 returns-2 : tie.Need-returns-2
 returns-2 c =
     let most = c .before in
     let room = most .before in
-    let length = room .before .before in
-    let start = length .before .before .before .before in
-    let a = start .args in
+    let raw = room .before in
+    let bytes = raw .before in
+    let length = bytes .before .before in
+    let a = length .before .before .before .before .args in
+    let whole = raw .raw .ensures ∙ bytes .bytes .ensures ∙ ap (λ (n : ℕ). (n + 7) / 8) (length .measure .ensures .whole) in
     ap (λ (r : WriteAnswer). gives r (now (a .payload))) (c .refused2 .ensures)
-    ∙ too-long (now (a .payload)) (tablesOf (a .q) (a .t) (now (a .records)) (now (a .trim))) _ (ap (λ (n : ℕ). (n + 7) / 8) (length .measure .ensures .whole)) (room .if1 .left) (most .if2 .taken)
+    ∙ too-long (now (a .payload)) (tablesOf (a .q) (a .t) (now (a .records)) (now (a .trim))) _ whole (room .if1 .left) (most .if2 .taken)
 
 returns-3 : tie.Need-returns-3
 returns-3 c =
-    let pad = c .before .before .before in
-    let laid = pad .before .before .before .before .before in
+    let zeros = c .before .before in
+    let pad = zeros .before .before in
+    let laid = pad .before .before .before .before in
     let most = laid .before .before in
     let room = most .before in
-    let length = room .before .before in
+    let raw = room .before in
+    let bytes = raw .before in
+    let length = bytes .before .before in
     let buffer = length .before in
-    let start = buffer .before .before .before in
-    let a = start .args in
-    let m = length .measure .result in
+    let a = buffer .before .before .before .args in
+    let m = length .measure .ensures in
     let form = laid .put-form .ensures in
-    let zeros = pad .put-zeros .ensures in
-    fits (now (a .payload)) (tablesOf (a .q) (a .t) (now (a .records)) (now (a .trim))) _ (ap (λ (n : ℕ). (n + 7) / 8) (length .measure .ensures .whole)) _ (pad .put-zeros .result .0)
-    (8 * ((m .whole + 7) / 8) - m .whole) _ (c .new .ensures) (λ i. omega (arith, buffer .slice-known .given i)) (room .if1 .left) (most .if2 .left)
-    (laid-bind form (zeros .0)) (omega (arith, form .next, zeros .1)) (omega arith)
+    let whole = raw .raw .ensures ∙ bytes .bytes .ensures ∙ ap (λ (n : ℕ). (n + 7) / 8) (m .whole) in
+    let bits : pad .before .bit-count .result .0 ≡ 8 * raw .raw .result = omega (arith, pad .before .bit-count .ensures, raw .raw .ensures, bytes .bytes .ensures, m .small .4) in
+    fits (now (a .payload)) (tablesOf (a .q) (a .t) (now (a .records)) (now (a .trim))) _ whole _ (zeros .put-zeros .result .0) (pad .minus .result .0) _ (sym (raw .raw .ensures))
+    (λ i. omega (arith, buffer .slice-known .given i)) (room .if1 .left) (most .if2 .left) (laid-bind form (zeros .put-zeros .ensures .0))
+    (omega (arith, form .next, m .whole, zeros .put-zeros .ensures .1, pad .minus .ensures, bits, raw .raw .ensures, bytes .bytes .ensures)) (omega (arith, pad .minus .ensures, bits, raw .raw .ensures, bytes .bytes .ensures))
 
 pub write-form-spec : {M : Type 1} → statement M
 write-form-spec =
     tie.close
     (tie.spec
     (λ c κs. search needs)
-    (λ c. search needs)
+    (λ c κs. search needs)
+    (λ c κs. search needs)
     (λ c. search needs)
     (λ c. search needs)
     (λ c κs. search needs)
@@ -61,8 +69,7 @@ write-form-spec =
     (λ c κs. search needs)
     returns-2
     (λ c κs. search needs)
-    (λ c. search needs)
-    (λ c. search needs)
+    (λ c κs. search needs)
     (λ c κs. search needs)
     (λ c κs. search needs)
     (λ c. search needs)

@@ -14,7 +14,7 @@ first [] d h = absurd (omega arith)
 first (u ∷ us) d h = refl
 
 returns : tie.Need-returns
-returns c = ap (λ (n : ℕ). n % 32) (c .raw .ensures ∙ first (c .before .before .args .t1) _ (search needs))
+returns c = c .behind-step .ensures ∙ ap (λ (n : ℕ). n % 32) (first (c .before .before .before .args .t1) _ (search needs))
 
 pub sample-offset-spec : {M : Type 1} → statement M
 sample-offset-spec = tie.close (tie.spec (λ c. search needs) (λ c κs. search needs) returns)

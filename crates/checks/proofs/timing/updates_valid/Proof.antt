@@ -10,7 +10,7 @@ use Rattle.checks.proofs.timing.updates_valid.Statement.{statement}
 use Rattle.checks.proofs.timing.updates_valid.Tie as tie
 
 abbrev Inv-loop : tie.InvT-loop
-Inv-loop offset blocks updates used valid₀ i₀ valid i = SoFar (updateValid offset) used updates valid i
+Inv-loop offset blocks updates used valid₀ i₀ valid i = SoFar (updateValid (offset .0)) used updates valid i
 
 abbrev μ-loop : tie.MeasureT-loop
 μ-loop offset blocks updates used valid₀ i₀ valid i = 8 - i

@@ -9,6 +9,15 @@ use Rattle.written.specs.Form.{distanceBits}
 use Rattle.coding.proofs.parts.distance.Statement.{statement}
 use Rattle.coding.proofs.parts.distance.Tie as tie
 
+joined-requires-2 : tie.Need-joined-requires-2
+joined-requires-2 c κs =
+    let third = c .before .kept-if2 .ensures .1 in
+    let second = c .before .before .kept-if .ensures .1 in
+    let index = c .before .before .before .before .field3 .ensures .1 in
+    let infinite = c .before .before .before .before .before .before .field2 .ensures .1 in
+    let given = c .before .before .before .before .before .before .before .before .field .ensures in
+    (omega (arith, c .joined .ensures .1, third, second, index, infinite, given .1), given .0 .small, c .joined .ensures .0 .small)
+
 returns : tie.Need-returns
 unfolding distanceBits
 returns c = (
@@ -31,5 +40,5 @@ distance-spec =
     (λ c κs. search needs)
     (λ c κs. search needs)
     (λ c κs. search needs)
-    (λ c κs. search needs)
+    joined-requires-2
     returns)

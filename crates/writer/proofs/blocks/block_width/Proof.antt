@@ -1,4 +1,6 @@
 use borrow.Author.Needs.{needs}
+use mathlib.Core.Path.{_≡_, _∙_}
+use Prim.Native.Nat.{_+_}
 use native.Mathlib.Omega.{arith}
 use Rattle.coding.proofs.Joins.{packs-length}
 use Rattle.writer.proofs.Parts.{block-length}
@@ -7,12 +9,17 @@ use Rattle.writer.proofs.blocks.block_width.Tie as tie
 
 returns : tie.Need-returns
 returns c =
-    let a = c .before .before .before .before .before .before .args in
-    let opening = c .before .before .before .before .opening .ensures in
-    let ending = c .before .before .before .ending .ensures in
-    let middle = c .before .before .middle-width .ensures in (
-      block-length (a .first) (a .s) (c .before .before .before .before .before .carries .result) _ _ _ (c .before .before .before .before .before .carries .ensures) (packs-length (opening .0)) (middle .0) (packs-length (ending .0)),
-      omega (arith, middle .1, opening .1 .1, ending .1 .1),
+    let sum = c .before in
+    let middle = sum .before in
+    let ending = middle .before .before in
+    let opening = ending .before .before in
+    let sent = opening .before in
+    let a = sent .before .args in
+    let total : c .plus2 .result .0 ≡ opening .opening .result .width .0 + middle .middle-width .result .0 + ending .ending .result .width .0 =
+    omega (arith, c .plus2 .ensures, sum .plus .ensures, middle .middle-width .ensures .1, opening .opening .ensures .1 .1, ending .ending .ensures .1 .1) in (
+      total
+          ∙ block-length (a .first) (a .s) (sent .carries .result) _ _ _ (sent .carries .ensures) (packs-length (opening .opening .ensures .0)) (middle .middle-width .ensures .0) (packs-length (ending .ending .ensures .0)),
+      omega (arith, total, middle .middle-width .ensures .1, opening .opening .ensures .1 .1, ending .ending .ensures .1 .1),
     )
 
 pub block-width-spec : {M : Type 1} → statement M
@@ -23,6 +30,6 @@ block-width-spec =
     (λ c κs. search needs)
     (λ c κs. search needs)
     (λ c κs. search needs)
-    (λ c. search needs)
-    (λ c. search needs)
+    (λ c κs. search needs)
+    (λ c κs. search needs)
     returns)

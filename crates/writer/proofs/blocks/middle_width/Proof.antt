@@ -1,4 +1,6 @@
 use borrow.Author.Needs.{needs}
+use mathlib.Core.Path.{_≡_, _∙_}
+use Prim.Native.Nat.{_+_}
 use native.Mathlib.Omega.{arith}
 use Rattle.coding.proofs.Joins.{packs-length}
 use Rattle.writer.proofs.Parts.{middle-length, no-middle}
@@ -7,16 +9,21 @@ use Rattle.writer.proofs.blocks.middle_width.Tie as tie
 
 returns : tie.Need-returns
 returns c =
-    let a = c .before .before .before .before .before .before .before .args in
-    let place = c .before .before .before .before .before .placing .ensures in
-    let around = c .before .before .before .before .around .ensures in
-    let size = c .before .before .before .sized .ensures in (
-      middle-length (a .on) (a .first) (a .s) _ _ _ (c .before .before .before .before .before .before .if1 .taken) (packs-length (place .0)) (packs-length (around .0)) (packs-length (size .0)),
-      omega (arith, place .1 .1, around .1 .1, size .1 .1),
+    let sum = c .before in
+    let size = sum .before .before in
+    let around = size .before .before in
+    let place = around .before .before in
+    let test = place .before in
+    let a = test .before .args in
+    let total : c .plus2 .result .0 ≡ place .placing .result .width .0 + around .around .result .width .0 + size .sized .result .width .0 =
+    omega (arith, c .plus2 .ensures, sum .plus .ensures, place .placing .ensures .1 .1, around .around .ensures .1 .1, size .sized .ensures .1 .1) in (
+      total
+          ∙ middle-length (a .on) (a .first) (a .s) _ _ _ (test .if1 .taken) (packs-length (place .placing .ensures .0)) (packs-length (around .around .ensures .0)) (packs-length (size .sized .ensures .0)),
+      omega (arith, total, place .placing .ensures .1 .1, around .around .ensures .1 .1, size .sized .ensures .1 .1),
     )
 
 returns-2 : tie.Need-returns-2
-returns-2 c = let a = c .before .args in (no-middle (a .on) (a .first) (a .s) (c .if1 .left), omega arith)
+returns-2 c = let a = c .before .before .args in (c .new .ensures ∙ no-middle (a .on) (a .first) (a .s) (c .before .if1 .left), omega (arith, c .new .ensures))
 
 pub middle-width-spec : {M : Type 1} → statement M
 middle-width-spec =
@@ -25,7 +32,8 @@ middle-width-spec =
     (λ c κs. search needs)
     (λ c κs. search needs)
     (λ c κs. search needs)
-    (λ c. search needs)
-    (λ c. search needs)
+    (λ c κs. search needs)
+    (λ c κs. search needs)
     returns
+    (λ c κs. search needs)
     returns-2)

@@ -10,7 +10,7 @@ use Rattle.written.specs.Form.{extendedElementBits}
 use Rattle.written.specs.Answer.{recordsAt, tablesOf}
 use Rattle.writer.proofs.Extra.{needed-of, extended-there}
 use Rattle.writer.proofs.Trims.{trim-there}
-use Rattle.writer.proofs.Whole.{object-any, form-length}
+use Rattle.writer.proofs.Whole.{all-bits, object-any, form-length}
 use Rattle.writer.proofs.form.measure.Statement.{statement}
 use Rattle.writer.proofs.form.measure.Tie as tie
 
@@ -31,7 +31,9 @@ element-bits-requires-3 c κs =
 
 returns : tie.Need-returns
 returns c =
-    let third = c .before in
+    let one = c .before .before .before in
+    let before = one .before .before in
+    let third = before .before in
     let second = third .before .before in
     let some = second .before in
     let first = some .before in
@@ -48,7 +50,10 @@ returns c =
     let needed = needed-of records (count .0) (groups .groups-of .ensures) in
     let object = blocks .object-inside .ensures .0 ∙ ap (λ (l : List ℕ). 1 + length l) (object-any (a .q) (a .t) records trim) in
     let extended = extras .extended-inside .ensures .0 ∙ ap (λ (k : ℕ). 1 + length (extendedElementBits (recordsAt records k 0))) (count .0) in
-    let header = c .header-bits .ensures in
+    let header = before .header-bits .ensures in
+    let total =
+    all-bits _ _ _ _ _ _ _ _ _ (one .before .new .ensures) (one .plus .ensures) (c .before .before .plus2 .ensures) (c .before .plus3 .ensures) (c .plus4 .ensures)
+    (header .1) (first .element-bits .ensures .1) (second .element-bits2 .ensures .1) (third .element-bits3 .ensures .1) in
     record {
       count = count .0;
       needed = needed;
@@ -56,14 +61,15 @@ returns c =
       extended = extended;
       trim = trims .trim-inside .ensures .0;
       whole =
-          form-length (tablesOf (a .q) (a .t) records trim) _ _ (extended-there needed (some .either .ensures)) (trim-there (a .q .objects) trim) _ _ _ _ _ _ _
+          total .0
+          ∙ form-length (tablesOf (a .q) (a .t) records trim) _ _ (extended-there needed (some .either .ensures)) (trim-there (a .q .objects) trim) _ _ _ _ _ _ _
           (header .0) object extended (trims .trim-inside .ensures .0) (first .element-bits .ensures .0) (second .element-bits2 .ensures .0) (third .element-bits3 .ensures .0);
       small = (
         omega (arith, count .1, start .pre .blocks),
         omega (arith, blocks .object-inside .ensures .1, start .good),
         omega (arith, extras .extended-inside .ensures .1, count .1, start .pre .blocks),
         omega (arith, trims .trim-inside .ensures .1, start .good),
-        omega (arith, header .1, first .element-bits .ensures .1, second .element-bits2 .ensures .1, third .element-bits3 .ensures .1),
+        omega (arith, total .1),
       );
     }
 
@@ -82,8 +88,9 @@ measure-spec =
     (λ c. search needs)
     element-bits-requires-3
     (λ c κs. search needs)
-    (λ c. search needs)
-    (λ c. search needs)
-    (λ c. search needs)
-    (λ c. search needs)
+    (λ c κs. search needs)
+    (λ c κs. search needs)
+    (λ c κs. search needs)
+    (λ c κs. search needs)
+    (λ c κs. search needs)
     returns)

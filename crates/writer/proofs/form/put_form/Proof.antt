@@ -10,7 +10,7 @@ use lib.ListN.{length}
 use Rattle.bits.specs.Writes.{only}
 use Rattle.written.specs.Form.{extendedElementBits, elementBits}
 use Rattle.written.specs.Answer.{recordsAt, tablesOf}
-use Rattle.writer.proofs.LayLaws.{laid-is}
+use Rattle.writer.proofs.LayLaws.{laid-bind, laid-is, laid-length}
 use Rattle.writer.proofs.Extra.{needed-of, extended-there}
 use Rattle.writer.proofs.Trims.{trim-there}
 use Rattle.writer.proofs.Whole.{object-any, form-laid}
@@ -19,7 +19,7 @@ use Rattle.writer.proofs.form.put_form.Tie as tie
 
 put-object-element-if-requires : tie.Need-put-object-element-if-requires
 put-object-element-if-requires c κs =
-    let count = c .before .before .before .before in
+    let count = c .before .before .before .before .before in
     let header = count .before .before .before .before in
     let zero = header .before in
     let start = zero .before .before .before .before .before .before .before .before .before .before .before .before in
@@ -31,8 +31,8 @@ put-object-element-if-requires c κs =
 
 put-extended-element-if-requires : tie.Need-put-extended-element-if-requires
 put-extended-element-if-requires c κs =
-    let object = c .before .before .before in
-    let count = object .before .before .before .before .before in
+    let object = c .before .before .before .before in
+    let count = object .before .before .before .before .before .before in
     let header = count .before .before .before .before in
     let zero = header .before in
     let start = zero .before .before .before .before .before .before .before .before .before .before .before .before in
@@ -45,9 +45,9 @@ put-extended-element-if-requires c κs =
 
 put-trim-element-if-requires : tie.Need-put-trim-element-if-requires
 put-trim-element-if-requires c κs =
-    let extended = c .before .before .before in
-    let object = extended .before .before .before .before in
-    let count = object .before .before .before .before .before in
+    let extended = c .before .before .before .before in
+    let object = extended .before .before .before .before .before in
+    let count = object .before .before .before .before .before .before in
     let header = count .before .before .before .before in
     let zero = header .before in
     let start = zero .before .before .before .before .before .before .before .before .before .before .before .before in
@@ -56,12 +56,24 @@ put-trim-element-if-requires c κs =
       (start .pre .0 .trim, (m .small .3, m .trim)),
     )
 
+same-length : tie.Need-same-length
+same-length c =
+    let trim = c .before .before in
+    let extended = trim .before .before .before .before .before in
+    let object = extended .before .before .before .before .before in
+    let count = object .before .before .before .before .before .before in
+    let header = count .before .before .before .before in
+    laid-length
+    (laid-bind (header .put-header .ensures .0)
+    (laid-bind (count .put .ensures .0)
+    (laid-bind (object .put-object-element-if .ensures .0) (laid-bind (extended .put-extended-element-if .ensures .0) (trim .put-trim-element-if .ensures .0)))))
+
 returns : tie.Need-returns
 returns c =
     let trim = c .before .before in
-    let extended = trim .before .before .before .before in
-    let object = extended .before .before .before .before in
-    let count = object .before .before .before .before .before in
+    let extended = trim .before .before .before .before .before in
+    let object = extended .before .before .before .before .before in
+    let count = object .before .before .before .before .before .before in
     let header = count .before .before .before .before in
     let zero = header .before in
     let three = zero .before .before in
@@ -98,5 +110,5 @@ put-form-spec =
     put-object-element-if-requires
     put-extended-element-if-requires
     put-trim-element-if-requires
-    (λ c. search needs)
+    same-length
     returns)

@@ -1,18 +1,27 @@
 use borrow.Author.Needs.{needs}
+use mathlib.Core.Path.{_≡_}
+use Prim.Native.Nat.{_+_}
 use native.Mathlib.Omega.{arith}
 use Rattle.writer.proofs.frames.extended_inside.Statement.{statement}
 use Rattle.writer.proofs.frames.extended_inside.Tie as tie
 
 returns : tie.Need-returns
-returns c = (omega (arith, c .before .before .put-extended-fields .ensures .0 .next, c .before .before .before .new .ensures, c .raw .ensures), omega (arith, c .before .before .put-extended-fields .ensures .1, c .before .before .before .new .ensures, c .raw .ensures))
+returns c =
+    let since = c .before .before in
+    let fields = since .before .before in
+    let zero = fields .before .before in
+    let laid = fields .put-extended-fields .ensures in
+    let n : c .plus .result .0 ≡ 1 + since .since .result .0 = omega (arith, c .plus .ensures, c .before .new2 .ensures, since .since .ensures, zero .new .ensures, laid .1) in
+    (omega (arith, n, since .since .ensures, zero .new .ensures, laid .0 .next), omega (arith, n, since .since .ensures, zero .new .ensures, laid .1))
 
 pub extended-inside-spec : {M : Type 1} → statement M
 extended-inside-spec =
     tie.close
     (tie.spec
-    (λ c. search needs)
-    (λ c κs. search needs)
-    (λ c κs. search needs)
     (λ c κs. search needs)
     (λ c. search needs)
+    (λ c κs. search needs)
+    (λ c κs. search needs)
+    (λ c κs. search needs)
+    (λ c κs. search needs)
     returns)

@@ -19,7 +19,7 @@ put-zeros-requires c κs =
     let size = pad .before in
     let start = size .before .before .before in
     let v = size .size-for .ensures in
-    (omega (arith, v .1, v .2, pad .minus .ensures), omega (arith, front .put-front .ensures .1, fields .put-trim-fields .ensures .1, start .pre .0))
+    (omega (arith, v .1, v .2, pad .padding .ensures), omega (arith, front .put-front .ensures .1, fields .put-trim-fields .ensures .1, start .pre .0))
 
 same-length : tie.Need-same-length
 same-length c =
@@ -37,8 +37,8 @@ returns c =
     let size = pad .before in
     let start = size .before .before .before in
     let v = size .size-for .ensures in (
-      framed-laid _ _ _ _ _ _ _ _ _ (start .args .n) _ _ _ (v .0) (pad .minus .ensures) (start .pre .1 .1 .1) (front .put-front .ensures .0) (fields .put-trim-fields .ensures .0) (zeros .put-zeros .ensures .0),
-      omega (arith, front .put-front .ensures .1, fields .put-trim-fields .ensures .1, zeros .put-zeros .ensures .1, v .1, v .2, pad .minus .ensures),
+      framed-laid _ _ _ _ _ _ _ _ _ (start .args .n .0) _ _ _ (v .0) (pad .padding .ensures) (start .pre .1 .1 .1) (front .put-front .ensures .0) (fields .put-trim-fields .ensures .0) (zeros .put-zeros .ensures .0),
+      omega (arith, front .put-front .ensures .1, fields .put-trim-fields .ensures .1, zeros .put-zeros .ensures .1, v .1, v .2, pad .padding .ensures),
     )
 
 pub put-trim-element-spec : {M : Type 1} → statement M
@@ -46,8 +46,6 @@ put-trim-element-spec =
     tie.close
     (tie.spec
     (λ c κs. search needs)
-    (λ c. search needs)
-    (λ c. search needs)
     (λ c κs. search needs)
     (λ c κs. search needs)
     put-trim-fields-requires

@@ -15,37 +15,42 @@ use Rattle.writer.proofs.objects.objects_width.Tie as tie
 
 abbrev Inv-loop : tie.InvT-loop
 Inv-loop records objects blocks step total₀ k₀ i₀ total k i =
-    (i ≤ objects) × (k + 24 * ((objects - i) * blocks) ≤ length records) × (total ≤ 616 * i)
-    × (total + length (eachBits (λ j rs. objectDataBits rs) i (byObject blocks (objects - i) (recordsAt records ((objects - i) * blocks) k)))
+    (i ≤ objects) × (k + 24 * ((objects - i) * blocks) ≤ length records) × (total .0 ≤ 616 * i)
+    × (total .0 + length (eachBits (λ j rs. objectDataBits rs) i (byObject blocks (objects - i) (recordsAt records ((objects - i) * blocks) k)))
     ≡ length (eachBits (λ j rs. objectDataBits rs) 0 (byObject blocks objects (recordsAt records (objects * blocks) 0))))
 
 abbrev μ-loop : tie.MeasureT-loop
 μ-loop records objects blocks step total₀ k₀ i₀ total k i = objects - i
 
 loop-holds : tie.Need-loop-holds Inv-loop μ-loop
-loop-holds c = (search needs, simp sub-zero (search needs), search needs, simp (sub-zero, zero-add))
+loop-holds c = (search needs, simp sub-zero (search needs), search needs, rw (c .new .ensures) (simp (sub-zero, zero-add)))
 
 object-data-width-requires : tie.Need-object-data-width-requires Inv-loop μ-loop
 object-data-width-requires c κs =
     let h = c .before .loop in
-    let a = c .before .before .before .args in
+    let a = c .before .before .before .before .args in
     let m = left-more (a .objects) (a .blocks) (h .i) (omega arith) in
     (search needs, omega arith)
 
 add-k : tie.Need-add-k Inv-loop μ-loop
 add-k c =
-    let h = c .before .before .loop in
-    let a = c .before .before .before .before .args in
+    let h = c .before .before .before .loop in
+    let a = c .before .before .before .before .before .before .args in
     let m = left-more (a .objects) (a .blocks) (h .i) (omega arith) in
     omega arith
 
 loop-again : tie.Need-loop-again Inv-loop μ-loop
 loop-again c =
-    let h = c .before .before .loop in
-    let a = c .before .before .before .before .args in
+    let h = c .before .before .before .loop in
+    let a = c .before .before .before .before .before .before .args in
     let m = left-more (a .objects) (a .blocks) (h .i) (omega arith) in
-    let width = c .object-data-width .ensures in
-    (search needs, omega arith, omega (arith, width .1), count-more _ (objectDataBits (recordsAt (now (a .records)) (a .blocks) (h .k))) _ _ _ _ (objects-more _ _ _ (h .i) _ (search needs)) (width .0) (h .inv .3))
+    let width = c .before .object-data-width .ensures in
+    let total : c .plus .result .0 ≡ h .total .0 + c .before .object-data-width .result .0 = omega (arith, c .plus .ensures, width .1) in (
+      search needs,
+      omega arith,
+      omega (arith, total, width .1),
+      rw total (count-more _ (objectDataBits (recordsAt (now (a .records)) (a .blocks) (h .k))) _ _ _ _ (objects-more _ _ _ (h .i) _ (search needs)) (width .0) (h .inv .3)),
+    )
 
 returns : tie.Need-returns Inv-loop μ-loop
 returns c = let h = c .before .loop in (count-none _ _ _ (objects-none _ _ _ (h .i) _ (omega arith)) (h .inv .3), omega arith)
@@ -57,9 +62,10 @@ objects-width-spec =
     Inv-loop
     μ-loop
     (λ c. search needs)
+    (λ c κs. search needs)
     loop-holds
     object-data-width-requires
-    (λ c. search needs)
+    (λ c κs. search needs)
     add-k
     (λ c. search needs)
     (λ c. search needs)

@@ -1,13 +1,19 @@
 use borrow.Author.Needs.{needs}
 use denote.Ref.{now}
+use mathlib.Core.Path.{_≡_}
+use Prim.Native.Nat.{_+_}
+use native.Mathlib.Omega.{arith}
 use Rattle.writer.proofs.LayLaws.{laid-past}
 use Rattle.writer.proofs.putting.put.Statement.{statement}
 use Rattle.writer.proofs.putting.put.Tie as tie
 
 returns-2 : tie.Need-returns-2
 returns-2 c =
-    let a = c .before .before .before .before .args in
-    (laid-past (now (a .out)) (a .at .0) (c .before .before .raw .result) (c .new .result .0) (a .w) (a .v) (search needs) (search needs) (search needs), search needs)
+    let raw = c .before .before .before in
+    let start = raw .before .before in
+    let a = start .args in
+    let next : c .after .result .0 ≡ a .at .0 + a .w = omega (arith, c .after .ensures, c .before .new .ensures, start .pre) in
+    (laid-past (now (a .out)) (a .at .0) (raw .raw .result) (c .after .result .0) (a .w) (a .v) (search needs) (search needs) (omega (arith, next, raw .raw .ensures)), next)
 
 pub put-spec : {M : Type 1} → statement M
 put-spec =
@@ -18,6 +24,6 @@ put-spec =
     (λ c κs. search needs)
     (λ c. search needs)
     (λ c. search needs)
-    (λ c. search needs)
+    (λ c κs. search needs)
     (λ c κs. search needs)
     returns-2)

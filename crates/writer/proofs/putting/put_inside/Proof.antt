@@ -1,6 +1,8 @@
 -- `writer::putting::put_inside` meets its contract: the bytes that it stores are those that laying the bits gives. Assumes nothing.
 use borrow.Author.Needs.{needs}
 use denote.Ref.{now}
+use mathlib.Core.Path.{_≡_}
+use Prim.Native.Nat.{_+_}
 use native.Mathlib.Omega.{arith}
 use Rattle.writer.proofs.PutWord.{put-at}
 use Rattle.writer.proofs.putting.put_inside.Statement.{statement}
@@ -8,12 +10,17 @@ use Rattle.writer.proofs.putting.put_inside.Tie as tie
 
 returns : tie.Need-returns
 returns c =
-    let d = c .before .before .before .before .before .before .before .before .before in
-    let a = d .before .args in (
-      put-at (now (a .out)) (λ i. omega (arith, d .slice-known .given i)) (a .at .0) (c .before .before .before .before .before .before .before .before .raw .result)
-          (a .w) (a .v) (c .new .result .0) (c .before .before .before .before .before .before .word .result) (c .before .before .before .before .before .mixed .result) _
-          (omega arith) (omega arith) (search needs) (search needs) (search needs) (search needs) (search needs),
-      search needs,
+    let stored = c .before .before .before .before in
+    let mixed = stored .before .before in
+    let word = mixed .before in
+    let raw = word .before .before in
+    let buffer = raw .before in
+    let start = buffer .before in
+    let a = start .args in
+    let next : c .after .result .0 ≡ a .at .0 + a .w = omega (arith, c .after .ensures, c .before .new .ensures, start .pre) in (
+      put-at (now (a .out)) (λ i. omega (arith, buffer .slice-known .given i)) (a .at .0) (raw .raw .result) (a .w) (a .v) (c .after .result .0) (word .word .result) (mixed .mixed .result) _
+          (omega arith) (omega arith) (search needs) (omega (arith, next, raw .raw .ensures)) (search needs) (search needs) (search needs),
+      next,
     )
 
 pub put-inside-spec : {M : Type 1} → statement M
@@ -25,7 +32,7 @@ put-inside-spec =
     (λ c κs. search needs)
     (λ c. search needs)
     (λ c κs. search needs)
-    (λ c. search needs)
+    (λ c κs. search needs)
     (λ c κs. search needs)
     (λ c. search needs)
     returns)

@@ -11,6 +11,7 @@ pub size-for-spec : {M : Type 1} → statement M
 size-for-spec =
     tie.close
     (tie.spec
-    (λ c. search needs)
+    (λ c κs. search needs)
+    (λ c κs. search needs)
     (λ c κs. search needs)
     returns)
