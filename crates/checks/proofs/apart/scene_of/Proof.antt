@@ -5,7 +5,9 @@ use Rattle.checks.proofs.apart.scene_of.Tie as tie
 
 returns : tie.Need-returns
 unfolding sceneAt
-returns c = cc
+returns c =
+    let parts = c .before .before .before .before .before in
+    rw (parts .screen-at .ensures, parts .before .zone-at .ensures, parts .before .before .volume-at .ensures, parts .before .before .before .place-at .ensures)
 
 pub scene-of-spec : {M : Type 1} → statement M
 scene-of-spec =

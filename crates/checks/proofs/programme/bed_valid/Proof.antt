@@ -5,7 +5,9 @@ use Rattle.checks.proofs.programme.bed_valid.Tie as tie
 
 returns : tie.Need-returns
 unfolding bedValid
-returns c = cc
+returns c =
+    let values = c .before .before in
+    rw (c .both3 .ensures, c .before .both2 .ensures, values .wide-ranged .ensures, values .before .ranged2 .ensures, values .before .before .ranged .ensures, values .before .before .before .most-assignment .ensures, values .before .before .before .before .both .ensures)
 
 pub bed-valid-spec : {M : Type 1} → statement M
 bed-valid-spec =

@@ -5,7 +5,10 @@ use Rattle.checks.proofs.programme.others_valid.Tie as tie
 
 returns : tie.Need-returns
 unfolding othersValid
-returns c = cc
+returns c =
+    let values = c .before .before in
+    let flags = values .before .before .before in
+    rw (c .both2 .ensures, c .before .both .ensures, values .agrees .ensures, values .before .ranged2 .ensures, values .before .before .ranged .ensures, flags .flag2 .ensures, flags .before .before .flag .ensures)
 
 pub others-valid-spec : {M : Type 1} → statement M
 others-valid-spec =

@@ -5,10 +5,7 @@ use Rattle.checks.proofs.records.valid_at.Tie as tie
 returns : tie.Need-returns
 returns c =
     let h = c .before .before .before .before .before .pre in
-    let scene = c .before .before .before .scene-at .ensures .0 h in
-    let divergence = c .before .before .divergence-at .ensures .0 h in
-    let precise = c .before .precise-at .ensures .0 h in
-    cc
+    rw (c .record-valid .ensures, c .before .precise-at .ensures .0 h, c .before .before .divergence-at .ensures .0 h, c .before .before .before .scene-at .ensures .0 h)
 
 pub valid-at-spec : {M : Type 1} → statement M
 valid-at-spec =

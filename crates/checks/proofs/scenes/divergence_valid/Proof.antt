@@ -5,7 +5,10 @@ use Rattle.checks.proofs.scenes.divergence_valid.Tie as tie
 
 returns : tie.Need-returns
 unfolding divergenceValid
-returns c = cc
+returns c =
+    let values = c .before .before in
+    let bounds = values .before .before .before .before .before in
+    rw (c .both2 .ensures, c .before .both .ensures, values .ranged3 .ensures, values .before .before .ranged2 .ensures, values .before .before .before .before .ranged .ensures, bounds .most-divergence .ensures, bounds .before .least-divergence .ensures)
 
 pub divergence-valid-spec : {M : Type 1} → statement M
 divergence-valid-spec =

@@ -5,7 +5,9 @@ use Rattle.checks.proofs.scenes.place_valid.Tie as tie
 
 returns : tie.Need-returns
 unfolding placeValid
-returns c = cc
+returns c =
+    let values = c .before .before .before in
+    rw (c .both3 .ensures, c .before .both2 .ensures, c .before .before .both .ensures, values .ranged4 .ensures, values .before .ranged3 .ensures, values .before .before .ranged2 .ensures, values .before .before .before .ranged .ensures)
 
 pub place-valid-spec : {M : Type 1} → statement M
 place-valid-spec =

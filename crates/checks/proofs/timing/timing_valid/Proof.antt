@@ -6,7 +6,9 @@ use Rattle.checks.proofs.timing.timing_valid.Tie as tie
 
 returns : tie.Need-returns
 unfolding timingValid sampleOffset
-returns c = rw (eq-eqb _ _ (c .before .updates-valid .ensures .1)) (cc)
+returns c =
+    let updates = c .before .updates-valid .ensures in
+    rw (eq-eqb _ _ (updates .1), c .both .ensures, updates .0, c .before .before .ranged .ensures, c .before .before .before .sample-offset .ensures)
 
 pub timing-valid-spec : {M : Type 1} → statement M
 timing-valid-spec =

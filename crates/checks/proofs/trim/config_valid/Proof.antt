@@ -6,7 +6,10 @@ use Rattle.checks.proofs.trim.config_valid.Tie as tie
 
 returns : tie.Need-returns
 unfolding configValid trimsValid balancesValid
-returns c = cc
+returns c =
+    let values = c .before .before .before in
+    let sent = values .before .before .before .before in
+    rw (c .both6 .ensures, c .before .both5 .ensures, c .before .before .both4 .ensures, values .trims-valid .ensures, values .before .ranged3 .ensures, values .before .before .ranged2 .ensures, values .before .before .before .ranged .ensures, sent .both3 .ensures, sent .before .both2 .ensures, sent .before .before .before .before .both .ensures)
 
 pub config-valid-spec : {M : Type 1} → statement M
 config-valid-spec =

@@ -5,7 +5,10 @@ use Rattle.checks.proofs.trim.trims_valid.Tie as tie
 
 returns : tie.Need-returns
 unfolding trimsValid
-returns c = cc
+returns c =
+    let values = c .before .before .before in
+    let flags = values .before .before .before .before in
+    rw (c .both3 .ensures, c .before .both2 .ensures, c .before .before .both .ensures, values .balances-valid .ensures, values .before .ranged3 .ensures, values .before .before .ranged2 .ensures, values .before .before .before .ranged .ensures, flags .flag3 .ensures, flags .before .before .flag2 .ensures, flags .before .before .before .before .flag .ensures)
 
 pub trims-valid-spec : {M : Type 1} → statement M
 trims-valid-spec =
