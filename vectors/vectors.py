@@ -3,6 +3,7 @@
 
   python3 vectors.py              write crates/vectors/data/payloads, crates/vectors/data/written, crates/vectors/stdout
                                   and docs/VECTORS.md
+  python3 vectors.py --check      write nothing; say which of these four files is not what would be written
   python3 vectors.py --show N     print the bits of vector N field by field, its expected text and its written form
   python3 vectors.py --list       print number, length in bytes and name of every vector
 
@@ -14,6 +15,7 @@ not occur, and 11 only above 4,096 bytes.
 Nothing here decodes a payload: the expected text stands in the vectors_*.py files, derived by hand; form.py writes the forms,
 and written.py has some of them, and some trim tables, derived by hand.
 """
+import io
 import os
 import sys
 
@@ -97,10 +99,8 @@ def cell(s):
     return s.replace("|", "\\|").replace("\n", " ")
 
 
-def write_store(name, items):
-    with open(os.path.join(ROOT, "crates", "vectors", "data", name), "wb") as f:
-        for item in items:
-            f.write(len(item).to_bytes(2, "big") + item)
+def store(items):
+    return b"".join(len(item).to_bytes(2, "big") + item for item in items)
 
 
 def write_docs(f):
@@ -124,28 +124,62 @@ def write_docs(f):
         f.write("\n### Trim table of %s (%d)\n\n```\n%s\n```\n" % (name, number[name], "\n".join(parts)))
 
 
-def main(argv):
-    if argv[1:2] == ["--show"]:
-        for a in argv[2:]:
-            show(int(a) if a.isdigit() else [v.name for v in VECTORS].index(a))
-            print()
-        return
-    if argv[1:2] == ["--list"]:
-        for n, v in enumerate(VECTORS):
-            print("%4d %5d  %s" % (n, len(v.bytes), v.name))
-        return
+def texts():
+    """The expected text of every vector, and the page about them, as lines."""
+    out = io.StringIO(newline="\n")
+    for n, v in enumerate(VECTORS):
+        out.write("\n".join(["vector=%d" % n] + read_lines(v) + written_lines(v)) + "\n")
+    page = io.StringIO(newline="\n")
+    write_docs(page)
+    return out.getvalue().encode(), page.getvalue().encode()
+
+
+def made():
+    """The four files that are made of the vectors, each with its bytes."""
     named = {v.name: v for v in VECTORS}
     check_hand(lambda name: form_of(named[name]))
     check_tables(lambda name: named[name].trim)
     forms = [written_of(v) for v in VECTORS]
-    write_store("payloads", [v.bytes for v in VECTORS])
-    write_store("written", [f if len(f) <= 4096 else b"" for f in forms])
-    with open(os.path.join(ROOT, "crates", "vectors", "stdout"), "w", newline="\n") as f:
+    out, page = texts()
+    return {
+        "crates/vectors/data/payloads": store([v.bytes for v in VECTORS]),
+        "crates/vectors/data/written": store([f if len(f) <= 4096 else b"" for f in forms]),
+        "crates/vectors/stdout": out,
+        "docs/VECTORS.md": page,
+    }
+
+
+def check():
+    """Whether the four files are what would be written."""
+    stale = [name for name, content in made().items() if open(os.path.join(ROOT, name), "rb").read() != content]
+    for name in stale:
+        print("%s is not what vectors.py makes: run python3 vectors/vectors.py" % name)
+    return not stale
+
+
+def main(argv):
+    words = argv[1:]
+    if words[:1] == ["--show"] and len(words) > 1:
+        for a in words[1:]:
+            show(int(a) if a.isdigit() else [v.name for v in VECTORS].index(a))
+            print()
+        return 0
+    if words == ["--list"]:
         for n, v in enumerate(VECTORS):
-            f.write("\n".join(["vector=%d" % n] + read_lines(v) + written_lines(v)) + "\n")
-    with open(os.path.join(ROOT, "docs", "VECTORS.md"), "w", newline="\n") as f:
-        write_docs(f)
+            print("%4d %5d  %s" % (n, len(v.bytes), v.name))
+        return 0
+    if words == ["--check"]:
+        if not check():
+            return 1
+    elif words:
+        print(__doc__, file=sys.stderr)
+        return 2
+    else:
+        for name, content in made().items():
+            with open(os.path.join(ROOT, name), "wb") as f:
+                f.write(content)
     print("%d vectors, %d payload bytes" % (len(VECTORS), sum(len(v.bytes) for v in VECTORS)))
+    return 0
 
 
-main(sys.argv)
+sys.exit(main(sys.argv))
