@@ -13,7 +13,8 @@ use Rattle.bits.specs.declared.Limit.{Limit}
 use Rattle.bits.specs.Language.{Res, ok, no, pick, Bits, slice, P, give, refuse, field, within, _>>=_, andThen, run, each, from, for}
 use Rattle.bits.specs.Steps.{no-ok}
 use Rattle.bits.specs.Laws.{from-next, from-none}
-use Rattle.bits.specs.View.{overOf, goOn, runFrom, Reads, valued, openAt, innerOf, closeAt}
+use Rattle.bits.specs.View.{overOf, goOn, runFrom, Reads, Gave, valued, openAt, innerOf, closeAt}
+use Rattle.bits.specs.Unique.{begun}
 
 -- two readers that answer alike from everywhere
 abbrev pub Alike : {A : Type 0} → P A → P A → Type 0
@@ -32,49 +33,58 @@ over-pos false h = omega arith
 module _ {b : Bits} {c : Cur} {l : Limit} where
   -- a refusal stays
   pub kept : {A : Type 0} {p : P A} {v : A} {x : ℕ} → (c .no ≡ 0 → ⊥) → Reads p b c l v (valued c x)
-  kept h = record { same = rw (ne-eqb (c .no) 0 h) }
+  kept h = record { same = rw (ne-eqb (c .no) 0 h); handed = λ z. refl }
 
   -- a field that does not fit
   pub short : {A : Type 0} {w m n x : ℕ} {f : List ℕ → A} {v : A} → c .no ≡ 0 → l .end .0 < c .at .0 + w → m ≡ c .at .0 + w - l .end .0
       → n ≡ overOf (l .inner) → Reads (field w f) b c l v (record { v = x; missing = m; at = c .at; no = n })
   unfolding run
-  short {w = w} r h g q = record { same = rw (g, q, r, over-eqb (l .inner), lt-leb (c .at .0 + w) (l .end .0) h) }
+  short {w = w} r h g q = record {
+    same = rw (g, q, r, over-eqb (l .inner), lt-leb (c .at .0 + w) (l .end .0) h);
+    handed = λ z. absurd (over-pos (l .inner) (sym q ∙ z));
+  }
 
   -- a field that fits
-  pub whole : {A : Type 0} {w x : ℕ} {f : List ℕ → A} {v : A} {at : BitPos} → c .no ≡ 0 → c .at .0 + w ≤ l .end .0 → at .0 ≡ c .at .0 + w
-      → v ≡ f (slice b (c .at .0) w) → Reads (field w f) b c l v (record { v = x; missing = 0; at = at; no = 0 })
+  pub whole : {A : Type 0} {w m x : ℕ} {f : List ℕ → A} {v : A} {at : BitPos} → c .no ≡ 0 → c .at .0 + w ≤ l .end .0 → at .0 ≡ c .at .0 + w
+      → m ≡ c .missing → v ≡ f (slice b (c .at .0) w) → Reads (field w f) b c l v (record { v = x; missing = m; at = at; no = 0 })
   unfolding run
-  whole {w = w} r h t q = record { same = rw (r, le-leb (c .at .0 + w) (l .end .0) h, q, t) }
+  whole {w = w} r h t g q = record { same = rw (r, le-leb (c .at .0 + w) (l .end .0) h, q, t); handed = λ z. g }
 
   -- nothing is read
   pub plain : {A : Type 0} {v : A} → Reads (give v) b c l v c
   unfolding run
-  plain = record { same = refl }
+  plain = record { same = refl; handed = λ z. refl }
 
   -- nor here, and the cursor gets another value
   pub plain' : {A : Type 0} {v : A} {x : ℕ} → Reads (give v) b c l v (valued c x)
   unfolding run
-  plain' = record { same = refl }
+  plain' = record { same = refl; handed = λ z. refl }
 
   -- a refusal, back bits before the cursor
   pub banned : {A : Type 0} {x r back : ℕ} {v : A} {n : ℕ} {at : BitPos} → c .no ≡ 0 → at .0 ≡ c .at .0 - back → n ≡ r → 0 < n
       → Reads (refuse r back) b c l v (record { v = x; missing = 0; at = at; no = n })
   unfolding run
-  banned {n = n} z q e h = record { same = rw (z, q, ne-eqb n 0 (λ y. omega arith), e) }
+  banned {n = n} z q e h = record { same = rw (z, q, ne-eqb n 0 (λ y. omega arith), e); handed = λ y. absurd (omega arith) }
 
   -- an element that fits is read up to its own end, and the cursor comes to that end
   pub inside : {A : Type 0} {p : P A} {d : Cur} {v : A} {x n back : ℕ} → c .no ≡ 0 → c .at .0 + n ≤ l .end .0
       → Reads p b c (record { end = record { 0 = c .at .0 + n }; inner = true }) v d → d .no ≡ 0
-      → Reads (within n back p) b c l v (record { v = x; missing = 0; at = record { 0 = c .at .0 + n }; no = 0 })
+      → Reads (within n back p) b c l v (record { v = x; missing = d .missing; at = record { 0 = c .at .0 + n }; no = 0 })
   unfolding run
-  inside {n = n} z f r q = record { same = rw (z, le-leb (c .at .0 + n) (l .end .0) f) (rw (← (rw (z, q) at (r .same)))) }
+  inside {n = n} z f r q = record {
+    same = rw (z, le-leb (c .at .0 + n) (l .end .0) f) (rw (← (rw (z, q) at (r .same))));
+    handed = λ y. r .handed q;
+  }
 
   -- something in it is refused
   pub inside-no : {A : Type 0} {p : P A} {d : Cur} {v : A} {n back : ℕ} → c .no ≡ 0 → c .at .0 + n ≤ l .end .0
       → Reads p b c (record { end = record { 0 = c .at .0 + n }; inner = true }) v d → (d .no ≡ 0 → ⊥) → Reads (within n back p) b c l v d
   unfolding run
   inside-no {d = d} {n = n} z f r q =
-      record { same = rw (z, le-leb (c .at .0 + n) (l .end .0) f, ne-eqb (d .no) 0 q) (rw (← (rw (z, ne-eqb (d .no) 0 q) at (r .same)))) }
+      record {
+        same = rw (z, le-leb (c .at .0 + n) (l .end .0) f, ne-eqb (d .no) 0 q) (rw (← (rw (z, ne-eqb (d .no) 0 q) at (r .same))));
+        handed = λ y. absurd (q y);
+      }
 
 -- ---- steps in a line
 
@@ -93,36 +103,46 @@ joined {p = p} k {b} {c} {d} {l} {v} x = go (eqb (d .no) 0) (eqb (c .no) 0) (x .
     go false true q = rw (← q)
     go false false q = cc
 
+-- the cursor gets another value beside the one that was read
+pub renewed : {A : Type 0} {p : P A} {b : Bits} {c d e : Cur} {l : Limit} {v : A} {x : ℕ} → e ≡ valued d x → Reads p b c l v d → Reads p b c l v e
+renewed h r = rw h (record { same = r .same; handed = r .handed })
+
+-- the last step of a function that gives a value beside the cursor
+pub emptied : {A : Type 0} {p : P A} {b : Bits} {c d e : Cur} {l : Limit} {v : A} → e ≡ valued d 0 → Reads p b c l v d → Gave p b c l v e
+emptied h r = record { reads = renewed h r; empty = rw h }
+
 pub bind : {A B : Type 0} {p : P A} {k : A → P B} {b : Bits} {c d f : Cur} {l : Limit} {v : A} {w : B}
     → Reads p b c l v d → Reads (k v) b d l w f → Reads (p >>= k) b c l w f
-bind {k = k} x y = record { same = y .same ∙ joined k x }
+bind {k = k} x y = record { same = y .same ∙ joined k x; handed = λ z. y .handed z ∙ x .handed (begun y z) }
 
 -- ---- loops: of the reader p at c, q is left to do at d
 
 pub record Left {A : Type 0} (p : P A) (b : Bits) (c : Cur) (l : Limit) (q : P A) (d : Cur) : Type 0 where
   pub same : runFrom q b d l ≡ runFrom p b c l
+  pub handed : d .no ≡ 0 → d .missing ≡ c .missing
 
 pub start : {A : Type 0} {p : P A} {b : Bits} {c : Cur} {l : Limit} → Left p b c l p c
-start = record { same = refl }
+start = record { same = refl; handed = λ z. refl }
 
 pub step : {A B : Type 0} {p : P B} {q : P A} {k : A → P B} {b : Bits} {c d f : Cur} {l : Limit} {v : A}
     → Left p b c l (q >>= k) d → Reads q b d l v f → Left p b c l (k v) f
-step {k = k} x r = record { same = joined k r ∙ x .same }
+step {k = k} x r = record { same = joined k r ∙ x .same; handed = λ z. r .handed z ∙ x .handed (begun r z) }
 
 pub done : {A : Type 0} {p : P A} {b : Bits} {c d : Cur} {l : Limit} {v : A} → Left p b c l (give v) d → Reads p b c l v d
 unfolding run
-done x = record { same = x .same }
+done x = record { same = x .same; handed = x .handed }
 
 -- what is left, said in another way
 pub turned : {A : Type 0} {p q q' : P A} {b : Bits} {c d : Cur} {l : Limit} → Alike q' q → Left p b c l q d → Left p b c l q' d
 turned {b = b} {d = d} {l} h x =
     record {
       same = ap (λ (r : _). pick (eqb (d .no) 0) r (no (d .no) (d .at .0) (d .missing))) (h b (d .at .0) (l .end .0) (overOf (l .inner))) ∙ x .same;
+      handed = x .handed;
     }
 
 -- a refusal ends the loop, whatever the value
 pub broken : {A : Type 0} {p q : P A} {b : Bits} {c d : Cur} {l : Limit} {v : A} → Left p b c l q d → (d .no ≡ 0 → ⊥) → Reads p b c l v d
-broken {d = d} x h = record { same = rw (ne-eqb (d .no) 0 h) (rw (ne-eqb (d .no) 0 h) at (x .same)) }
+broken {d = d} x h = record { same = rw (ne-eqb (d .no) 0 h) (rw (ne-eqb (d .no) 0 h) at (x .same)); handed = λ z. absurd (h z) }
 
 -- a head and a rest, and what g does with both: the rest can be left to g
 pub unroll : {A L M B : Type 0} (p : P A) (q : A → P L) (h : A → L → M) (g : M → P B)
@@ -199,13 +219,13 @@ framing A n back p b c o e d l i v ho hi r hd = cases (eqb (c .no) 0) refl (leb 
     cases : (t : Bool) → eqb (c .no) 0 ≡ t → (u : Bool) → leb (c .at .0 + n) (l .end .0) ≡ u → Reads (within n back p) b c l v d
     cases false q u w =
         let s = refused (rw (rw q at ho) at r) (eqb-false (c .no) 0 q) in
-        rw (stopped (s .0)) (record { same = s .1 ∙ rw q })
+        rw (stopped (s .0)) (record { same = s .1 ∙ rw q; handed = λ z. absurd (s .0 z) })
     cases true q true w =
         let y = rw w at hi in
         read (eqb-true (c .no) 0 q) (leb-true _ _ w) (rw (rw (q, w) at ho, y) at r) y (eqb (e .no) 0) refl
     cases true q false w =
         let s = refused (rw (rw (q, w) at ho) at r) (λ z. over-pos (l .inner) z) in
-        rw (stopped (s .0)) (record { same = s .1 ∙ rw (q, w) })
+        rw (stopped (s .0)) (record { same = s .1 ∙ rw (q, w); handed = λ z. absurd (s .0 z) })
 
 -- ---- the rules of `search reading`, which closes a line of calls: their arguments are written, as `search` wants them
 

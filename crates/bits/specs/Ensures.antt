@@ -4,7 +4,7 @@ use mathlib.Core.Bool.{Bool, true, false, true≢false, false≢true}
 use mathlib.Core.List.{List, [], _∷_}
 use Prim.Native.Nat.{ℕ, _+_, _^_, _<_}
 use lib.ListN.{length}
-use Rattle.bits.specs.Language.{ok, pick, Bits, slice, number, P, give, refuse, field, within, _>>=_, run, bits, when, bitsIf, refuseIf, each, pastDeclared}
+use Rattle.bits.specs.Language.{ok, pick, Bits, slice, number, P, give, refuse, field, within, _>>=_, run, bits, when, bitsIf, refuseIf, bitsUnless, each, pastDeclared}
 use Rattle.bits.specs.Steps.{no-ok, give-ok, bind-ok, within-ok, field-ok, length-slice}
 use Rattle.bits.specs.Writes.{Bin}
 use Rattle.bits.specs.Bytes.{number-lt, bin-slice}
@@ -81,6 +81,13 @@ e-pass t r back v Q h = e-pick t (refuse r back) (give v) Q (λ q. e-refuse r ba
 pub e-if : (t : Bool) (w : ℕ) (Q : ℕ → Type 0) → ((v : ℕ) → (t ≡ true → v < 2 ^ w) → (t ≡ false → 0 ≡ v) → Q v) → Ensures (bitsIf t w) Q
 e-if true w Q h = e-bits w Q (λ v l. h v (λ q. l) (λ q. absurd (true≢false q)))
 e-if false w Q h = e-give 0 Q (h 0 (λ q. absurd (false≢true q)) (λ q. refl))
+
+-- the same for a field whose value was not refused
+pub e-unless : (on : Bool) (r w : ℕ) (test : ℕ → Bool) (Q : ℕ → Type 0)
+    → ((v : ℕ) → (on ≡ true → (v < 2 ^ w) × (test v ≡ false)) → (on ≡ false → 0 ≡ v) → Q v) → Ensures (when on (bitsUnless r w test) 0) Q
+e-unless true r w test Q h =
+    e-bind _ _ Q (e-bits w _ (λ v l. e-pass (test v) r w v Q (λ e. h v (λ q. (l, e)) (λ q. absurd (true≢false q)))))
+e-unless false r w test Q h = e-give 0 Q (h 0 (λ q. absurd (false≢true q)) (λ q. refl))
 
 -- what holds of each value of a loop, and of its entry
 abbrev pub All : {X A : Type 0} → (X → A → Type 0) → List X → List A → Type 0

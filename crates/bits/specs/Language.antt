@@ -20,6 +20,10 @@ abbrev pub both : Bool → Bool → Bool
 both true b = b
 both false b = false
 
+-- v is one of the numbers from low to high
+abbrev pub between : ℕ → ℕ → ℕ → Bool
+between low high v = both (leb low v) (leb v high)
+
 -- a bit, 0 or 1, at each position
 abbrev pub Bits : Type 0
 Bits = ℕ → ℕ
@@ -85,6 +89,10 @@ skip n = field {A = ℕ} n (λ l. 0)
 -- refusal r, back bits before this place, if the test holds; else the value v, with nothing read
 abbrev pub refuseIf : {A : Type 0} → Bool → ℕ → ℕ → A → P A
 refuseIf on r back v = pick on (refuse r back) (give v)
+
+-- a field of w bits; refusal r at the field's own first bit, if the test holds of its value
+abbrev pub bitsUnless : ℕ → ℕ → (ℕ → Bool) → P ℕ
+bitsUnless r w test = bits w >>= λ v. refuseIf (test v) r w v
 
 -- a reader for each entry of a list, one after the other
 unfoldable pub each : {X A : Type 0} → (X → P A) → List X → P (List A)

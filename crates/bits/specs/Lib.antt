@@ -1,6 +1,7 @@
 pub mod Language
 pub mod View
 pub mod Steps
+pub mod Unique
 pub mod Laws
 pub mod Refusals
 pub mod Size

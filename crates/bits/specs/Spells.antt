@@ -1,12 +1,12 @@
 -- Which bits a reader takes for the value that it gives: a condition computed from the tree, a rule for each step, and one theorem.
 use mathlib.Core.Path.{_≡_, refl, sym, ap, _∙_, subst}
 use mathlib.Core.Bool.{Bool, true, false, true≢false, false≢true}
-use mathlib.Core.List.{List, [], _∷_, _++_}
+use mathlib.Core.List.{List, [], _∷_, _++_, append-nil}
 use Prim.Native.Nat.{ℕ, zero, suc, _+_, _-_, _^_, _≤_, _<_}
 use native.Mathlib.Omega.{arith}
 use lib.ListN.{length}
 use lib.Seq.{ext-getD}
-use Rattle.bits.specs.Language.{ok, pick, Bits, slice, number, P, give, refuse, field, within, _>>=_, run, bits, bitsIf, refuseIf, pastDeclared}
+use Rattle.bits.specs.Language.{ok, pick, Bits, slice, number, P, give, refuse, field, within, _>>=_, run, bits, bitsIf, when, refuseIf, bitsUnless, pastDeclared}
 use Rattle.bits.specs.Steps.{no-ok, give-ok, bind-ok, within-ok, field-ok, length-slice}
 use Rattle.bits.specs.Laws.{local}
 use Rattle.bits.specs.Writes.{toBits, only, length-toBits, Bin}
@@ -108,6 +108,15 @@ s-if false w Q h = s-give 0 Q (h 0 (λ q. absurd (false≢true q)) (λ q. refl))
 pub s-pass : {A : Type 0} (t : Bool) (r back : ℕ) (v : A) (Q : List ℕ → A → Type 0) → (t ≡ false → Q [] v) → Spells (refuseIf t r back v) Q
 s-pass true r back v Q h = s-refuse r back Q
 s-pass false r back v Q h = s-give v Q (h refl)
+
+-- a field that is there only if the test holds, and whose value was not refused
+pub s-unless : (on : Bool) (r w : ℕ) (test : ℕ → Bool) (Q : List ℕ → ℕ → Type 0)
+    → ((v : ℕ) → (on ≡ true → (v < 2 ^ w) × (test v ≡ false)) → (on ≡ false → 0 ≡ v) → Q (only on (toBits w v)) v)
+    → Spells (when on (bitsUnless r w test) 0) Q
+s-unless true r w test Q h =
+    s-bind _ _ Q (s-bits w _ (λ v l. s-pass (test v) r w v _ (λ e.
+    subst (λ (t : List ℕ). Q t v) (sym (append-nil (toBits w v))) (h v (λ q. (l, e)) (λ q. absurd (true≢false q))))))
+s-unless false r w test Q h = s-give 0 Q (h 0 (λ q. absurd (false≢true q)) (λ q. refl))
 
 -- what follows from what holds
 pub s-then : {A : Type 0} (p : P A) (Q R : List ℕ → A → Type 0) → Spells p Q → ((l : List ℕ) (a : A) → Q l a → R l a) → Spells p R

@@ -1,13 +1,13 @@
 -- Each step of a reader by itself: an answer taken apart, and put together.
 use mathlib.Core.Path.{_≡_, refl, sym, ap, _∙_}
-use mathlib.Core.Bool.{Bool, true, false}
+use mathlib.Core.Bool.{Bool, true, false, true≢false}
 use mathlib.Core.List.{List}
 use Prim.Native.Nat.{ℕ, zero, suc, _+_, _-_, _≤_, _<_}
 use native.Mathlib.Omega.{arith}
 use lib.ListN.{length, getD}
 use lib.Dec.{leb}
-use borrow.Author.Tests.{leb-true, leb-false, le-leb}
-use Rattle.bits.specs.Language.{Res, ok, no, pick, Bits, slice, P, give, refuse, field, within, _>>=_, andThen, run, pastDeclared}
+use borrow.Author.Tests.{leb-true, leb-false, le-leb, lt-leb}
+use Rattle.bits.specs.Language.{Res, ok, no, pick, both, between, Bits, slice, P, give, refuse, field, within, _>>=_, andThen, run, pastDeclared}
 
 -- ---- answers
 
@@ -42,6 +42,23 @@ by-order {X} m n f g = go (leb m n) refl
     go : (t : Bool) → leb m n ≡ t → X
     go true q = f (leb-true m n q)
     go false q = g (leb-false m n q)
+
+-- a number that is not one of low to high lies below them or above them
+pub free-below : (low high v : ℕ) → between low high v ≡ false → v ≤ high → v < low
+free-below low high v h l = by-order low v (λ m. absurd (true≢false (sym (rw (le-leb low v m, le-leb v high l) refl) ∙ h))) (λ m. m)
+
+pub free-above : (low high v : ℕ) → between low high v ≡ false → low ≤ v → high < v
+free-above low high v h l = by-order v high (λ m. absurd (true≢false (sym (rw (le-leb low v l, le-leb v high m) refl) ∙ h))) (λ m. m)
+
+pub below-free : (low high v : ℕ) → v < low → between low high v ≡ false
+below-free low high v h = rw (lt-leb low v h)
+
+pub above-free : (low high v : ℕ) → high < v → between low high v ≡ false
+above-free low high v h = rw (lt-leb v high h) (go (leb low v))
+  where
+    go : (t : Bool) → both t false ≡ false
+    go true = refl
+    go false = refl
 
 -- ---- an accepted step taken apart: f gets what it came from
 

@@ -1,11 +1,10 @@
 -- What the code's cursor stands for, and what a function that reads promises.
 use mathlib.Core.Path.{_≡_}
-use mathlib.Core.Bool.{Bool, true, false}
+use mathlib.Core.Bool.{Bool, true}
 use mathlib.Core.List.{List}
 use Prim.Native.Nat.{ℕ, _+_, _-_, _*_, _<_}
 use lib.ListN.{getD}
 use lib.Dec.{eqb, leb}
-use Rattle.units.specs.declared.BitPos.{BitPos}
 use Rattle.bits.specs.declared.Cur.{Cur}
 use Rattle.bits.specs.declared.Limit.{Limit}
 use Rattle.bits.specs.Language.{Res, ok, no, pick, Bits, P, run, pastPayload, pastDeclared}
@@ -26,14 +25,21 @@ goOn c f = pick (eqb (c .no) 0) (f (c .at .0)) (no (c .no) (c .at .0) (c .missin
 abbrev pub runFrom : {A : Type 0} → P A → Bits → Cur → Limit → Res A
 runFrom p b c l = goOn c (λ at. run p b at (l .end .0) (overOf (l .inner)))
 
--- from the cursor c the reader p gives the value v and the cursor d, or the refusal that d carries
+-- from the cursor c the reader p gives the value v and the cursor d, or the refusal that d carries; while nothing is refused, the missing bits are
+-- handed on as they came
 pub record Reads {A : Type 0} (p : P A) (b : Bits) (c : Cur) (l : Limit) (v : A) (d : Cur) : Type 0 where
   pub same : goOn d (λ at. ok v at) ≡ runFrom p b c l
+  pub handed : d .no ≡ 0 → d .missing ≡ c .missing
 
 -- the same for a number below n, refused or not, that the cursor holds
 pub record Took (p : P ℕ) (n : ℕ) (b : Bits) (c : Cur) (l : Limit) (d : Cur) : Type 0 where
   pub reads : Reads p b c l (d .v) d
   pub small : d .v < n
+
+-- the same for a value that stands beside the cursor, which itself holds 0
+pub record Gave {A : Type 0} (p : P A) (b : Bits) (c : Cur) (l : Limit) (v : A) (d : Cur) : Type 0 where
+  pub reads : Reads p b c l v d
+  pub empty : d .v ≡ 0
 
 -- the cursor with another value
 abbrev pub valued : Cur → ℕ → Cur
@@ -56,4 +62,4 @@ innerOf l c n =
 
 -- the cursor behind the element, where nothing in it was refused
 unfoldable pub closeAt : Cur → Limit → Cur
-closeAt e l = pick (eqb (e .no) 0) (record { v = 0; missing = 0; at = l .end; no = 0 }) e
+closeAt e l = pick (eqb (e .no) 0) (record { v = 0; missing = e .missing; at = l .end; no = 0 }) e

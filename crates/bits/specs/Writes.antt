@@ -8,7 +8,7 @@ use native.Mathlib.Nat.{mod-eq-of-lt, mod-one}
 use lib.ListN.{length, getD, replicate, length-replicate, length-append, List·getD-append}
 use lib.Seq.{getD-append-add}
 use lib.Pow.{mod-pow-add}
-use Rattle.bits.specs.Language.{ok, Bits, slice, P, give, within, _>>=_, run, bits, when, bitsIf, refuseIf, each, number, pastDeclared}
+use Rattle.bits.specs.Language.{ok, Bits, slice, P, give, within, _>>=_, run, bits, when, bitsIf, refuseIf, bitsUnless, each, number, pastDeclared}
 use Rattle.bits.specs.Steps.{by-order, ok-at, give-is, bind-is, within-is, field-is}
 
 -- the w low bits of v, top bit first
@@ -135,6 +135,11 @@ w-if t w v f g = w-when t (λ q. w-bits w v (f q)) g
 -- a value that is not refused
 pub w-pass : {A : Type 0} (t : Bool) (r back : ℕ) (v : A) → t ≡ false → Writes (refuseIf t r back v) [] v
 w-pass t r back v e = rw e (w-give v)
+
+-- a field that is there only if the test holds, and whose value is not refused
+pub w-unless : (on : Bool) (r w : ℕ) (test : ℕ → Bool) (v : ℕ) → (on ≡ true → (v < 2 ^ w) × (test v ≡ false)) → (on ≡ false → 0 ≡ v)
+    → Writes (when on (bitsUnless r w test) 0) (only on (toBits w v)) v
+w-unless on r w test v f g = w-when on (λ q. w-end (w-bits w v (f q .0)) (w-pass (test v) r w v (f q .1))) g
 
 -- an element of n bits: its fields, and zeros behind them
 pub w-within : {A : Type 0} {n back : ℕ} {p : P A} {l : List ℕ} {v : A} (pad : ℕ) → Writes p l v → length l + pad ≡ n

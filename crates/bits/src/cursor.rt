@@ -1,9 +1,9 @@
 // What a cursor does besides reading a field.
 ghost use mathlib.Core.Path.{_≡_};
 ghost use Prim.Native.Nat.{_-_, _*_, _^_, _≤_, _<_};
-ghost use Rattle.bits.specs.Language.{bit, bitsIf, skip, when, refuseIf};
+ghost use Rattle.bits.specs.Language.{bit, between, bitsIf, bitsUnless, skip, when, refuseIf};
 ghost use Rattle.bits.specs.Refusals.{numberOf};
-ghost use Rattle.bits.specs.View.{Reads, Took, valued, openAt, innerOf, closeAt};
+ghost use Rattle.bits.specs.View.{Reads, Took, Gave, valued, openAt, innerOf, closeAt};
 use crate::Cur;
 use crate::Limit;
 use crate::Refusal;
@@ -68,9 +68,30 @@ pub fn refuse_if(on: bool, s: &[u8], l: Limit, c: Cur, r: Refusal, back: u32) ->
     c
 }
 
+// v is one of low to high.
+fn in_range(low: u32, high: u32, v: u32) -> bool
+    ensures { λ r. ⌜ r ≡ between low high v ⌝ }
+{
+    if low <= v { v <= high } else { false }
+}
+
+// The next field, where a flag says that it is there; else 0. The values from low to high are reserved: refused at the field's own first bit.
+pub fn take_unless(on: bool, s: &[u8], l: Limit, c: Cur, w: u32, low: u32, high: u32) -> Cur
+    requires { ⌜ (1 ≤ w) × (w ≤ 24) ⌝ }
+    ensures { λ r. ⌜ Took (when on (bitsUnless (numberOf Refusal.Reserved) w (between low high)) 0) (2 ^ w) (bit (now (s .entry))) c l r ⌝ }
+{
+    if on {
+        let read = take(s, l, c, w);
+        let reserved = in_range(low, high, read.v);
+        refuse_if(reserved, s, l, read, Refusal::Reserved, w)
+    } else {
+        with_value(c, 0)
+    }
+}
+
 // Passes over n bytes, which begin at any bit, where a flag says that they are there, without a look at them.
 pub fn skip_if(on: bool, s: &[u8], l: Limit, c: Cur, n: ByteCount) -> Cur
-    ensures { λ r. ⌜ (r .v ≡ 0) × Reads (when on (skip (8 * (n .0))) 0) (bit (now (s .entry))) c l 0 r ⌝ }
+    ensures { λ r. ⌜ Gave (when on (skip (8 * (n .0))) 0) (bit (now (s .entry))) c l 0 r ⌝ }
 {
     let at = c.at;
     if on {
@@ -86,7 +107,7 @@ pub fn skip_if(on: bool, s: &[u8], l: Limit, c: Cur, n: ByteCount) -> Cur
                 };
             }
             return Cur {
-                missing: 0,
+                missing: c.missing,
                 v: 0,
                 at: BitPos::new(to as u32),
                 no: 0,
@@ -139,7 +160,7 @@ pub fn close(e: Cur, l: Limit) -> Cur
     if e.no == 0 {
         let at = l.end;
         return Cur {
-            missing: 0,
+            missing: e.missing,
             v: 0,
             at,
             no: 0,

@@ -6,6 +6,7 @@ ghost use Rattle.bits.specs.Language.{bits, bit};
 ghost use Rattle.bits.specs.View.{wordAt, overOf, Took};
 use crate::Cur;
 use crate::Limit;
+use crate::cursor::with_value;
 use units::BitPos;
 
 fn wide(x: u8) -> u32
@@ -52,22 +53,17 @@ pub fn take(s: &[u8], l: Limit, c: Cur, w: u32) -> Cur
     requires { ⌜ (1 ≤ w) × (w ≤ 24) ⌝ }
     ensures { λ r. ⌜ Took (bits w) (2 ^ w) (bit (now (s .entry))) c l r ⌝ }
 {
-    let at = c.at;
     if c.no != 0 {
-        return Cur {
-            missing: c.missing,
-            v: 0,
-            at,
-            no: c.no,
-        };
+        return with_value(c, 0);
     }
+    let at = c.at;
     let p = at.raw();
     let to = p as u64 + w as u64;
     let end = l.end.raw() as u64;
     if to <= end {
         let x = word(s, at);
         Cur {
-            missing: 0,
+            missing: c.missing,
             v: (x << (p % 8)) >> (32 - w),
             at: BitPos::new(to as u32),
             no: 0,

@@ -12,13 +12,14 @@ pub use cursor::open;
 pub use cursor::refuse_if;
 pub use cursor::skip_if;
 pub use cursor::take_if;
+pub use cursor::take_unless;
 pub use cursor::with_value;
 pub use groups::read_size;
 pub use leaf::take;
 pub use leaf::word;
 
-// Where reading stands. While no is 0: the value of the last field, and the position after it. Else the first refusal: its number, its place, and
-// how many bits were missing.
+// Where reading stands. While no is 0: the value of the last field, and the position after it; missing is as it came. Else the first refusal: its
+// number, its place, and how many bits were missing.
 pub struct Cur {
     pub missing: u64,
     pub v: u32,

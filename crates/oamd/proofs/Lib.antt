@@ -1,3 +1,4 @@
 pub mod Table
+pub mod Reserved
 pub mod Worked
 pub mod Ends

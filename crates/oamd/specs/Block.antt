@@ -1,10 +1,8 @@
 -- 5.5.9 object_info_block, 5.5.10 object_basic_info, 5.5.11 object_render_info: from bits to a coded block.
 use mathlib.Core.Bool.{Bool, true, false, not}
 use Prim.Native.Nat.{ℕ, _+_, _-_, _*_}
-use lib.Dec.{leb, eqb}
-use Rattle.bits.specs.declared.Refusal.the-variants.{Reserved}
-use Rattle.bits.specs.Refusals.{numberOf}
-use Rattle.bits.specs.Language.{pick, both, P, give, _>>=_, bits, when, bitsIf, skip, refuseIf, flag}
+use lib.Dec.{eqb}
+use Rattle.bits.specs.Language.{pick, both, P, give, _>>=_, bits, when, bitsIf, skip, flag}
 use Rattle.oamd.specs.declared.Status.{Status}
 use Rattle.oamd.specs.declared.Status.the-variants.{Default, Full, Reuse, Mixed}
 use Rattle.oamd.specs.declared.Position.{Position}
@@ -17,6 +15,7 @@ use Rattle.oamd.specs.declared.Screen.{Screen}
 use Rattle.oamd.specs.declared.Render.{Render}
 use Rattle.oamd.specs.declared.Block.{Block}
 use Rattle.oamd.specs.Programme.{set?, clear?, dynamicClass}
+use Rattle.oamd.specs.Reserved.{ZoneConstraintsIdx, ObjectSizeIdx, unreservedIf}
 
 -- Tables 28 and 29, first column
 abbrev pub statusOf : ℕ → Status
@@ -107,15 +106,13 @@ distance on = do
 
 unfoldable pub zone : Bool → P Zone
 zone on = do
-  zone-constraints-idx ← bitsIf on 3
-  zone-constraints-idx ← refuseIf (leb 6 zone-constraints-idx) (numberOf Reserved) 3 zone-constraints-idx
+  zone-constraints-idx ← unreservedIf on ZoneConstraintsIdx
   b-enable-elevation ← bitsIf on 1
   give {A = Zone} (record { index = zone-constraints-idx; elevation = b-enable-elevation })
 
 unfoldable pub extent : Bool → P Extent
 extent on = do
-  object-size-idx ← bitsIf on 2
-  object-size-idx ← refuseIf (eqb object-size-idx 3) (numberOf Reserved) 2 object-size-idx
+  object-size-idx ← unreservedIf on ObjectSizeIdx
   object-size-bits ← bitsIf (eqb object-size-idx 1) 5
   object-width-bits ← bitsIf (eqb object-size-idx 2) 5
   object-depth-bits ← bitsIf (eqb object-size-idx 2) 5

@@ -4,22 +4,19 @@ use mathlib.Core.List.{List}
 use Prim.Native.Nat.{ℕ, _+_}
 use lib.Dec.{eqb}
 use lib.ListN.{length, replicate}
-use Rattle.bits.specs.declared.Refusal.the-variants.{Reserved}
-use Rattle.bits.specs.Refusals.{numberOf}
-use Rattle.bits.specs.Language.{both, P, give, _>>=_, bits, when, bitsIf, refuseIf, each, flag}
+use Rattle.bits.specs.Language.{both, P, give, _>>=_, bits, when, bitsIf, each, flag}
 use Rattle.oamd.specs.declared.Divergence.{Divergence}
 use Rattle.oamd.specs.declared.Precise.{Precise}
 use Rattle.oamd.specs.Programme.{set?}
+use Rattle.oamd.specs.Reserved.{ObjectDivMode, ObjectDivCode, unreservedIf}
 
 -- what a block carries only if its object is dynamic and active in it
 unfoldable pub obj-div-block : Bool → P Divergence
 obj-div-block carries = do
   b-object-divergence ← bitsIf carries 1
-  object-div-mode ← bitsIf (set? b-object-divergence) 2
-  object-div-mode ← refuseIf (eqb object-div-mode 3) (numberOf Reserved) 2 object-div-mode
+  object-div-mode ← unreservedIf (set? b-object-divergence) ObjectDivMode
   object-div-table ← bitsIf (both (set? b-object-divergence) (eqb object-div-mode 0)) 2
-  object-div-code ← bitsIf (eqb object-div-mode 2) 6
-  object-div-code ← refuseIf (both (eqb object-div-mode 2) (eqb object-div-code 0)) (numberOf Reserved) 6 object-div-code
+  object-div-code ← unreservedIf (eqb object-div-mode 2) ObjectDivCode
   give {A = Divergence} (record { used = b-object-divergence; mode = object-div-mode; value = object-div-table + object-div-code })
 
 -- Table 43: which codes are sent, by index of ext_prec_pos_presence[]

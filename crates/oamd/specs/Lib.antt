@@ -1,4 +1,5 @@
 pub mod Tables
+pub mod Reserved
 pub mod Programme
 pub mod Timing
 pub mod Block

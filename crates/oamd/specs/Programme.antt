@@ -4,13 +4,12 @@ use mathlib.Core.List.{List, [], _∷_, _++_}
 use Prim.Native.Nat.{ℕ, suc, _+_, _-_, _*_}
 use lib.Dec.{leb, ltb, eqb}
 use lib.ListN.{length, getD, replicate}
-use Rattle.bits.specs.declared.Refusal.the-variants.{Reserved}
-use Rattle.bits.specs.Refusals.{numberOf}
-use Rattle.bits.specs.Language.{pick, both, P, give, _>>=_, bits, when, bitsIf, skip, refuseIf, for, flag}
+use Rattle.bits.specs.Language.{pick, both, P, give, _>>=_, bits, when, bitsIf, skip, for, flag}
 use Rattle.oamd.specs.declared.Bed.{Bed}
 use Rattle.oamd.specs.declared.Programme.{Programme}
 use Rattle.oamd.specs.declared.Shares.{Shares}
 use Rattle.oamd.specs.Tables.{mostBeds, isfObjects, bedLabels, nonstdLabels}
+use Rattle.oamd.specs.Reserved.{IntermediateSpatialFormatIdx, unreservedIf}
 
 -- a flag that is set
 abbrev pub set? : ℕ → Bool
@@ -77,9 +76,7 @@ bed-instances content-description = do
   })
 
 unfoldable pub intermediate-spatial-format : ℕ → P ℕ
-intermediate-spatial-format content-description = do
-  intermediate-spatial-format-idx ← bitsIf (hasIsf content-description) 3
-  refuseIf (leb 6 intermediate-spatial-format-idx) (numberOf Reserved) 3 intermediate-spatial-format-idx
+intermediate-spatial-format content-description = unreservedIf (hasIsf content-description) IntermediateSpatialFormatIdx
 
 unfoldable pub num-dynamic-objects : ℕ → P ℕ
 num-dynamic-objects content-description = do

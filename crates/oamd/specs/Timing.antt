@@ -4,20 +4,18 @@ use Prim.Native.Nat.{ℕ, _+_, _*_}
 use lib.Dec.{eqb}
 use lib.ListN.{length, getD}
 use Rattle.units.specs.declared.SampleCount.{SampleCount}
-use Rattle.bits.specs.declared.Refusal.the-variants.{Reserved}
-use Rattle.bits.specs.Refusals.{numberOf}
-use Rattle.bits.specs.Language.{pick, both, P, give, _>>=_, bits, bitsIf, refuseIf, for}
+use Rattle.bits.specs.Language.{pick, both, P, give, _>>=_, bits, bitsIf, for}
 use Rattle.oamd.specs.declared.Offset.{Offset}
 use Rattle.oamd.specs.declared.BlockUpdate.{BlockUpdate}
 use Rattle.oamd.specs.declared.Update.{Update}
 use Rattle.oamd.specs.declared.Timing.{Timing}
 use Rattle.oamd.specs.Programme.{set?, clear?, filled}
 use Rattle.oamd.specs.Tables.{mostBlocks, sampleOffsets, rampCodes, rampDurations}
+use Rattle.oamd.specs.Reserved.{SampleOffsetCode, unreserved}
 
 unfoldable pub sample-offset : P Offset
 sample-offset = do
-  sample-offset-code ← bits 2
-  sample-offset-code ← refuseIf (eqb sample-offset-code 3) (numberOf Reserved) 2 sample-offset-code
+  sample-offset-code ← unreserved SampleOffsetCode
   sample-offset-idx ← bitsIf (eqb sample-offset-code 1) 2
   sample-offset-bits ← bitsIf (eqb sample-offset-code 2) 5
   give {A = Offset} (record { code = sample-offset-code; index = sample-offset-idx; bits = sample-offset-bits })

@@ -3,14 +3,13 @@ use mathlib.Core.Bool.{Bool}
 use mathlib.Core.List.{List, [], _∷_, _++_}
 use mathlib.Core.Option.{Option, none, some}
 use Prim.Native.Nat.{ℕ, _+_}
-use lib.Dec.{leb, ltb, eqb}
+use lib.Dec.{eqb}
 use lib.ListN.{replicate}
-use Rattle.bits.specs.declared.Refusal.the-variants.{Reserved}
-use Rattle.bits.specs.Refusals.{numberOf}
-use Rattle.bits.specs.Language.{both, P, give, _>>=_, bits, when, bitsIf, refuseIf, for, flag}
+use Rattle.bits.specs.Language.{both, P, give, _>>=_, bits, when, bitsIf, for, flag}
 use Rattle.oamd.specs.declared.TrimConfig.{TrimConfig}
 use Rattle.oamd.specs.Programme.{set?, clear?}
 use Rattle.oamd.specs.Tables.{trimConfigs, trimFixed}
+use Rattle.oamd.specs.Reserved.{WarpMode, GlobalTrimMode, TrimSurround, TrimHeight, unreserved, unreservedIf}
 
 -- Table 34: which fields are sent, by index of trim_balance_presence[]
 abbrev pub hasCentre : ℕ → Bool
@@ -28,17 +27,15 @@ hasTb presence = set? (flag 5 1 presence)
 abbrev pub hasLis : ℕ → Bool
 hasLis presence = set? (flag 5 0 presence)
 
--- one configuration: Tables 36 and 37 reserve the codes 0 to 3 of trim_surround and trim_height
+-- one configuration
 unfoldable pub trim-config : P TrimConfig
 trim-config = do
   b-default-trim ← bits 1
   b-disable-trim ← bitsIf (clear? b-default-trim) 1
   trim-balance-presence ← bitsIf (both (clear? b-default-trim) (clear? b-disable-trim)) 5
   trim-centre ← bitsIf (hasCentre trim-balance-presence) 4
-  trim-surround ← bitsIf (hasSurround trim-balance-presence) 4
-  trim-surround ← refuseIf (both (hasSurround trim-balance-presence) (ltb trim-surround 4)) (numberOf Reserved) 4 trim-surround
-  trim-height ← bitsIf (hasHeight trim-balance-presence) 4
-  trim-height ← refuseIf (both (hasHeight trim-balance-presence) (ltb trim-height 4)) (numberOf Reserved) 4 trim-height
+  trim-surround ← unreservedIf (hasSurround trim-balance-presence) TrimSurround
+  trim-height ← unreservedIf (hasHeight trim-balance-presence) TrimHeight
   bal3D-Y-sign-tb-code ← bitsIf (hasTb trim-balance-presence) 1
   bal3D-Y-amount-tb ← bitsIf (hasTb trim-balance-presence) 4
   bal3D-Y-sign-lis-code ← bitsIf (hasLis trim-balance-presence) 1
@@ -79,14 +76,12 @@ pub record Trim : Type 0 where
   pub per-object : ℕ
   pub disabled : List ℕ
 
--- Table 32 reserves 2 and 3 of warp_mode, Table 33 reserves 3 of global_trim_mode; the two reserved bits are passed over
+-- the two reserved bits are passed over
 unfoldable pub trim-element : ℕ → P Trim
 trim-element object-count = do
-  warp-mode ← bits 2
-  warp-mode ← refuseIf (leb 2 warp-mode) (numberOf Reserved) 2 warp-mode
+  warp-mode ← unreserved WarpMode
   reserved ← bits 2
-  global-trim-mode ← bits 2
-  global-trim-mode ← refuseIf (eqb global-trim-mode 3) (numberOf Reserved) 2 global-trim-mode
+  global-trim-mode ← unreserved GlobalTrimMode
   configs ← when (eqb global-trim-mode 2) (for trimConfigs (λ cfg. trim-config)) (replicate trimConfigs noConfig)
   b-disable-trim-per-obj ← bits 1
   b-disable-trim ← when (set? b-disable-trim-per-obj) (for object-count (λ obj. bits 1)) (replicate object-count 0)

@@ -17,6 +17,7 @@ use Rattle.bits.specs.Language.{Bits, bits, bitsIf, refuseIf}
 use Rattle.bits.specs.Refusals.{numberOf}
 use Rattle.bits.specs.Size.{variable-bits-max}
 use Rattle.bits.specs.View.{Reads, openAt, innerOf, closeAt}
+use Rattle.bits.specs.Unique.{begun}
 use Rattle.bits.proofs.Sticky.{Left, start, step, done, broken, bind, plain, framing}
 use Rattle.oamd.specs.declared.Kind.{Kind}
 use Rattle.oamd.specs.declared.Kind.the-variants.{Unknown, Object, Trim, Extended}
@@ -34,7 +35,6 @@ use Rattle.reader.specs.declared.StateStep.{StateStep}
 use Rattle.reader.specs.declared.TimingStep.{TimingStep}
 use Rattle.reader.specs.Layout.{noTrimBytes}
 use Rattle.reader.specs.Steps.{ElementRead, TrimRead, ExtendedRead, Holding, stateOf, Went-on, Scoped, BodyRead, OneRead}
-use Rattle.reader.proofs.Accepted.{begun}
 use Rattle.reader.proofs.Bytes.{length-plain}
 use Rattle.reader.proofs.Gates.{stuck, carried, regiven, opened, by-zero}
 use Rattle.reader.proofs.TrimLoop.{not-read}

@@ -11,6 +11,7 @@ use Rattle.bits.specs.Language.{Bits, P, _>>=_, bits, when, each, run, ok}
 use Rattle.bits.specs.Steps.{give-ok}
 use Rattle.bits.specs.Laws.{each-long}
 use Rattle.bits.specs.View.{Reads}
+use Rattle.bits.specs.Unique.{begun, ran}
 use Rattle.bits.proofs.Sticky.{bind, plain}
 use Rattle.oamd.specs.declared.Divergence.{Divergence}
 use Rattle.oamd.specs.declared.Precise.{Precise}
@@ -19,7 +20,6 @@ use Rattle.oamd.specs.Programme.{set?}
 use Rattle.oamd.specs.Extended.{obj-div-block, ext-prec-pos-block, noDivergence, noPrecise, extended-object-element}
 use Rattle.oamd.specs.Record.{Record, recordOf, carries, allCarry, plainRecords, extendedRecords, bytesOf, onto}
 use Rattle.reader.specs.Steps.{Standing, withDivergence, withPrecise, put, carriers, PassedIf, Extending, ExtendedRead}
-use Rattle.reader.proofs.Accepted.{begun, ran}
 use Rattle.reader.proofs.Bytes.{length-plain}
 
 carriers-plain : (ss : List Scene) → carriers (plainRecords ss) ≡ allCarry ss

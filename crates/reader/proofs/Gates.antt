@@ -9,15 +9,18 @@ use Rattle.bits.specs.declared.Limit.{Limit}
 use Rattle.bits.specs.Language.{pick, Bits, ok, no, P, refuseIf, run}
 use Rattle.bits.specs.Steps.{no-ok}
 use Rattle.bits.specs.View.{Reads}
-use Rattle.reader.proofs.Accepted.{ran}
+use Rattle.bits.specs.Unique.{ran}
 
 -- behind a refusal every reader stays where it is
 pub stuck : {A : Type 0} {p : P A} {b : Bits} {c : Cur} {l : Limit} {v : A} → (c .no ≡ 0 → ⊥) → Reads p b c l v c
-stuck {c = c} h = record { same = rw (ne-eqb (c .no) 0 h) }
+stuck {c = c} h = record { same = rw (ne-eqb (c .no) 0 h); handed = λ z. refl }
 
 -- what one reader made of a refused cursor, every reader makes of it
 pub carried : {A B : Type 0} {p : P A} {q : P B} {b : Bits} {c d : Cur} {l : Limit} {v : A} {w : B} → Reads p b c l v d → (c .no ≡ 0 → ⊥) → Reads q b c l w d
-carried {A} {B} {c = c} {d} {v = v} {w} r h = record { same = rw (ne-eqb (c .no) 0 h) (go (eqb (d .no) 0) (rw (ne-eqb (c .no) 0 h) at (r .same))) }
+carried {A} {B} {c = c} {d} {v = v} {w} r h = record {
+  same = rw (ne-eqb (c .no) 0 h) (go (eqb (d .no) 0) (rw (ne-eqb (c .no) 0 h) at (r .same)));
+  handed = r .handed;
+}
   where
     go : (s : Bool) → pick s (ok v (d .at .0)) (no (d .no) (d .at .0) (d .missing)) ≡ no (c .no) (c .at .0) (c .missing)
         → pick s (ok w (d .at .0)) (no (d .no) (d .at .0) (d .missing)) ≡ no (c .no) (c .at .0) (c .missing)
@@ -28,7 +31,7 @@ carried {A} {B} {c = c} {d} {v = v} {w} r h = record { same = rw (ne-eqb (c .no)
 pub regiven : {A B : Type 0} (on : Bool) (r back : ℕ) {b : Bits} {c d : Cur} {l : Limit} {v : A} {w : B}
     → Reads (refuseIf on r back v) b c l v d → Reads (refuseIf on r back w) b c l w d
 unfolding run
-regiven true r back {c = c} {d} {v = v} {w} x = record { same = go (eqb (d .no) 0) (eqb (c .no) 0) (x .same) }
+regiven true r back {c = c} {d} {v = v} {w} x = record { same = go (eqb (d .no) 0) (eqb (c .no) 0) (x .same); handed = x .handed }
   where
     go : (s t : Bool) → pick s (ok v (d .at .0)) (no (d .no) (d .at .0) (d .missing)) ≡ pick t (no r (c .at .0 - back) 0) (no (c .no) (c .at .0) (c .missing))
         → pick s (ok w (d .at .0)) (no (d .no) (d .at .0) (d .missing)) ≡ pick t (no r (c .at .0 - back) 0) (no (c .no) (c .at .0) (c .missing))
@@ -36,7 +39,7 @@ regiven true r back {c = c} {d} {v = v} {w} x = record { same = go (eqb (d .no) 
     go true false e = absurd (no-ok (sym e))
     go false true e = let x : d .no ≡ r = cc in let y : d .at .0 ≡ c .at .0 - back = cc in let z : d .missing ≡ 0 = cc in rw (x, y, z)
     go false false e = let x : d .no ≡ c .no = cc in let y : d .at .0 ≡ c .at .0 = cc in let z : d .missing ≡ c .missing = cc in rw (x, y, z)
-regiven false r back {c = c} {d} {v = v} {w} x = record { same = go (eqb (d .no) 0) (eqb (c .no) 0) (x .same) }
+regiven false r back {c = c} {d} {v = v} {w} x = record { same = go (eqb (d .no) 0) (eqb (c .no) 0) (x .same); handed = x .handed }
   where
     go : (s t : Bool) → pick s (ok v (d .at .0)) (no (d .no) (d .at .0) (d .missing)) ≡ pick t (ok v (c .at .0)) (no (c .no) (c .at .0) (c .missing))
         → pick s (ok w (d .at .0)) (no (d .no) (d .at .0) (d .missing)) ≡ pick t (ok w (c .at .0)) (no (c .no) (c .at .0) (c .missing))

@@ -3,7 +3,6 @@ pub mod Structure
 pub mod TimingLoop
 pub mod ObjectLoop
 pub mod Pass
-pub mod Accepted
 pub mod Extending
 pub mod Gates
 pub mod TrimLoop

@@ -5,18 +5,17 @@ use mathlib.Core.List.{List, [], _∷_, _++_, append-assoc, append-nil}
 use mathlib.Core.Option.{none}
 use Prim.Native.Nat.{ℕ, zero, suc, _+_, _*_, _≤_, _<_}
 use native.Mathlib.Omega.{arith}
-use lib.Dec.{leb, eqb}
+use lib.Dec.{eqb}
 use lib.ListN.{length, set, replicate, length-append, length-replicate, replicate-append-replicate}
 use Rattle.bits.specs.declared.Cur.{Cur}
 use Rattle.bits.specs.declared.Limit.{Limit}
-use Rattle.bits.specs.declared.Refusal.the-variants.{Reserved}
-use Rattle.bits.specs.Language.{Bits, P, give, bits, refuseIf, for}
-use Rattle.bits.specs.Refusals.{numberOf}
+use Rattle.bits.specs.Language.{Bits, P, give, bits, for}
 use Rattle.bits.specs.View.{Reads}
 use Rattle.bits.proofs.Sticky.{Left, done, turns, for-step, for-stop, bind, plain}
 use Rattle.oamd.specs.declared.TrimConfig.{TrimConfig}
 use Rattle.oamd.specs.Tables.{mostObjects, trimFixed, mostTrim}
 use Rattle.oamd.specs.Programme.{set?}
+use Rattle.oamd.specs.Reserved.{WarpMode, GlobalTrimMode, unreserved}
 use Rattle.oamd.specs.Record.{onto}
 use Rattle.oamd.specs.Trim.{Trim, trim-element, noTrim, trimOf, configBytesOf, configsBytesOf, trimBytesOf, trimNeeded}
 use Rattle.reader.specs.Layout.{setFrom, noTrimBytes}
@@ -110,15 +109,14 @@ count-flags flags = omega arith
 
 -- ---- the element: its fields in a line, and each of its bytes stored where the front ends
 
-pub trimming : {objects : ℕ} {b : Bits} {c c₁ c₂ c₃ c₄ c₅ c₆ c₇ d : Cur} {l : Limit} {out out₁ out₂ : List ℕ} {code warp reserved choice mode flagged : ℕ}
-    → Reads (bits 2) b c l code c₁ → Reads (refuseIf (leb 2 code) (numberOf Reserved) 2 code) b c₁ l warp c₂ → Reads (bits 2) b c₂ l reserved c₃
-    → Reads (bits 2) b c₃ l choice c₄ → Reads (refuseIf (eqb choice 3) (numberOf Reserved) 2 choice) b c₄ l mode c₅
-    → ConfigsRead (eqb mode 2) b c₅ l (set (set (set out 0 1) 1 warp) 2 mode) c₆ out₁ → Reads (bits 1) b c₆ l flagged c₇
-    → FlagsRead (set? flagged) objects b c₇ l (set out₁ 93 flagged) d out₂ → TrimRead objects b c l out d out₂
+pub trimming : {objects : ℕ} {b : Bits} {c c₁ c₂ c₃ c₄ c₅ d : Cur} {l : Limit} {out out₁ out₂ : List ℕ} {warp reserved mode flagged : ℕ}
+    → Reads (unreserved WarpMode) b c l warp c₁ → Reads (bits 2) b c₁ l reserved c₂ → Reads (unreserved GlobalTrimMode) b c₂ l mode c₃
+    → ConfigsRead (eqb mode 2) b c₃ l (set (set (set out 0 1) 1 warp) 2 mode) c₄ out₁ → Reads (bits 1) b c₄ l flagged c₅
+    → FlagsRead (set? flagged) objects b c₅ l (set out₁ 93 flagged) d out₂ → TrimRead objects b c l out d out₂
 unfolding trim-element trimBytesOf onto
-trimming {out = out} {out₂ = out₂} {warp = warp} {mode = mode} {flagged} r₁ r₂ r₃ r₄ r₅ cs r₇ fs = record {
+trimming {out = out} {out₂ = out₂} {warp = warp} {mode = mode} {flagged} r₁ r₂ r₃ cs r₅ fs = record {
   value = value;
-  reads = bind r₁ (bind r₂ (bind r₃ (bind r₄ (bind r₅ (bind (cs .reads) (bind r₇ (bind (fs .reads) plain)))))));
+  reads = bind r₁ (bind r₂ (bind r₃ (bind (cs .reads) (bind r₅ (bind (fs .reads) plain)))));
   long = omega (arith, length-append (configsBytesOf (cs .value)) (flagged ∷ fs .value), cs .long, fs .long);
   size = fs .size;
   stand = stand;

@@ -14,6 +14,7 @@ use Rattle.bits.specs.declared.Refusal.the-variants.{TooLong, Counts, Room}
 use Rattle.bits.specs.Language.{Bits, bits, bit, refuseIf}
 use Rattle.bits.specs.Refusals.{numberOf}
 use Rattle.bits.specs.View.{Reads}
+use Rattle.bits.specs.Unique.{clean}
 use Rattle.bits.proofs.Sticky.{bind, plain}
 use Rattle.oamd.specs.declared.Programme.{Programme}
 use Rattle.oamd.specs.declared.Shares.{Shares}
@@ -47,10 +48,12 @@ pub payload-read : {s out out' table' : List ℕ} {h : HeaderStep} {c₀ c : Cur
 unfolding object-audio-metadata-payload
 payload-read {s} {h = h} {c₀} {l = l} {r = r} el ec es x q e m =
     let u = e .went (h .programme) (refl, sym es) m in
-    let reads = bind (x .reads) (bind q (bind (u .reads) plain)) in
+    let reads = subst₂ (λ (k : Limit) (d : Cur). Reads object-audio-metadata-payload (bit s) d k (record { programme = h .programme; known = u .known; unknown = r .state .unknown }) (r .cur)) el ec
+    (bind (x .reads) (bind q (bind (u .reads) plain))) in
     record {
       known = u .known;
-      reads = subst₂ (λ (k : Limit) (d : Cur). Reads object-audio-metadata-payload (bit s) d k (record { programme = h .programme; known = u .known; unknown = r .state .unknown }) (r .cur)) el ec reads;
+      reads = reads;
+      clean = λ z. clean reads z refl;
       holding = u .holding;
       size = e .size;
       width = e .width;

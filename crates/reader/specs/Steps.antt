@@ -225,6 +225,7 @@ pub record PayloadRead (s out : List ℕ) (r : PayloadStep) (out' table' : List 
   pub known : Known
   pub reads : Reads object-audio-metadata-payload (bit s) startCur (wholeOf s)
       (record { programme = r .programme; known = known; unknown = r .state .unknown }) (r .cur)
+  pub clean : r .cur .no ≡ 0 → r .cur .missing ≡ 0
   pub holding : r .cur .no ≡ 0 → Holding (r .programme .objects) known out (r .state) out' table'
   pub size : length out' ≡ roomBytes
   pub width : length table' ≡ mostTrim

@@ -12,7 +12,6 @@ use crate::TRIM;
 use crate::TRIM_FIXED;
 use bits::Cur;
 use bits::Limit;
-use bits::Refusal;
 use oamd::TrimConfig;
 
 pub fn no_trim() -> [u8; TRIM]
@@ -91,11 +90,9 @@ pub fn read_trim(s: &[u8], l: Limit, c: Cur, objects: usize, out: &mut [u8; TRIM
     requires { ⌜ (objects ≤ mostObjects) × (length (now out) ≡ mostTrim) ⌝ }
     ensures { λ r. ⌜ TrimRead objects (bit (now (s .entry))) c l (now (out .entry)) r (now (out .exit)) ⌝ }
 {
-    let code = bits::take(s, l, c, 2);
-    let warp = bits::refuse_if(2 <= code.v, s, l, code, Refusal::Reserved, 2);
+    let warp = bits::take_unless(true, s, l, c, 2, 2, 3);
     let reserved = bits::take(s, l, warp, 2);
-    let choice = bits::take(s, l, reserved, 2);
-    let mode = bits::refuse_if(choice.v == 3, s, l, choice, Refusal::Reserved, 2);
+    let mode = bits::take_unless(true, s, l, reserved, 2, 3, 3);
     out[0] = 1;
     out[1] = warp.v as u8;
     out[2] = mode.v as u8;

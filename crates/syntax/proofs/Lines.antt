@@ -20,7 +20,7 @@ worth h r = rw h r
 
 -- no reader looks at the value that the cursor held before
 pub revalued : {A : Type 0} {p : P A} {b : Bits} {c d : Cur} {l : Limit} {x : ℕ} {v : A} → Reads p b (valued c x) l v d → Reads p b c l v d
-revalued r = record { same = r .same }
+revalued r = record { same = r .same; handed = r .handed }
 
 -- a rule for `search`: a reader that runs only if a test holds, where a call made the test
 pub then-if : (A B : Type 0) (p q : P A) (k : A → P B) (b : Bits) (c d f : Cur) (l : Limit) (v : A) (w : B) (on t : Bool)

@@ -1,6 +1,6 @@
 // A block of an object (5.5.9).
 ghost use Rattle.bits.specs.Language.{bit};
-ghost use Rattle.bits.specs.View.{Reads};
+ghost use Rattle.bits.specs.View.{Gave};
 ghost use Rattle.oamd.specs.Block.{additional-table-data, object-info-block};
 use crate::BlockStep;
 use crate::levels::read_basic;
@@ -13,7 +13,7 @@ use units::ByteCount;
 
 // Additional table data is passed over.
 fn pass_additional(s: &[u8], l: Limit, c: Cur) -> Cur
-    ensures { λ r. ⌜ Reads additional-table-data (bit (now (s .entry))) c l (r .v) r ⌝ }
+    ensures { λ r. ⌜ Gave additional-table-data (bit (now (s .entry))) c l 0 r ⌝ }
 {
     let exists = bits::take(s, l, c, 1);
     let size = bits::take_if(exists.v == 1, s, l, exists, 4);
@@ -22,7 +22,7 @@ fn pass_additional(s: &[u8], l: Limit, c: Cur) -> Cur
 
 // Block blk of an object of a class.
 pub fn read_block(s: &[u8], l: Limit, c: Cur, class: u8, blk: u32) -> BlockStep
-    ensures { λ r. ⌜ Reads (object-info-block class blk) (bit (now (s .entry))) c l (r .block) (r .cur) ⌝ }
+    ensures { λ r. ⌜ Gave (object-info-block class blk) (bit (now (s .entry))) c l (r .block) (r .cur) ⌝ }
 {
     let first = blk == 0;
     let idle = bits::take(s, l, c, 1);

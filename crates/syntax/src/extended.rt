@@ -1,43 +1,33 @@
 // Divergence and precise positions (5.5.14, 5.5.15). Only an active block of a dynamic object carries them.
 ghost use Rattle.bits.specs.Language.{bit};
-ghost use Rattle.bits.specs.View.{Reads};
+ghost use Rattle.bits.specs.View.{Gave};
 ghost use Rattle.oamd.specs.Extended.{obj-div-block, ext-prec-pos-block};
 use crate::DivergenceStep;
 use crate::PreciseStep;
 use bits::Cur;
 use bits::Limit;
-use bits::Refusal;
 use oamd::Divergence;
 use oamd::Precise;
 
 pub fn read_divergence(s: &[u8], l: Limit, c: Cur, carries: bool) -> DivergenceStep
-    ensures { λ r. ⌜ Reads (obj-div-block carries) (bit (now (s .entry))) c l (r .divergence) (r .cur) ⌝ }
+    ensures { λ r. ⌜ Gave (obj-div-block carries) (bit (now (s .entry))) c l (r .divergence) (r .cur) ⌝ }
 {
     let used = bits::take_if(carries, s, l, c, 1);
-    let mode = bits::take_if(used.v == 1, s, l, used, 2);
-    let known = bits::refuse_if(mode.v == 3, s, l, mode, Refusal::Reserved, 2);
-    let table = bits::take_if(oamd::both(used.v == 1, known.v == 0), s, l, known, 2);
-    let code = bits::take_if(known.v == 2, s, l, table, 6);
-    let value = bits::refuse_if(
-        oamd::both(known.v == 2, code.v == 0),
-        s,
-        l,
-        code,
-        Refusal::Reserved,
-        6,
-    );
+    let mode = bits::take_unless(used.v == 1, s, l, used, 2, 3, 3);
+    let table = bits::take_if(oamd::both(used.v == 1, mode.v == 0), s, l, mode, 2);
+    let code = bits::take_unless(mode.v == 2, s, l, table, 6, 0, 0);
     DivergenceStep {
         divergence: Divergence {
             used: used.v as u8,
-            mode: known.v as u8,
-            value: (table.v + value.v) as u8,
+            mode: mode.v as u8,
+            value: (table.v + code.v) as u8,
         },
-        cur: value,
+        cur: bits::with_value(code, 0),
     }
 }
 
 pub fn read_precise(s: &[u8], l: Limit, c: Cur, carries: bool) -> PreciseStep
-    ensures { λ r. ⌜ Reads (ext-prec-pos-block carries) (bit (now (s .entry))) c l (r .precise) (r .cur) ⌝ }
+    ensures { λ r. ⌜ Gave (ext-prec-pos-block carries) (bit (now (s .entry))) c l (r .precise) (r .cur) ⌝ }
 {
     let given = bits::take_if(carries, s, l, c, 1);
     let presence = bits::take_if(given.v == 1, s, l, given, 3);
@@ -51,6 +41,6 @@ pub fn read_precise(s: &[u8], l: Limit, c: Cur, carries: bool) -> PreciseStep
             y: y.v as u8,
             z: z.v as u8,
         },
-        cur: z,
+        cur: bits::with_value(z, 0),
     }
 }

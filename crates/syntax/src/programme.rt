@@ -2,7 +2,7 @@
 ghost use mathlib.Core.Path.{_≡_};
 ghost use Prim.Native.Nat.{_≤_, _<_};
 ghost use Rattle.bits.specs.Language.{bit};
-ghost use Rattle.bits.specs.View.{Reads, Took};
+ghost use Rattle.bits.specs.View.{Reads, Took, Gave};
 ghost use Rattle.oamd.specs.Programme.{bedInstances, bed-assignment, intermediate-spatial-format, num-dynamic-objects, reserved-data, program-assignment};
 ghost use Rattle.syntax.specs.Beds.{BedsRead};
 use crate::BedStep;
@@ -10,7 +10,6 @@ use crate::BedsStep;
 use crate::ProgrammeStep;
 use bits::Cur;
 use bits::Limit;
-use bits::Refusal;
 use oamd::Bed;
 use oamd::Programme;
 use units::ByteCount;
@@ -85,8 +84,7 @@ fn read_beds(s: &[u8], l: Limit, c: Cur, content: u32) -> BedsStep
 fn read_isf(s: &[u8], l: Limit, c: Cur, content: u32) -> Cur
     ensures { λ r. ⌜ Took (intermediate-spatial-format content) 8 (bit (now (s .entry))) c l r ⌝ }
 {
-    let index = bits::take_if(oamd::flag(4, 2, content), s, l, c, 3);
-    bits::refuse_if(6 <= index.v, s, l, index, Refusal::Reserved, 3)
+    bits::take_unless(oamd::flag(4, 2, content), s, l, c, 3, 6, 7)
 }
 
 fn read_dynamics(s: &[u8], l: Limit, c: Cur, content: u32) -> Cur
@@ -99,7 +97,7 @@ fn read_dynamics(s: &[u8], l: Limit, c: Cur, content: u32) -> Cur
 
 // Reserved data is passed over.
 fn pass_reserved(s: &[u8], l: Limit, c: Cur, content: u32) -> Cur
-    ensures { λ r. ⌜ Reads (reserved-data content) (bit (now (s .entry))) c l (r .v) r ⌝ }
+    ensures { λ r. ⌜ Gave (reserved-data content) (bit (now (s .entry))) c l 0 r ⌝ }
 {
     let has = oamd::flag(4, 0, content);
     let size = bits::take_if(has, s, l, c, 4);
@@ -107,7 +105,7 @@ fn pass_reserved(s: &[u8], l: Limit, c: Cur, content: u32) -> Cur
 }
 
 pub fn read_assignment(s: &[u8], l: Limit, c: Cur, objects: u8) -> ProgrammeStep
-    ensures { λ r. ⌜ (r .programme .objects ≡ objects) × Reads (program-assignment objects) (bit (now (s .entry))) c l (r .programme) (r .cur) ⌝ }
+    ensures { λ r. ⌜ (r .programme .objects ≡ objects) × Gave (program-assignment objects) (bit (now (s .entry))) c l (r .programme) (r .cur) ⌝ }
 {
     let dynonly = bits::take(s, l, c, 1);
     let lfe = bits::take_if(dynonly.v == 1, s, l, dynonly, 1);

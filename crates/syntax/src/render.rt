@@ -12,7 +12,6 @@ use crate::ZoneStep;
 use crate::levels::read_parts;
 use bits::Cur;
 use bits::Limit;
-use bits::Refusal;
 use oamd::Distance;
 use oamd::Extent;
 use oamd::Position;
@@ -83,12 +82,11 @@ fn read_distance(s: &[u8], l: Limit, c: Cur, on: bool) -> DistanceStep
 fn read_zone(s: &[u8], l: Limit, c: Cur, on: bool) -> ZoneStep
     ensures { λ r. ⌜ Reads (zone on) (bit (now (s .entry))) c l (r .zone) (r .cur) ⌝ }
 {
-    let index = bits::take_if(on, s, l, c, 3);
-    let known = bits::refuse_if(6 <= index.v, s, l, index, Refusal::Reserved, 3);
-    let elevation = bits::take_if(on, s, l, known, 1);
+    let index = bits::take_unless(on, s, l, c, 3, 6, 7);
+    let elevation = bits::take_if(on, s, l, index, 1);
     ZoneStep {
         zone: Zone {
-            index: known.v as u8,
+            index: index.v as u8,
             elevation: elevation.v as u8,
         },
         cur: elevation,
@@ -98,15 +96,14 @@ fn read_zone(s: &[u8], l: Limit, c: Cur, on: bool) -> ZoneStep
 fn read_extent(s: &[u8], l: Limit, c: Cur, on: bool) -> ExtentStep
     ensures { λ r. ⌜ Reads (extent on) (bit (now (s .entry))) c l (r .extent) (r .cur) ⌝ }
 {
-    let index = bits::take_if(on, s, l, c, 2);
-    let known = bits::refuse_if(index.v == 3, s, l, index, Refusal::Reserved, 2);
-    let all = bits::take_if(known.v == 1, s, l, known, 5);
-    let width = bits::take_if(known.v == 2, s, l, all, 5);
-    let depth = bits::take_if(known.v == 2, s, l, width, 5);
-    let height = bits::take_if(known.v == 2, s, l, depth, 5);
+    let index = bits::take_unless(on, s, l, c, 2, 3, 3);
+    let all = bits::take_if(index.v == 1, s, l, index, 5);
+    let width = bits::take_if(index.v == 2, s, l, all, 5);
+    let depth = bits::take_if(index.v == 2, s, l, width, 5);
+    let height = bits::take_if(index.v == 2, s, l, depth, 5);
     ExtentStep {
         extent: Extent {
-            index: known.v as u8,
+            index: index.v as u8,
             all: all.v as u8,
             width: width.v as u8,
             depth: depth.v as u8,

@@ -1,34 +1,32 @@
 // The sample offset and the timing of a block (5.5.6, 5.5.7).
 ghost use Rattle.bits.specs.Language.{bit};
-ghost use Rattle.bits.specs.View.{Reads};
+ghost use Rattle.bits.specs.View.{Gave};
 ghost use Rattle.oamd.specs.Timing.{sample-offset, block-update-info};
 use crate::OffsetStep;
 use crate::UpdateStep;
 use bits::Cur;
 use bits::Limit;
-use bits::Refusal;
 use oamd::BlockUpdate;
 use oamd::Offset;
 
 pub fn read_offset(s: &[u8], l: Limit, c: Cur) -> OffsetStep
-    ensures { λ r. ⌜ Reads sample-offset (bit (now (s .entry))) c l (r .offset) (r .cur) ⌝ }
+    ensures { λ r. ⌜ Gave sample-offset (bit (now (s .entry))) c l (r .offset) (r .cur) ⌝ }
 {
-    let code = bits::take(s, l, c, 2);
-    let known = bits::refuse_if(code.v == 3, s, l, code, Refusal::Reserved, 2);
-    let index = bits::take_if(known.v == 1, s, l, known, 2);
-    let more = bits::take_if(known.v == 2, s, l, index, 5);
+    let code = bits::take_unless(true, s, l, c, 2, 3, 3);
+    let index = bits::take_if(code.v == 1, s, l, code, 2);
+    let more = bits::take_if(code.v == 2, s, l, index, 5);
     OffsetStep {
         offset: Offset {
-            code: known.v as u8,
+            code: code.v as u8,
             index: index.v as u8,
             bits: more.v as u8,
         },
-        cur: more,
+        cur: bits::with_value(more, 0),
     }
 }
 
 pub fn read_update(s: &[u8], l: Limit, c: Cur) -> UpdateStep
-    ensures { λ r. ⌜ Reads block-update-info (bit (now (s .entry))) c l (r .update) (r .cur) ⌝ }
+    ensures { λ r. ⌜ Gave block-update-info (bit (now (s .entry))) c l (r .update) (r .cur) ⌝ }
 {
     let factor = bits::take(s, l, c, 6);
     let code = bits::take(s, l, factor, 2);
@@ -43,6 +41,6 @@ pub fn read_update(s: &[u8], l: Limit, c: Cur) -> UpdateStep
             indexed: indexed.v as u8,
             index: index.v as u8,
         },
-        cur: ramp,
+        cur: bits::with_value(ramp, 0),
     }
 }

@@ -1,22 +1,13 @@
 // One trim configuration (5.5.12).
 ghost use Rattle.bits.specs.Language.{bit};
-ghost use Rattle.bits.specs.View.{Reads};
+ghost use Rattle.bits.specs.View.{Gave};
 ghost use Rattle.oamd.specs.Trim.{trim-config};
-ghost use Rattle.syntax.specs.Trim.{LevelRead, BalanceRead};
+ghost use Rattle.syntax.specs.Trim.{BalanceRead};
 use crate::BalanceStep;
 use crate::TrimConfigStep;
 use bits::Cur;
 use bits::Limit;
-use bits::Refusal;
 use oamd::TrimConfig;
-
-// trim_surround or trim_height, if it is sent: Tables 36 and 37 reserve the codes 0 to 3.
-fn read_level(s: &[u8], l: Limit, c: Cur, on: bool) -> Cur
-    ensures { λ r. ⌜ LevelRead on (bit (now (s .entry))) c l r ⌝ }
-{
-    let code = bits::take_if(on, s, l, c, 4);
-    bits::refuse_if(oamd::both(on, code.v < 4), s, l, code, Refusal::Reserved, 4)
-}
 
 // A balance, if it is sent: its sign and its amount.
 fn read_balance(s: &[u8], l: Limit, c: Cur, on: bool) -> BalanceStep
@@ -32,18 +23,17 @@ fn read_balance(s: &[u8], l: Limit, c: Cur, on: bool) -> BalanceStep
 }
 
 pub fn read_trim_config(s: &[u8], l: Limit, c: Cur) -> TrimConfigStep
-    ensures { λ r. ⌜ Reads trim-config (bit (now (s .entry))) c l (r .config) (r .cur) ⌝ }
+    ensures { λ r. ⌜ Gave trim-config (bit (now (s .entry))) c l (r .config) (r .cur) ⌝ }
 {
     let bydefault = bits::take(s, l, c, 1);
     let disabled = bits::take_if(bydefault.v == 0, s, l, bydefault, 1);
     let sent = oamd::both(bydefault.v == 0, disabled.v == 0);
     let presence = bits::take_if(sent, s, l, disabled, 5);
     let centre = bits::take_if(oamd::flag(5, 4, presence.v), s, l, presence, 4);
-    let surround = read_level(s, l, centre, oamd::flag(5, 3, presence.v));
-    let height = read_level(s, l, surround, oamd::flag(5, 2, presence.v));
+    let surround = bits::take_unless(oamd::flag(5, 3, presence.v), s, l, centre, 4, 0, 3);
+    let height = bits::take_unless(oamd::flag(5, 2, presence.v), s, l, surround, 4, 0, 3);
     let tb = read_balance(s, l, height, oamd::flag(5, 1, presence.v));
     let lis = read_balance(s, l, tb.cur, oamd::flag(5, 0, presence.v));
-    let cur = lis.cur;
     TrimConfigStep {
         config: TrimConfig {
             bydefault: bydefault.v as u8,
@@ -57,6 +47,6 @@ pub fn read_trim_config(s: &[u8], l: Limit, c: Cur) -> TrimConfigStep
             lissign: lis.sign,
             lisamount: lis.amount,
         },
-        cur,
+        cur: bits::with_value(lis.cur, 0),
     }
 }

@@ -1,20 +1,19 @@
 -- Where document 01 leaves a choice, the form takes the fewest bits, and of equal length the smallest number: whatever bits a reader takes for a
 -- group of fields, the form's bits of what they mean come first. What the form rules out beforehand is a premise.
-use mathlib.Core.Path.{_≡_}
+use mathlib.Core.Path.{_≡_, refl}
 use mathlib.Core.Bool.{true}
 use mathlib.Core.List.{_++_, append-nil, append-assoc}
 use Prim.Native.Nat.{ℕ, _<_}
 use native.Mathlib.Omega.{arith}
-use lib.ListN.{length}
 use lib.Dec.{eqb}
-use borrow.Author.Tests.{eqb-false}
 use Rattle.bits.specs.Language.{both, bits}
 use Rattle.bits.specs.Writes.{toBits, only}
-use Rattle.bits.specs.Spells.{Spells, s-give, s-bind, s-bits, s-if, s-pass}
+use Rattle.bits.specs.Spells.{Spells, s-give, s-bind, s-bits, s-if}
 use Rattle.bits.specs.First.{First, first-append}
 use Rattle.oamd.specs.declared.Status.the-variants.{Full}
 use Rattle.oamd.specs.declared.Place.{Place}
 use Rattle.oamd.specs.Programme.{set?, clear?}
+use Rattle.oamd.specs.Reserved.{SampleOffsetCode, ObjectSizeIdx}
 use Rattle.oamd.specs.Timing.{sample-offset, block-update-info, offsetOf, updateOf}
 use Rattle.oamd.specs.Block.{object-basic-info, coordinates, distance, extent}
 use Rattle.oamd.specs.Meaning.{gainOf, priorityOf, placeOf, distanceOf, volumeOf}
@@ -23,6 +22,7 @@ use Rattle.written.specs.Coded.{codedOffset, codedUpdate, codedGain, cod
 use Rattle.written.specs.Lemmas.Codable.{offsetCodable, updateCodable, gainCodable, priorityCodable, distanceCodable, extentCodable}
 use Rattle.written.specs.Form.{offsetBits, updateBits, gainBits, priorityBits, positionBits, distanceBits, extentBits}
 use Rattle.written.specs.Lemmas.Facts.{whole}
+use Rattle.written.specs.Lemmas.Unreserved.{under, s-unreserved}
 use Rattle.written.specs.Lemmas.AcceptedProgramme.{read-ranged, always}
 use Rattle.written.specs.Lemmas.FewestCodes.{gain-least, priority-least, distance-least, offset-least, update-least, across-least, z-least, extent-least}
 
@@ -32,16 +32,15 @@ use Rattle.written.specs.Lemmas.FewestCodes.{gain-least, priority-least,
 pub offset-fewest : Spells sample-offset (λ l o. (o .code ≡ 1 → ⊥) → First (offsetBits (codedOffset (offsetOf o))) l)
 unfolding sample-offset offsetCodable offsetBits
 offset-fewest =
-    s-bind _ _ _ (s-bits 2 _ λ code a.
-    s-bind _ _ _ (s-pass (eqb code 3) _ _ code _ λ q.
+    s-bind _ _ _ (s-unreserved true SampleOffsetCode _ λ code a a'.
     s-bind _ _ _ (s-if (eqb code 1) 2 _ λ index b b'.
     s-bind _ _ _ (s-if (eqb code 2) 5 _ λ n c c'.
     s-give _ _ (λ other.
-    let k : code ≡ 3 → ⊥ = eqb-false code 3 q in
+    let k = under SampleOffsetCode code (omega arith) (a refl) in
     rw (append-nil (only (eqb code 2) (toBits 5 n)))
     (offset-least (record { code = code; index = index; bits = n })
     (whole _ _ (always 0 2 0 code (omega arith) (omega arith)) (whole _ _ (read-ranged (eqb code 1) 3 index b b')
-    (read-ranged (eqb code 2) 31 n c c'))) other))))))
+    (read-ranged (eqb code 2) 31 n c c'))) other)))))
 
 -- but for an index other than 15
 pub update-fewest : (offset : ℕ) → offset < 32
@@ -110,15 +109,14 @@ distance-fewest =
 pub extent-fewest : Spells (extent true) (λ l e. First (extentBits (codedExtent (volumeOf e))) l)
 unfolding extent extentCodable extentBits
 extent-fewest =
-    s-bind _ _ _ (s-bits 2 _ λ index a.
-    s-bind _ _ _ (s-pass (eqb index 3) _ _ index _ λ q.
+    s-bind _ _ _ (s-unreserved true ObjectSizeIdx _ λ index a a'.
     s-bind _ _ _ (s-if (eqb index 1) 5 _ λ n b b'.
     s-bind _ _ _ (s-if (eqb index 2) 5 _ λ w c c'.
     s-bind _ _ _ (s-if (eqb index 2) 5 _ λ d e e'.
     s-bind _ _ _ (s-if (eqb index 2) 5 _ λ h f f'.
-    let k : index ≡ 3 → ⊥ = eqb-false index 3 q in
+    let k = under ObjectSizeIdx index (omega arith) (a refl) in
     s-give _ _ (rw (append-nil (only (eqb index 2) (toBits 5 h)))
     (extent-least (record { index = index; all = n; width = w; depth = d; height = h })
     (whole _ _ (always 0 2 0 index (omega arith) (omega arith)) (whole _ _ (read-ranged (eqb index 1) 31 n b b')
     (whole _ _ (read-ranged (eqb index 2) 31 w c c')
-    (whole _ _ (read-ranged (eqb index 2) 31 d e e') (read-ranged (eqb index 2) 31 h f f')))))))))))))
+    (whole _ _ (read-ranged (eqb index 2) 31 d e e') (read-ranged (eqb index 2) 31 h f f'))))))))))))

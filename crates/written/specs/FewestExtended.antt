@@ -1,24 +1,26 @@
 -- The same for the extended object element (5.5.13 to 5.5.15): which of its two groups are there, and which records say that they have a precise position.
 use mathlib.Core.Path.{_≡_, refl, sym, ap, ap₂, _∙_, subst}
-use mathlib.Core.Bool.{Bool, true, false, not, false≢true}
+use mathlib.Core.Bool.{Bool, true, false, false≢true}
 use mathlib.Core.List.{List, [], _∷_, _++_, map, append-nil, append-assoc}
 use Prim.Native.Nat.{ℕ, suc, _+_, _<_}
 use native.Mathlib.Omega.{arith}
 use lib.ListN.{length, getD, replicate}
 use lib.Dec.{ltb, eqb}
 use borrow.Author.Tests.{eqb-true}
-use Rattle.bits.specs.Language.{both, P, bits, when, each, number}
+use Rattle.bits.specs.Language.{both, P, when, each, number}
 use Rattle.bits.specs.Writes.{toBits, only, eachBits}
-use Rattle.bits.specs.Spells.{Spells, s-give, s-bind, s-bits, s-if, s-pass, s-pick, s-then}
+use Rattle.bits.specs.Spells.{Spells, s-give, s-bind, s-bits, s-if, s-pick, s-then}
 use Rattle.bits.specs.First.{First, first-of, first-same, first-none, first-append}
 use Rattle.oamd.specs.declared.Divergence.{Divergence}
 use Rattle.oamd.specs.declared.Precise.{Precise}
 use Rattle.oamd.specs.Programme.{set?}
+use Rattle.oamd.specs.Reserved.{ObjectDivMode, ObjectDivCode}
 use Rattle.oamd.specs.Extended.{obj-div-block, ext-prec-pos-block, hasX, hasY, hasZ, noDivergence, noPrecise, extended-object-element}
 use Rattle.oamd.specs.Record.{Record, carries, allCarry, divergenceBytes, preciseBytes}
 use Rattle.written.specs.Coded.{asFlag}
 use Rattle.written.specs.Form.{divergenceBits, preciseBits, any, diverges, refines, extendedElementBits}
 use Rattle.written.specs.Lemmas.Facts.{by-test, by-flag}
+use Rattle.written.specs.Lemmas.Unreserved.{s-unreserved}
 use Rattle.written.specs.Lemmas.ExtendedBack.{Carried, no-divergence, no-precise}
 
 -- ---- a record
@@ -28,11 +30,9 @@ divergence-only : (sent : Bool) → Spells (obj-div-block sent) (λ l d. First (
 unfolding obj-div-block divergenceBits
 divergence-only sent =
     s-bind _ _ _ (s-if sent 1 _ λ used u u'.
-    s-bind _ _ _ (s-if (set? used) 2 _ λ mode m m'.
-    s-bind _ _ _ (s-pass (eqb mode 3) _ _ mode _ λ k.
+    s-bind _ _ _ (s-unreserved (set? used) ObjectDivMode _ λ mode m m'.
     s-bind _ _ _ (s-if (both (set? used) (eqb mode 0)) 2 _ λ table t t'.
-    s-bind _ _ _ (s-if (eqb mode 2) 6 _ λ code c c'.
-    s-bind _ _ _ (s-pass (both (eqb mode 2) (eqb code 0)) _ _ code _ λ z.
+    s-bind _ _ _ (s-unreserved (eqb mode 2) ObjectDivCode _ λ code c c'.
     s-give _ _ (
     let a : only (both (set? used) (eqb mode 0)) (toBits 2 (table + code)) ≡ only (both (set? used) (eqb mode 0)) (toBits 2 table) =
     by-test (eqb mode 0)
@@ -43,7 +43,7 @@ divergence-only sent =
     (λ q. let e : mode ≡ 2 = eqb-true mode 2 q in let y : 0 ≡ table = t'
     (rw e (none (set? used))) in let s : table + code ≡ code = omega arith in rw s refl)
     (λ q. rw q refl) in
-    rw (append-nil (only (eqb mode 2) (toBits 6 code)), a, b) (first-same _))))))))
+    rw (append-nil (only (eqb mode 2) (toBits 6 code)), a, b) (first-same _))))))
   where
     off : (t : Bool) (l m : List ℕ) → only (both t false) l ≡ only (both t false) m
     off true l m = refl

@@ -1,4 +1,5 @@
 pub mod Facts
+pub mod Unreserved
 pub mod Codable
 pub mod Means
 pub mod Fields

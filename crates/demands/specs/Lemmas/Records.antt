@@ -125,16 +125,14 @@ trim-flagged : (p : Programme) (n : ℕ) (b : Bits) (at e o : ℕ) {x : TrimTabl
 unfolding trim-element Flagged
 trim-flagged p n b at e o same h =
     bind-ok _ _ b at e o h λ warp p1 h1 h.
-    bind-ok _ _ b p1 e o h λ warp p2 h2 h.
-    bind-ok _ _ b p2 e o h λ reserved p3 h3 h.
-    bind-ok _ _ b p3 e o h λ mode p4 h4 h.
-    bind-ok _ _ b p4 e o h λ mode p5 h5 h.
-    bind-ok _ _ b p5 e o h λ configs p6 h6 h.
-    bind-ok _ _ b p6 e o h λ flag p7 h7 h.
-    bind-ok _ _ b p7 e o h λ disabled p8 h8 h.
-    subst (λ (y : TrimTable). (length (y .configs) ≡ trimConfigs) × (length (y .disabled) ≡ p .objects)) (give-ok _ b p8 e o h .0) (
-      when-long (eqb mode 2) (λ cfg. trim-config) noConfig _ trimConfigs b p5 e o (length-from 0 trimConfigs) h6,
-      when-long (set? flag) (λ obj. bits 1) 0 _ n b p7 e o (length-from 0 n) h8 ∙ sym same,
+    bind-ok _ _ b p1 e o h λ reserved p2 h2 h.
+    bind-ok _ _ b p2 e o h λ mode p3 h3 h.
+    bind-ok _ _ b p3 e o h λ configs p4 h4 h.
+    bind-ok _ _ b p4 e o h λ flag p5 h5 h.
+    bind-ok _ _ b p5 e o h λ disabled p6 h6 h.
+    subst (λ (y : TrimTable). (length (y .configs) ≡ trimConfigs) × (length (y .disabled) ≡ p .objects)) (give-ok _ b p6 e o h .0) (
+      when-long (eqb mode 2) (λ cfg. trim-config) noConfig _ trimConfigs b p3 e o (length-from 0 trimConfigs) h4,
+      when-long (set? flag) (λ obj. bits 1) 0 _ n b p5 e o (length-from 0 n) h6 ∙ sym same,
     )
 
 none-flagged : (p : Programme) → Flagged p (noTrim (p .objects))

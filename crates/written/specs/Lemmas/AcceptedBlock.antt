@@ -3,20 +3,21 @@ use mathlib.Core.Path.{_≡_, refl, sym, _∙_}
 use mathlib.Core.Bool.{Bool, true, false, not, false≢true}
 use Prim.Native.Nat.{ℕ, suc, _≤_, _<_}
 use native.Mathlib.Omega.{arith}
-use lib.Dec.{leb, eqb}
-use borrow.Author.Tests.{leb-false}
+use lib.Dec.{eqb}
 use Rattle.bits.specs.Language.{pick, both}
-use Rattle.bits.specs.Ensures.{Ensures, e-give, e-bits, e-bind, e-any, e-then, e-pick, e-pass, e-if}
+use Rattle.bits.specs.Ensures.{Ensures, e-give, e-bits, e-bind, e-any, e-then, e-pick, e-if}
 use Rattle.oamd.specs.declared.Status.{Status}
 use Rattle.oamd.specs.declared.Status.the-variants.{Default}
 use Rattle.oamd.specs.declared.Basic.{Basic}
 use Rattle.oamd.specs.declared.Render.{Render}
 use Rattle.oamd.specs.declared.Block.{Block}
 use Rattle.oamd.specs.Programme.{set?, clear?, dynamicClass}
+use Rattle.oamd.specs.Reserved.{ZoneConstraintsIdx}
 use Rattle.oamd.specs.Block.{status-idx, object-basic-info, position, distance, zone, extent, screen, object-render-info, object-info-block, hasZone, hasSize, hasScreen, hasPriority, sends}
 use Rattle.oamd.specs.Meaning.{idle}
 use Rattle.written.specs.Valid.{zoneValid, screenValid}
 use Rattle.written.specs.Lemmas.Facts.{whole, by-test, by-flag}
+use Rattle.written.specs.Lemmas.Unreserved.{under, e-unreserved}
 use Rattle.written.specs.Lemmas.AcceptedProgramme.{read-ranged, always}
 
 -- ---- what is read
@@ -47,22 +48,20 @@ basic-ensures status =
 zone-ensures : (on : Bool) → Ensures (zone on) (λ z. zoneValid true z ≡ true)
 unfolding zone zoneValid
 zone-ensures on =
-    e-bind _ _ _ (e-any _ _ λ index.
-    e-bind _ _ _ (e-pass (leb 6 index) _ _ index _ λ q.
+    e-bind _ _ _ (e-unreserved on ZoneConstraintsIdx _ λ index i i'.
     e-bind _ _ _ (e-if on 1 _ λ elevation e e'.
-    let l = leb-false 6 index q in
-    e-give _ _ (whole _ _ (always 0 5 0 index (omega arith) (omega arith)) (always 0 1 1 elevation (omega arith) (small on elevation 1 e e'))))))
+    let l = small on index 5 (λ q. under ZoneConstraintsIdx index (omega arith) (i q)) i' in
+    e-give _ _ (whole _ _ (always 0 5 0 index (omega arith) l) (always 0 1 1 elevation (omega arith) (small on elevation 1 e e')))))
 
 extent-ensures : (on : Bool) → Ensures (extent on) (λ e. (e .all ≤ 31) × (e .width ≤ 31) × (e .depth ≤ 31) × (e .height ≤ 31))
 unfolding extent
 extent-ensures on =
     e-bind _ _ _ (e-any _ _ λ index.
-    e-bind _ _ _ (e-any _ _ λ known.
-    e-bind _ _ _ (e-if (eqb known 1) 5 _ λ n a a'.
-    e-bind _ _ _ (e-if (eqb known 2) 5 _ λ w b b'.
-    e-bind _ _ _ (e-if (eqb known 2) 5 _ λ d c c'.
-    e-bind _ _ _ (e-if (eqb known 2) 5 _ λ h e e'.
-    e-give _ _ (small _ n 31 a a', small _ w 31 b b', small _ d 31 c c', small _ h 31 e e')))))))
+    e-bind _ _ _ (e-if (eqb index 1) 5 _ λ n a a'.
+    e-bind _ _ _ (e-if (eqb index 2) 5 _ λ w b b'.
+    e-bind _ _ _ (e-if (eqb index 2) 5 _ λ d c c'.
+    e-bind _ _ _ (e-if (eqb index 2) 5 _ λ h e e'.
+    e-give _ _ (small _ n 31 a a', small _ w 31 b b', small _ d 31 c c', small _ h 31 e e'))))))
 
 screen-ensures : (on : Bool) → Ensures (screen on) (λ s. screenValid true s ≡ true)
 unfolding screen screenValid

@@ -6,16 +6,18 @@ use Prim.Native.Nat.{ℕ, zero, suc, _+_, _-_, _≤_, _<_}
 use native.Mathlib.Omega.{arith}
 use lib.ListN.{length, replicate, length-append, length-replicate}
 use lib.Dec.{leb, eqb}
-use borrow.Author.Tests.{eqb-true, eq-eqb, leb-false, le-leb, not-false}
+use borrow.Author.Tests.{eqb-true, eq-eqb, le-leb, not-false}
 use Rattle.bits.specs.Language.{pick, both, from}
 use Rattle.bits.specs.Laws.{length-from}
 use Rattle.bits.specs.Ensures.{Ensures, All, e-give, e-bits, e-bind, e-any, e-then, e-pass, e-if, e-each}
 use Rattle.oamd.specs.declared.Programme.{Programme}
 use Rattle.oamd.specs.Tables.{mostObjects, mostBeds}
 use Rattle.oamd.specs.Programme.{set?, clear?, hasBeds, hasIsf, hasDynamic, hasReserved, bedInstances, bedOf, bed-assignment, filled, noBed, Beds, bed-instances, intermediate-spatial-format, num-dynamic-objects, program-assignment, agrees}
+use Rattle.oamd.specs.Reserved.{IntermediateSpatialFormatIdx}
 use Rattle.oamd.specs.Payload.{oa-md-version, object-count, header}
 use Rattle.written.specs.Valid.{_and_, ranged, bedValid, entriesValid, programmeValid}
 use Rattle.written.specs.Lemmas.Facts.{whole, by-test, in-range, is-ranged}
+use Rattle.written.specs.Lemmas.Unreserved.{under, e-unreserved}
 use Rattle.written.specs.Lemmas.Entries.{Every}
 use Rattle.written.specs.Lemmas.ProgrammeBack.{instances-le}
 
@@ -111,8 +113,8 @@ beds-ensure content =
 isf-ensures : (content : ℕ) → Ensures (intermediate-spatial-format content) (λ isf. ranged (hasIsf content) 0 5 0 isf ≡ true)
 unfolding intermediate-spatial-format
 isf-ensures content =
-    e-bind _ _ _ (e-if (hasIsf content) 3 _ λ isf i i'.
-    e-pass (leb 6 isf) _ _ isf _ λ q. let l = leb-false 6 isf q in read-ranged (hasIsf content) 5 isf (λ p. omega arith) i')
+    e-unreserved (hasIsf content) IntermediateSpatialFormatIdx _ λ isf i i'.
+    read-ranged (hasIsf content) 5 isf (λ q. under IntermediateSpatialFormatIdx isf (omega arith) (i q)) i'
 
 dynamics-ensure : (content : ℕ) → Ensures (num-dynamic-objects content) (λ n. ranged (hasDynamic content) 0 158 0 n ≡ true)
 unfolding num-dynamic-objects

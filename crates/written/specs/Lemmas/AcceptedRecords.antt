@@ -6,18 +6,19 @@ use Prim.Native.Nat.{ℕ, suc, _+_, _<_}
 use native.Mathlib.Omega.{arith}
 use lib.ListN.{length, replicate}
 use lib.Dec.{eqb}
-use borrow.Author.Tests.{eqb-false}
 use Rattle.bits.specs.Language.{both, each}
-use Rattle.bits.specs.Ensures.{Ensures, All, e-give, e-bind, e-any, e-then, e-when, e-pass, e-if, e-each}
+use Rattle.bits.specs.Ensures.{Ensures, All, e-give, e-bind, e-any, e-then, e-when, e-if, e-each}
 use Rattle.oamd.specs.declared.Shares.{Shares}
 use Rattle.oamd.specs.declared.Scene.{Scene}
 use Rattle.oamd.specs.declared.Divergence.{Divergence}
 use Rattle.oamd.specs.declared.Precise.{Precise}
 use Rattle.oamd.specs.Programme.{set?}
+use Rattle.oamd.specs.Reserved.{ObjectDivMode, ObjectDivCode}
 use Rattle.oamd.specs.Extended.{obj-div-block, ext-prec-pos-block, hasX, hasY, hasZ, noDivergence, noPrecise, Extension, extended-object-element}
 use Rattle.oamd.specs.Record.{Record, carries, allCarry, plainRecords, extendedRecords}
 use Rattle.written.specs.Valid.{_and_, ranged, leastDivergence, mostDivergence, divergenceValid, preciseValid, recordValid, firstBad}
 use Rattle.written.specs.Lemmas.Facts.{whole, by-test, by-eq, is-ranged}
+use Rattle.written.specs.Lemmas.Unreserved.{Free, under, over, e-unreserved}
 use Rattle.written.specs.Lemmas.ObjectsBack.{ValidFrom}
 use Rattle.written.specs.Lemmas.AcceptedProgramme.{read-ranged, always}
 use Rattle.written.specs.Lemmas.AcceptedScenes.{ScenesValid}
@@ -25,13 +26,12 @@ use Rattle.written.specs.Lemmas.AcceptedScenes.{ScenesValid}
 -- ---- what is read
 
 -- the value of a mode, from its table or its code
-value-read : (used : Bool) (mode table code : ℕ) → (used ≡ true → mode < 4) → (used ≡ false → 0 ≡ mode) → eqb mode 3 ≡ false
+value-read : (used : Bool) (mode table code : ℕ) → (used ≡ true → mode < 3) → (used ≡ false → 0 ≡ mode)
     → (both used (eqb mode 0) ≡ true → table < 4) → (both used (eqb mode 0) ≡ false → 0 ≡ table)
-    → (eqb mode 2 ≡ true → code < 64) → (eqb mode 2 ≡ false → 0 ≡ code) → both (eqb mode 2) (eqb code 0) ≡ false
+    → (eqb mode 2 ≡ true → Free ObjectDivCode code) → (eqb mode 2 ≡ false → 0 ≡ code)
     → ranged used (leastDivergence mode) (mostDivergence mode) 0 (table + code) ≡ true
-value-read true mode table code m m' k t t' c c' z =
+value-read true mode table code m m' t t' c c' =
     let l = m refl in
-    let n : mode ≡ 3 → ⊥ = eqb-false mode 3 k in
     by-eq mode 0
     (λ e.
     let a : table < 4 = t (rw e refl) in
@@ -45,10 +45,10 @@ value-read true mode table code m m' k t t' c c' z =
     (λ y.
     let e : mode ≡ 2 = omega arith in
     let a : 0 ≡ table = t' (rw e refl) in
-    let b : code < 64 = c (rw e refl) in
-    let d : code ≡ 0 → ⊥ = eqb-false code 0 (rw e at z) in
+    let b : Free ObjectDivCode code = c (rw e refl) in
+    let d = over ObjectDivCode code (omega arith) b in
     rw e (always 1 63 0 (table + code) (omega arith) (omega arith))))
-value-read false mode table code m m' k t t' c c' z =
+value-read false mode table code m m' t t' c c' =
     let e : 0 ≡ mode = m' refl in
     let a : 0 ≡ table = t' refl in
     let b : 0 ≡ code = c' (rw (← e) refl) in
@@ -58,14 +58,12 @@ divergence-ensures : (sent : Bool) → Ensures (obj-div-block sent) (λ d. diver
 unfolding obj-div-block divergenceValid
 divergence-ensures sent =
     e-bind _ _ _ (e-if sent 1 _ λ used u u'.
-    e-bind _ _ _ (e-if (set? used) 2 _ λ mode m m'.
-    e-bind _ _ _ (e-pass (eqb mode 3) _ _ mode _ λ k.
+    e-bind _ _ _ (e-unreserved (set? used) ObjectDivMode _ λ mode m m'.
     e-bind _ _ _ (e-if (both (set? used) (eqb mode 0)) 2 _ λ table t t'.
-    e-bind _ _ _ (e-if (eqb mode 2) 6 _ λ code c c'.
-    e-bind _ _ _ (e-pass (both (eqb mode 2) (eqb code 0)) _ _ code _ λ z.
-    let n : mode ≡ 3 → ⊥ = eqb-false mode 3 k in
-    e-give _ _ (whole _ _ (read-ranged sent 1 used u u') (whole _ _ (read-ranged (set? used) 2 mode (λ q. let l = m q in omega arith) m')
-    (value-read (set? used) mode table code m m' k t t' c c' z)))))))))
+    e-bind _ _ _ (e-unreserved (eqb mode 2) ObjectDivCode _ λ code c c'.
+    let n : set? used ≡ true → mode < 3 = λ q. under ObjectDivMode mode (omega arith) (m q) in
+    e-give _ _ (whole _ _ (read-ranged sent 1 used u u') (whole _ _ (read-ranged (set? used) 2 mode n m')
+    (value-read (set? used) mode table code n m' t t' c c')))))))
 
 precise-ensures : (sent : Bool) → Ensures (ext-prec-pos-block sent) (λ p. preciseValid sent p ≡ true)
 unfolding ext-prec-pos-block preciseValid

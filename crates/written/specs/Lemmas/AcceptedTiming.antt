@@ -9,7 +9,7 @@ use lib.Dec.{leb, eqb}
 use borrow.Author.Tests.{leb-true, eq-eqb}
 use Rattle.bits.specs.Language.{pick, both, from}
 use Rattle.bits.specs.Laws.{length-from}
-use Rattle.bits.specs.Ensures.{Ensures, e-give, e-bits, e-bind, e-then, e-pass, e-if, e-each}
+use Rattle.bits.specs.Ensures.{Ensures, e-give, e-bits, e-bind, e-any, e-then, e-if, e-each}
 use Rattle.oamd.specs.declared.Offset.{Offset}
 use Rattle.oamd.specs.declared.BlockUpdate.{BlockUpdate}
 use Rattle.oamd.specs.declared.Update.{Update}
@@ -43,13 +43,12 @@ read-le t v n m f g l = by-test t (λ q. let x = f q in omega arith) (λ q. let 
 offset-ensures : Ensures sample-offset (λ o. offsetOf o ≤ 31)
 unfolding sample-offset offsetOf
 offset-ensures =
-    e-bind _ _ _ (e-bits 2 _ λ code a.
-    e-bind _ _ _ (e-pass (eqb code 3) _ _ code _ λ q.
+    e-bind _ _ _ (e-any _ _ λ code.
     e-bind _ _ _ (e-if (eqb code 1) 2 _ λ index i i'.
     e-bind _ _ _ (e-if (eqb code 2) 5 _ λ n b b'.
     e-give _ _ (picked-le (eqb code 0) 0 _ 31 (λ e. omega arith) (λ e.
     picked-le (eqb code 1) (getD sampleOffsets index 0) n 31 (λ f. entry-le 31 sampleOffsets index refl)
-    (λ f. read-le (eqb code 2) n 32 31 b b' (omega arith))))))))
+    (λ f. read-le (eqb code 2) n 32 31 b b' (omega arith)))))))
 
 -- an update as it was read
 pub record UpdateRead (u : BlockUpdate) : Type 0 where

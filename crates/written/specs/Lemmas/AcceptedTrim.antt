@@ -5,23 +5,26 @@ use mathlib.Core.List.{List, [], append-nil}
 use Prim.Native.Nat.{ℕ, _<_}
 use native.Mathlib.Omega.{arith}
 use lib.ListN.{length, replicate, length-replicate}
-use lib.Dec.{leb, ltb, eqb}
-use borrow.Author.Tests.{eq-eqb, eqb-false, leb-false, ltb-false}
-use Rattle.bits.specs.Language.{pick, both, P, bits, when, from, for}
+use lib.Dec.{eqb}
+use borrow.Author.Tests.{eq-eqb}
+use Rattle.bits.specs.Language.{pick, both, between, P, bits, when, from, for}
+use Rattle.bits.specs.Steps.{free-above}
 use Rattle.bits.specs.Laws.{length-from}
-use Rattle.bits.specs.Ensures.{Ensures, e-give, e-bits, e-bind, e-any, e-then, e-when, e-pass, e-if, e-each}
+use Rattle.bits.specs.Ensures.{Ensures, e-give, e-bits, e-bind, e-any, e-then, e-when, e-if, e-each}
 use Rattle.oamd.specs.Tables.{trimConfigs}
 use Rattle.oamd.specs.Programme.{set?, clear?}
+use Rattle.oamd.specs.Reserved.{WarpMode, GlobalTrimMode, TrimSurround, TrimHeight}
 use Rattle.oamd.specs.Trim.{hasCentre, hasSurround, hasHeight, hasTb, hasLis, trim-config, noConfig, trim-element, noTrim}
 use Rattle.written.specs.Valid.{ranged, entriesValid, configValid, trimValid}
 use Rattle.written.specs.Lemmas.Facts.{whole, is-ranged}
+use Rattle.written.specs.Lemmas.Unreserved.{under, e-unreserved}
 use Rattle.written.specs.Lemmas.AcceptedProgramme.{read-ranged, always, all-every, entries-make}
 
 -- ---- a configuration
 
 -- a code of which the first four are reserved
-code-ranged : (sent : Bool) (v : ℕ) → (sent ≡ true → v < 16) → (sent ≡ false → 0 ≡ v) → both sent (ltb v 4) ≡ false → ranged sent 4 15 0 v ≡ true
-code-ranged sent v f g h = is-ranged sent 4 15 0 v (λ q. ltb-false v 4 (rw q at h)) (λ q. let x = f q in omega arith) (λ q. sym (g q))
+code-ranged : (sent : Bool) (v : ℕ) → (sent ≡ true → (v < 16) × (between 0 3 v ≡ false)) → (sent ≡ false → 0 ≡ v) → ranged sent 4 15 0 v ≡ true
+code-ranged sent v f g = is-ranged sent 4 15 0 v (λ q. free-above 0 3 v (f q .1) (omega arith)) (λ q. let x = f q .0 in omega arith) (λ q. sym (g q))
 
 config-ensures : Ensures trim-config (λ c. configValid true c ≡ true)
 unfolding trim-config configValid
@@ -30,10 +33,8 @@ config-ensures =
     e-bind _ _ _ (e-if (clear? bydefault) 1 _ λ disabled b b'.
     e-bind _ _ _ (e-if (both (clear? bydefault) (clear? disabled)) 5 _ λ presence c c'.
     e-bind _ _ _ (e-if (hasCentre presence) 4 _ λ centre d d'.
-    e-bind _ _ _ (e-if (hasSurround presence) 4 _ λ surround e e'.
-    e-bind _ _ _ (e-pass (both (hasSurround presence) (ltb surround 4)) _ _ surround _ λ q.
-    e-bind _ _ _ (e-if (hasHeight presence) 4 _ λ height f f'.
-    e-bind _ _ _ (e-pass (both (hasHeight presence) (ltb height 4)) _ _ height _ λ r.
+    e-bind _ _ _ (e-unreserved (hasSurround presence) TrimSurround _ λ surround e e'.
+    e-bind _ _ _ (e-unreserved (hasHeight presence) TrimHeight _ λ height f f'.
     e-bind _ _ _ (e-if (hasTb presence) 1 _ λ tbsign g g'.
     e-bind _ _ _ (e-if (hasTb presence) 4 _ λ tbamount h h'.
     e-bind _ _ _ (e-if (hasLis presence) 1 _ λ lissign i i'.
@@ -42,11 +43,11 @@ config-ensures =
     (whole _ _ (read-ranged (clear? bydefault) 1 disabled b b')
     (whole _ _ (read-ranged (both (clear? bydefault) (clear? disabled)) 31 presence c c')
     (whole _ _ (read-ranged (hasCentre presence) 15 centre d d')
-    (whole _ _ (code-ranged (hasSurround presence) surround e e' q)
-    (whole _ _ (code-ranged (hasHeight presence) height f f' r)
+    (whole _ _ (code-ranged (hasSurround presence) surround e e')
+    (whole _ _ (code-ranged (hasHeight presence) height f f')
     (whole _ _ (read-ranged (hasTb presence) 1 tbsign g g')
     (whole _ _ (read-ranged (hasTb presence) 15 tbamount h h')
-    (whole _ _ (read-ranged (hasLis presence) 1 lissign i i') (read-ranged (hasLis presence) 15 lisamount j j'))))))))))))))))))))))
+    (whole _ _ (read-ranged (hasLis presence) 1 lissign i i') (read-ranged (hasLis presence) 15 lisamount j j'))))))))))))))))))))
 
 no-config-valid : configValid false noConfig ≡ true
 unfolding configValid ranged
@@ -82,24 +83,22 @@ flag-off = refl
 pub trim-ensures : (objects : ℕ) → Ensures (trim-element objects) (λ t. trimValid objects t ≡ true)
 unfolding trim-element trimValid
 trim-ensures objects =
-    e-bind _ _ _ (e-bits 2 _ λ warp w.
-    e-bind _ _ _ (e-pass (leb 2 warp) _ _ warp _ λ q.
+    e-bind _ _ _ (e-unreserved true WarpMode _ λ warp w w'.
     e-bind _ _ _ (e-any _ _ λ reserved.
-    e-bind _ _ _ (e-bits 2 _ λ mode m.
-    e-bind _ _ _ (e-pass (eqb mode 3) _ _ mode _ λ r.
+    e-bind _ _ _ (e-unreserved true GlobalTrimMode _ λ mode m m'.
     e-bind _ _ _ (e-then _ _ _ (array-ensures configValid noConfig trim-config config-ensures no-config-valid (eqb mode 2) trimConfigs) λ configs c.
     e-bind _ _ _ (e-bits 1 _ λ flag f.
     e-bind _ _ _ (e-then _ _ _ (array-ensures (λ used x. ranged used 0 1 0 x) 0 (bits 1)
     (e-bits 1 _ λ x l. always 0 1 0 x (omega arith) (omega arith)) flag-off (set? flag) objects) λ flags d.
-    let low = leb-false 2 warp q in
-    let other : mode ≡ 3 → ⊥ = eqb-false mode 3 r in
+    let low = under WarpMode warp (omega arith) (w refl) in
+    let other = under GlobalTrimMode mode (omega arith) (m refl) in
     e-give _ _ (whole _ _ (always 0 1 0 1 (omega arith) (omega arith))
     (whole _ _ (always 0 1 0 warp (omega arith) (omega arith))
     (whole _ _ (always 0 2 0 mode (omega arith) (omega arith))
     (whole _ _ (eq-eqb _ _ (c .long))
     (whole _ _ (c .entries)
     (whole _ _ (always 0 1 0 flag (omega arith) (omega arith))
-    (whole _ _ (eq-eqb _ _ (d .long)) (d .entries))))))))))))))))
+    (whole _ _ (eq-eqb _ _ (d .long)) (d .entries))))))))))))))
 
 -- and so is that of a payload without the element
 pub no-trim-valid : (objects : ℕ) → trimValid objects (noTrim objects) ≡ true

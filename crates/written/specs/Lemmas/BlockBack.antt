@@ -157,8 +157,8 @@ no-render-writes : (first : Bool) → Writes (object-render-info Default first) 
 unfolding object-render-info position distance zone extent screen
 no-render-writes first =
     w-bind (w-give 0) (w-bind (w-bind (w-give 0) (w-give nowhere)) (w-bind (w-bind (w-give 0) (w-bind (w-give 0) (w-bind (w-give 0) (w-give _))))
-    (w-bind (w-bind (w-give 0) (w-bind (w-give 0) (w-bind (w-give 0) (w-give _))))
-    (w-bind (w-bind (w-give 0) (w-bind (w-give 0) (w-bind (w-give 0) (w-bind (w-give 0) (w-bind (w-give 0) (w-bind (w-give 0) (w-give _)))))))
+    (w-bind (w-bind (w-give 0) (w-bind (w-give 0) (w-give _)))
+    (w-bind (w-bind (w-give 0) (w-bind (w-give 0) (w-bind (w-give 0) (w-bind (w-give 0) (w-bind (w-give 0) (w-give _))))))
     (w-bind (w-bind (w-give 0) (w-bind (w-give 0) (w-bind (w-give 0) (w-give _)))) (w-bind (w-give 0) (w-give _)))))))
 
 renders-write : (sent first : Bool) (class : ℕ) (s : Scene) → SceneFacts class s → carries s ≡ sent

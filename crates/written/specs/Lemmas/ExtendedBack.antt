@@ -1,24 +1,28 @@
 -- 5.5.13 to 5.5.15: the extended object element of valid records is read back as it was written.
 use mathlib.Core.Path.{_≡_, refl, sym, ap, ap₂}
-use mathlib.Core.Bool.{Bool, true, false, false≢true}
+use mathlib.Core.Bool.{Bool, true, false, false≢true, true≢false}
+use mathlib.Core.Logic.{inl}
 use mathlib.Core.List.{List, [], _∷_, map}
 use Prim.Native.Nat.{ℕ, suc, _+_, _/_, _≤_, _<_}
 use native.Mathlib.Omega.{arith}
 use lib.ListN.{length, replicate}
 use lib.Dec.{ltb, eqb}
-use borrow.Author.Tests.{ne-eqb, eqb-false, ltb-false}
-use Rattle.bits.specs.Language.{pick, both, P, bits, when, bitsIf, each}
-use Rattle.bits.specs.Writes.{toBits, only, Along, Writes, w-give, w-bits, w-bind, w-end, w-is, w-if, w-when, w-pass, w-each}
+use borrow.Author.Tests.{eqb-false, ltb-false}
+use Rattle.bits.specs.Language.{pick, both, P, when, bitsIf}
+use Rattle.bits.specs.Steps.{above-free}
+use Rattle.bits.specs.Writes.{toBits, only, Along, Writes, w-give, w-bits, w-bind, w-end, w-is, w-if, w-when, w-each}
 use Rattle.oamd.specs.declared.Shares.{Shares}
 use Rattle.oamd.specs.declared.Divergence.{Divergence}
 use Rattle.oamd.specs.declared.Precise.{Precise}
 use Rattle.oamd.specs.Programme.{set?, classOf}
+use Rattle.oamd.specs.Reserved.{ObjectDivMode, ObjectDivCode, unreservedIf}
 use Rattle.oamd.specs.Extended.{obj-div-block, ext-prec-pos-block, hasX, hasY, hasZ, noDivergence, noPrecise, Extension, extended-object-element}
 use Rattle.oamd.specs.Record.{Record, recordOf, carries, allCarry, plainRecords, extendedRecords}
 use Rattle.written.specs.Valid.{ranged, leastDivergence, mostDivergence, sceneValid, divergenceValid, preciseValid, recordValid}
 use Rattle.written.specs.Coded.{asFlag}
 use Rattle.written.specs.Form.{divergenceBits, preciseBits, any, diverges, refines, hasExtended, extendedElementBits}
 use Rattle.written.specs.Lemmas.Facts.{halves, by-test, by-flag, by-eq, Ranged, in-range, w-ranged, w-picked}
+use Rattle.written.specs.Lemmas.Unreserved.{w-unreserved, w-within}
 use Rattle.written.specs.Lemmas.Entries.{Every}
 use Rattle.written.specs.Lemmas.ObjectsBack.{ValidFrom}
 
@@ -38,7 +42,6 @@ divergence-facts sent d h =
 
 -- the value of a mode that is known: one of two fields carries it
 record ByMode (used : Bool) (mode value : ℕ) : Type 0 where
-  known : eqb mode 3 ≡ false
   table : both used (eqb mode 0) ≡ true → value < 4
   code : eqb mode 2 ≡ true → (1 ≤ value) × (value < 64)
   once : pick (both used (eqb mode 0)) value 0 + pick (eqb mode 2) value 0 ≡ value
@@ -50,7 +53,6 @@ by-mode true mode value m v =
     let x = v .on refl in
     by-eq mode 0
     (λ e. let y : (0 ≤ value) × (value ≤ 3) = rw e at x in rw e (record {
-      known = refl;
       table = λ q. omega arith;
       code = λ q. absurd
           (false≢true q);
@@ -58,7 +60,6 @@ by-mode true mode value m v =
     }))
     (λ n. by-eq mode 1
     (λ e. let y : (0 ≤ value) × (value ≤ 0) = rw e at x in rw e (record {
-      known = refl;
       table = λ q. absurd (false≢true q);
       code = λ q. absurd
           (false≢true q);
@@ -67,23 +68,25 @@ by-mode true mode value m v =
     (λ k.
     let e : mode ≡ 2 = omega arith in
     let y : (1 ≤ value) × (value ≤ 63) = rw e at x in
-    rw e (record { known = refl; table = λ q. absurd (false≢true q); code = λ q. (omega arith, omega arith); once = omega arith })))
+    rw e (record { table = λ q. absurd (false≢true q); code = λ q. (omega arith, omega arith); once = omega arith })))
 by-mode false mode value m v =
     let e = m .off refl in
     let z = v .off refl in
-    rw e (record { known = refl; table = λ q. absurd (false≢true q); code = λ q. absurd (false≢true q); once = omega arith })
+    rw e (record { table = λ q. absurd (false≢true q); code = λ q. absurd (false≢true q); once = omega arith })
+
+code-picked : (t : Bool) (v : ℕ) → (t ≡ true → (1 ≤ v) × (v < 64)) → Writes (unreservedIf t ObjectDivCode) (only t (toBits 6 v)) (pick t v 0)
+code-picked true v h = let x = h refl in w-unreserved true ObjectDivCode v (λ q. (x .1, above-free 0 0 v (omega arith))) (λ q. absurd (true≢false q))
+code-picked false v h = w-give 0
 
 divergence-writes : (sent : Bool) (d : Divergence) → divergenceValid sent d ≡ true → Writes (obj-div-block sent) (divergenceBits sent d) d
 unfolding obj-div-block divergenceBits
 divergence-writes sent d h =
     let f = divergence-facts sent d h in
     let m = by-mode (set? (d .used)) (d .mode) (d .value) (f .mode) (f .value) in
-    let pass : both (eqb (d .mode) 2) (eqb (pick (eqb (d .mode) 2) (d .value) 0) 0) ≡ false =
-    by-test (eqb (d .mode) 2) (λ q. let l = m .code q in rw q (ne-eqb (d .value) 0 (λ z. omega arith))) (λ q. rw q refl) in
     w-is (λ i. record { used = d .used; mode = d .mode; value = m .once i })
-    (w-bind (w-ranged 1 (f .used) (omega arith)) (w-bind (w-ranged 2 (f .mode) (omega arith)) (w-bind (w-pass (eqb (d .mode) 3) _ _ _ (m .known))
+    (w-bind (w-ranged 1 (f .used) (omega arith)) (w-bind (w-within ObjectDivMode (f .mode) (omega arith) (inl (omega arith)))
     (w-bind (w-picked (both (set? (d .used)) (eqb (d .mode) 0)) 2 (d .value) (λ q. m .table q))
-    (w-end (w-picked (eqb (d .mode) 2) 6 (d .value) (λ q. m .code q .1)) (w-bind (w-pass _ _ _ _ pass) (w-give _)))))))
+    (w-end (code-picked (eqb (d .mode) 2) (d .value) (m .code)) (w-give _)))))
 
 -- ---- a precise position
 

@@ -4,10 +4,9 @@ use mathlib.Core.Bool.{Bool, true, not}
 use mathlib.Core.List.{[], _++_, append-assoc}
 use Prim.Native.Nat.{ℕ, _≤_}
 use native.Mathlib.Omega.{arith}
-use lib.Dec.{leb, eqb}
-use borrow.Author.Tests.{ne-eqb, lt-leb}
+use lib.Dec.{eqb}
 use Rattle.bits.specs.Language.{bits}
-use Rattle.bits.specs.Writes.{toBits, only, Writes, w-give, w-bits, w-bind, w-end, w-list, w-if, w-pass}
+use Rattle.bits.specs.Writes.{toBits, only, Writes, w-give, w-bits, w-bind, w-end, w-list, w-if}
 use Rattle.oamd.specs.declared.Offset.{Offset}
 use Rattle.oamd.specs.declared.BlockUpdate.{BlockUpdate}
 use Rattle.oamd.specs.declared.Gain.{Gain}
@@ -20,12 +19,14 @@ use Rattle.oamd.specs.declared.Zone.{Zone}
 use Rattle.oamd.specs.declared.Extent.{Extent}
 use Rattle.oamd.specs.declared.Screen.{Screen}
 use Rattle.oamd.specs.Programme.{set?}
+use Rattle.oamd.specs.Reserved.{SampleOffsetCode, ZoneConstraintsIdx, ObjectSizeIdx}
 use Rattle.oamd.specs.Timing.{sample-offset, block-update-info}
 use Rattle.oamd.specs.Block.{object-basic-info, coordinates, position, distance, zone, extent, screen}
 use Rattle.written.specs.Valid.{_and_, ranged}
 use Rattle.written.specs.Lemmas.Codable.{offsetCodable, updateCodable, gainCodable, priorityCodable, distanceCodable, extentCodable}
 use Rattle.written.specs.Form.{offsetBits, updateBits, gainBits, priorityBits, distanceBits, zoneBits, extentBits, screenBits}
 use Rattle.written.specs.Lemmas.Facts.{halves, Ranged, in-range, w-ranged}
+use Rattle.written.specs.Lemmas.Unreserved.{w-under}
 
 pub offset-writes : (o : Offset) → offsetCodable o ≡ true → Writes sample-offset (offsetBits o) o
 unfolding sample-offset offsetBits offsetCodable
@@ -34,8 +35,8 @@ offset-writes o h =
     let b = halves (ranged (eqb (o .code) 1) 0 3 0 (o .index)) _ (a .1) in
     let code = in-range true 0 2 0 (o .code) (a .0) in
     let low = code .on refl .1 in
-    w-bind (w-bits 2 (o .code) (omega arith)) (w-bind (w-pass (eqb (o .code) 3) _ _ _ (ne-eqb (o .code) 3 (λ e. omega arith)))
-    (w-bind (w-ranged 2 (in-range _ _ _ _ _ (b .0)) (omega arith)) (w-end (w-ranged 5 (in-range _ _ _ _ _ (b .1)) (omega arith)) (w-give _))))
+    w-bind (w-under SampleOffsetCode (o .code) (omega arith) (omega arith))
+    (w-bind (w-ranged 2 (in-range _ _ _ _ _ (b .0)) (omega arith)) (w-end (w-ranged 5 (in-range _ _ _ _ _ (b .1)) (omega arith)) (w-give _)))
 
 pub update-writes : (u : BlockUpdate) → updateCodable u ≡ true → Writes block-update-info (updateBits u) u
 unfolding block-update-info updateBits updateCodable
@@ -92,8 +93,7 @@ distance-writes d h =
 pub zone-writes : (z : Zone) → z .index ≤ 5 → z .elevation ≤ 1 → Writes (zone true) (zoneBits z) z
 unfolding zone zoneBits
 zone-writes z a b =
-    w-bind (w-bits 3 (z .index) (omega arith)) (w-bind (w-pass (leb 6 (z .index)) _ _ _ (lt-leb 6 (z .index) (omega arith)))
-    (w-end (w-bits 1 (z .elevation) (omega arith)) (w-give _)))
+    w-bind (w-under ZoneConstraintsIdx (z .index) (omega arith) (omega arith)) (w-end (w-bits 1 (z .elevation) (omega arith)) (w-give _))
 
 pub extent-writes : (e : Extent) → extentCodable e ≡ true → Writes (extent true) (extentBits e) e
 unfolding extent extentBits extentCodable
@@ -103,9 +103,9 @@ extent-writes e h =
     let c = halves (ranged (eqb (e .index) 2) 0 31 0 (e .width)) _ (b .1) in
     let d = halves (ranged (eqb (e .index) 2) 0 31 0 (e .depth)) _ (c .1) in
     let low = in-range true 0 2 0 (e .index) (a .0) .on refl .1 in
-    w-bind (w-bits 2 (e .index) (omega arith)) (w-bind (w-pass (eqb (e .index) 3) _ _ _ (ne-eqb (e .index) 3 (λ q. omega arith)))
+    w-bind (w-under ObjectSizeIdx (e .index) (omega arith) (omega arith))
     (w-bind (w-ranged 5 (in-range _ _ _ _ _ (b .0)) (omega arith)) (w-bind (w-ranged 5 (in-range _ _ _ _ _ (c .0)) (omega arith))
-    (w-bind (w-ranged 5 (in-range _ _ _ _ _ (d .0)) (omega arith)) (w-end (w-ranged 5 (in-range _ _ _ _ _ (d .1)) (omega arith)) (w-give _))))))
+    (w-bind (w-ranged 5 (in-range _ _ _ _ _ (d .0)) (omega arith)) (w-end (w-ranged 5 (in-range _ _ _ _ _ (d .1)) (omega arith)) (w-give _)))))
 
 pub screen-writes : (s : Screen) → Ranged true 0 1 0 (s .used) → Ranged (set? (s .used)) 0 7 0 (s .factor) → Ranged (set? (s .used)) 0 3 0 (s .depth)
     → Writes (screen true) (screenBits s) s

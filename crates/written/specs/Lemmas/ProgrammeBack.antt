@@ -1,13 +1,14 @@
 -- 5.5.2 and 5.5.3: a valid programme is read back as it was written.
 use mathlib.Core.Path.{_≡_, refl, sym, ap, _∙_, subst}
 use mathlib.Core.Bool.{Bool, true, false, not}
+use mathlib.Core.Logic.{inl}
 use mathlib.Core.List.{List, [], map, map-id}
 use Prim.Native.Nat.{ℕ, _+_, _-_, _≤_}
 use native.Mathlib.Omega.{arith}
 use lib.ListN.{length, take}
 use lib.Seq.{length-take-le}
-use lib.Dec.{leb, eqb}
-use borrow.Author.Tests.{eqb-true, eq-eqb, ne-eqb, lt-ltb, le-ltb, lt-leb, not-true}
+use lib.Dec.{eqb}
+use borrow.Author.Tests.{eqb-true, eq-eqb, ne-eqb, lt-ltb, le-ltb, not-true}
 use Rattle.bits.specs.Language.{pick, both, give, _>>=_, bits, bitsIf, from, for}
 use Rattle.bits.specs.Steps.{by-order}
 use Rattle.bits.specs.Writes.{toBits, only, eachBits, Writes, w-give, w-bits, w-bind, w-end, w-is, w-pass, w-each}
@@ -15,10 +16,12 @@ use Rattle.oamd.specs.declared.Bed.{Bed}
 use Rattle.oamd.specs.declared.Programme.{Programme}
 use Rattle.oamd.specs.Tables.{mostObjects, mostBeds}
 use Rattle.oamd.specs.Programme.{set?, clear?, hasBeds, hasIsf, hasDynamic, hasReserved, bedInstances, bedOf, bed-assignment, filled, noBed, Beds, bed-instances, intermediate-spatial-format, num-dynamic-objects, reserved-data, program-assignment, agrees}
+use Rattle.oamd.specs.Reserved.{IntermediateSpatialFormatIdx}
 use Rattle.oamd.specs.Payload.{oa-md-version, object-count, header}
 use Rattle.written.specs.Valid.{_and_, ranged, bedValid, entriesValid, programmeValid}
 use Rattle.written.specs.Form.{countBits, bedBits, bedsBits, assignmentBits, headerBits}
 use Rattle.written.specs.Lemmas.Facts.{halves, by-test, by-flag, Ranged, in-range, w-ranged, w-picked}
+use Rattle.written.specs.Lemmas.Unreserved.{w-within}
 use Rattle.written.specs.Lemmas.Entries.{entries-used, entries-filled, along}
 
 -- ---- counts
@@ -164,9 +167,7 @@ module _ (p : Programme) (v : ProgrammeFacts p) where
 
   isf-written : Writes (intermediate-spatial-format (p .content)) (only (hasIsf (p .content)) (toBits 3 (p .isf))) (p .isf)
   unfolding intermediate-spatial-format
-  isf-written =
-      let low : p .isf ≤ 5 = by-test (hasIsf (p .content)) (λ q. v .isf .on q .1) (λ q. let z = v .isf .off q in omega arith) in
-      w-end (w-ranged 3 (v .isf) (omega arith)) (w-pass (leb 6 (p .isf)) _ _ _ (lt-leb 6 (p .isf) (omega arith)))
+  isf-written = w-within IntermediateSpatialFormatIdx (v .isf) (omega arith) (inl (omega arith))
 
   dynamics-written : Writes (num-dynamic-objects (p .content)) (only (hasDynamic (p .content)) (countBits (p .dynamics))) (p .dynamics)
   unfolding num-dynamic-objects

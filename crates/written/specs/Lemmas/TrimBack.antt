@@ -2,22 +2,25 @@
 use mathlib.Core.Path.{_≡_, refl, sym, subst}
 use mathlib.Core.Bool.{Bool, true, false}
 use mathlib.Core.List.{List, map-id}
+use mathlib.Core.Logic.{inr}
 use mathlib.Core.Option.{Option, none, some}
 use Prim.Native.Nat.{ℕ}
 use native.Mathlib.Omega.{arith}
 use lib.ListN.{length, replicate}
 use lib.Seq.{take-length}
-use lib.Dec.{leb, ltb, eqb}
-use borrow.Author.Tests.{eqb-true, eqb-false, ne-eqb, le-ltb, lt-leb}
-use Rattle.bits.specs.Language.{pick, both, P, bits, when, from, for}
-use Rattle.bits.specs.Writes.{toBits, only, eachBits, Writes, w-give, w-bits, w-bind, w-end, w-is, w-when, w-pass, w-each}
+use lib.Dec.{eqb}
+use borrow.Author.Tests.{eqb-true, eqb-false}
+use Rattle.bits.specs.Language.{pick, P, bits, when, from, for}
+use Rattle.bits.specs.Writes.{toBits, only, eachBits, Writes, w-give, w-bits, w-bind, w-end, w-is, w-when, w-each}
 use Rattle.oamd.specs.declared.TrimConfig.{TrimConfig}
 use Rattle.oamd.specs.Tables.{trimConfigs}
 use Rattle.oamd.specs.Programme.{set?, clear?}
+use Rattle.oamd.specs.Reserved.{WarpMode, GlobalTrimMode, TrimSurround, TrimHeight}
 use Rattle.oamd.specs.Trim.{hasCentre, hasSurround, hasHeight, hasTb, hasLis, trim-config, noConfig, Trim, trim-element, noTrim, trimOf}
 use Rattle.written.specs.Valid.{_and_, ranged, entriesValid, configValid, trimValid}
 use Rattle.written.specs.Form.{configBits, trimElementBits, hasTrim}
 use Rattle.written.specs.Lemmas.Facts.{halves, by-test, by-flag, Ranged, in-range, w-ranged}
+use Rattle.written.specs.Lemmas.Unreserved.{w-under, w-within}
 use Rattle.written.specs.Lemmas.Entries.{Every, entries-used, entries-unused, along}
 
 -- ---- a configuration
@@ -59,21 +62,15 @@ config-facts sent c h =
       lisamount = in-range _ _ _ _ _ (k .1);
     }
 
--- a code that is not one of the reserved ones is not refused
-not-reserved : (sent : Bool) (v : ℕ) → Ranged sent 4 15 0 v → both sent (ltb v 4) ≡ false
-not-reserved true v h = le-ltb v 4 (h .on refl .0)
-not-reserved false v h = refl
-
 config-writes : (c : TrimConfig) → configValid true c ≡ true → Writes trim-config (configBits c) c
 unfolding trim-config configBits
 config-writes c h =
     let f = config-facts true c h in
     w-bind (w-ranged 1 (f .bydefault) (omega arith)) (w-bind (w-ranged 1 (f .disabled) (omega arith)) (w-bind (w-ranged 5 (f .presence) (omega arith))
     (w-bind (w-ranged 4 (f .centre) (omega arith))
-    (w-bind (w-ranged 4 (f .surround) (omega arith)) (w-bind (w-pass _ _ _ _ (not-reserved _ (c .surround) (f .surround)))
-    (w-bind (w-ranged 4 (f .height) (omega arith)) (w-bind (w-pass _ _ _ _ (not-reserved _ (c .height) (f .height)))
+    (w-bind (w-within TrimSurround (f .surround) (omega arith) (inr (omega arith))) (w-bind (w-within TrimHeight (f .height) (omega arith) (inr (omega arith)))
     (w-bind (w-ranged 1 (f .tbsign) (omega arith)) (w-bind (w-ranged 4 (f .tbamount) (omega arith))
-    (w-bind (w-ranged 1 (f .lissign) (omega arith)) (w-end (w-ranged 4 (f .lisamount) (omega arith)) (w-give _))))))))))))
+    (w-bind (w-ranged 1 (f .lissign) (omega arith)) (w-end (w-ranged 4 (f .lisamount) (omega arith)) (w-give _))))))))))
 
 no-config : (c : TrimConfig) → configValid false c ≡ true → c ≡ noConfig
 no-config c h =
@@ -181,10 +178,10 @@ module _ (objects : ℕ) (t : Trim) (v : TrimFacts objects t) where
         per-object = t .per-object;
         disabled = t .disabled;
       })
-      (w-bind (w-bits 2 (t .warp) (omega arith)) (w-bind (w-pass (leb 2 (t .warp)) _ _ _ (lt-leb 2 (t .warp) (omega arith)))
+      (w-bind (w-under WarpMode (t .warp) (omega arith) (omega arith))
       (w-bind (w-bits 2 0 (omega arith))
-      (w-bind (w-bits 2 (t .mode) (omega arith)) (w-bind (w-pass (eqb (t .mode) 3) _ _ _ (ne-eqb (t .mode) 3 (λ e. omega arith)))
-      (w-bind configs-written (w-bind (w-bits 1 (t .per-object) (omega arith)) (w-end flags-written (w-give _)))))))))
+      (w-bind (w-under GlobalTrimMode (t .mode) (omega arith) (omega arith))
+      (w-bind configs-written (w-bind (w-bits 1 (t .per-object) (omega arith)) (w-end flags-written (w-give _)))))))
 
   -- where the element is not there
   pub no-trim : hasTrim t ≡ false → noTrim objects ≡ t

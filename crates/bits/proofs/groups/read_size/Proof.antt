@@ -5,7 +5,7 @@ use native.Mathlib.Omega.{arith}
 use native.Mathlib.Numerals.{add-one}
 use Rattle.bits.specs.Language.{bit}
 use Rattle.bits.specs.Size.{sizeFrom, variable-bits-max}
-use Rattle.bits.proofs.Sticky.{Left, start}
+use Rattle.bits.proofs.Sticky.{Left, start, renewed, emptied}
 use Rattle.bits.proofs.SizeSteps.{last, stop, more, most, most-le}
 use Rattle.bits.proofs.groups.read_size.Statement.{statement}
 use Rattle.bits.proofs.groups.read_size.Tie as tie
@@ -27,39 +27,45 @@ add-value c =
 
 mul-value : tie.Need-mul-value Inv-loop μ-loop
 mul-value c =
-    let l = c .before .before .before .before .before .before .loop in
-    omega (arith, l .inv .1, most-le (l .groups) (omega arith), c .before .before .before .before .before .take .ensures .small)
+    let l = c .before .before .before .before .before .before .before .loop in
+    omega (arith, l .inv .1, most-le (l .groups) (omega arith), c .before .before .before .before .before .before .take .ensures .small)
 
 add-value-2 : tie.Need-add-value-2 Inv-loop μ-loop
 add-value-2 c =
-    let l = c .before .before .before .before .before .before .loop in
-    omega (arith, l .inv .1, most-le (l .groups) (omega arith), c .before .before .before .before .before .take .ensures .small)
+    let l = c .before .before .before .before .before .before .before .loop in
+    omega (arith, l .inv .1, most-le (l .groups) (omega arith), c .before .before .before .before .before .before .take .ensures .small)
 
 loop-again : tie.Need-loop-again Inv-loop μ-loop
 loop-again c =
-    let l = c .before .before .before .before .before .before .loop in
-    let t = c .before .before .before .before .before .take .ensures in (
+    let e = c .before .before .before in
+    let f = e .before .before in
+    let t = f .before .take .ensures in
+    let l = f .before .before .loop in (
       omega arith,
       rw (add-one (l .groups)) (omega (arith, l .inv .1, t .small)),
-      more (l .value) (l .groups) _ _ (l .inv .2) (t .reads) (c .before .before .before .before .take2 .ensures .reads) (search) (omega arith),
+      more (l .value) (l .groups) _ _ (l .inv .2) (t .reads) (renewed (e .with-value .ensures) (f .take2 .ensures .reads)) (search) (omega arith),
     )
 
 returns : tie.Need-returns Inv-loop μ-loop
 returns c =
-    let l = c .before .before .before .before .before .loop in
-    let t = c .before .before .before .before .take .ensures in (
+    let e = c .before .before in
+    let f = e .before .before in
+    let t = f .before .take .ensures in
+    let l = f .before .before .loop in (
       omega (arith, l .inv .1, most-le (l .groups) (omega arith), t .small),
       omega arith,
-      stop (l .value) (l .groups) _ (l .inv .2) (t .reads) (c .before .before .before .take2 .ensures .reads) (search),
+      emptied (e .with-value .ensures) (stop (l .value) (l .groups) _ (l .inv .2) (t .reads) (f .take2 .ensures .reads) (search)),
     )
 
 returns-2 : tie.Need-returns-2 Inv-loop μ-loop
 returns-2 c =
-    let l = c .before .before .before .before .before .before .loop in
-    let t = c .before .before .before .before .before .take .ensures in (
+    let e = c .before .before .before in
+    let f = e .before .before in
+    let t = f .before .take .ensures in
+    let l = f .before .before .loop in (
       omega (arith, l .inv .1, most-le (l .groups) (omega arith), t .small),
       omega arith,
-      last (l .value) (l .groups) _ (l .inv .2) (t .reads) (c .before .before .before .before .take2 .ensures .reads) (omega arith),
+      emptied (e .with-value .ensures) (last (l .value) (l .groups) _ (l .inv .2) (t .reads) (f .take2 .ensures .reads) (omega arith)),
     )
 
 pub read-size-spec : {M : Type 1} → statement M
@@ -73,6 +79,7 @@ read-size-spec =
     (λ c κs. search needs)
     add-value
     (λ c. search needs)
+    (λ c κs. search needs)
     mul-value
     add-value-2
     (λ c. search needs)

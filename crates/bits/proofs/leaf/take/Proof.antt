@@ -14,7 +14,7 @@ use Rattle.bits.proofs.leaf.take.Statement.{statement}
 use Rattle.bits.proofs.leaf.take.Tie as tie
 
 returns : tie.Need-returns
-returns c = record { reads = kept (search needs); small = pow-pos _ }
+returns c = rw (c .with-value .ensures) (record { reads = kept (c .before .if1 .taken); small = pow-pos _ })
 
 returns-2 : tie.Need-returns-2
 returns-2 c =
@@ -25,7 +25,7 @@ returns-2 c =
     let r = shifted (now (a .s)) (λ j. omega (arith, b .shared-slice-known .given j)) (i .raw .result) (a .w) (c .before .word .result) (omega arith) x
     ∙ ap (λ (p : ℕ). number (slice (bit (now (a .s))) p (a .w))) (i .raw .ensures) in
     record {
-      reads = whole (search needs) (omega arith) (omega arith) r;
+      reads = whole (search needs) (omega arith) (omega arith) (search needs) r;
       small = subst (λ (v : ℕ). v < 2 ^ a .w) (sym r) (bits-lt _ _ _);
     }
 
@@ -36,6 +36,7 @@ pub take-spec : {M : Type 1} → statement M
 take-spec =
     tie.close
     (tie.spec
+    (λ c κs. search needs)
     returns
     (λ c κs. search needs)
     (λ c. search needs)

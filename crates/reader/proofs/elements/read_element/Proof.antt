@@ -23,7 +23,7 @@ returns c =
     let i = a .before .before in
     let n = i .before .before .before .new .ensures in
     let z = i .before .before .before .before .before .before .before in
-    framed-read (z .before .take .ensures .reads) (z .read-size .ensures .2) (rw n at (i .before .«open» .ensures)) (rw n at (i .inner-of .ensures)) (a .take-if .ensures .reads) (k .before .take2 .ensures .reads) (k .kind-of .ensures)
+    framed-read (z .before .take .ensures .reads) (z .read-size .ensures .2 .reads) (rw n at (i .before .«open» .ensures)) (rw n at (i .inner-of .ensures)) (a .take-if .ensures .reads) (k .before .take2 .ensures .reads) (k .kind-of .ensures)
     (ap (λ (n : ℕ). 4 + 5 * z .read-size .result .size .groups + n) (h .head-bits .ensures .0)) (c .before .before .before .read-body .ensures) (c .close .ensures)
 
 pub read-element-spec : {M : Type 1} → statement M

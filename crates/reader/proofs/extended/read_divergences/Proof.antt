@@ -24,7 +24,7 @@ loop-again c =
     let q = r .before in
     let w = q .before .before .before .before .before .loop in
     rw (c .before .store-divergence .ensures)
-    (go-on _ _ _ _ _ _ _ (w .inv) 17 _ divergenceBytes _ (q .before .before .if1 .left) (omega arith) (λ r y tail. refl) (q .carries-at .ensures) (r .read-divergence .ensures))
+    (go-on _ _ _ _ _ _ _ (w .inv) 17 _ divergenceBytes _ (q .before .before .if1 .left) (omega arith) (λ r y tail. refl) (q .carries-at .ensures) (r .read-divergence .ensures .reads))
 
 pub read-divergences-spec : {M : Type 1} → statement M
 read-divergences-spec =

@@ -24,7 +24,7 @@ loop-again c =
     let q = r .before in
     let w = q .before .before .before .before .before .loop in
     rw (c .before .store-precise .ensures)
-    (go-on _ _ _ _ _ _ _ (w .inv) 20 _ preciseBytes _ (q .before .before .if1 .left) (omega arith) (λ r y tail. refl) (q .carries-at .ensures) (r .read-precise .ensures))
+    (go-on _ _ _ _ _ _ _ (w .inv) 20 _ preciseBytes _ (q .before .before .if1 .left) (omega arith) (λ r y tail. refl) (q .carries-at .ensures) (r .read-precise .ensures .reads))
 
 pub read-precises-spec : {M : Type 1} → statement M
 read-precises-spec =

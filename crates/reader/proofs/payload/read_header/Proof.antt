@@ -13,7 +13,7 @@ returns c =
     let g = c .before in
     let a = g .before .before .before in
     let n = a .before .before in
-    header-read (n .before .read-version .ensures .reads) (n .read-object-count .ensures .reads) (a .read-assignment .ensures .1) (gated _ _ _ _ (ap not (g .before .agrees .ensures)) (g .refuse-if .ensures .0) (g .refuse-if .ensures .1)) (c .take .ensures .reads)
+    header-read (n .before .read-version .ensures .reads) (n .read-object-count .ensures .reads) (a .read-assignment .ensures .1 .reads) (gated _ _ _ _ (ap not (g .before .agrees .ensures)) (g .refuse-if .ensures .0) (g .refuse-if .ensures .1)) (c .take .ensures .reads)
     (omega (arith, a .read-assignment .ensures .0, n .read-object-count .ensures .small)) (c .take .ensures .small)
 
 pub read-header-spec : {M : Type 1} → statement M

@@ -22,7 +22,7 @@ loop-again c =
     let w = c .before .before .before .before .before .loop in
     let k = c .before .before .before .before .before .before .before .before .take .ensures .small in (
       omega arith,
-      λ o e. rw (c .before .update-of .ensures, e) (filling-step (w .inv .1 o e) (omega arith) (omega (arith, k)) (c .before .before .before .read-update .ensures)),
+      λ o e. rw (c .before .update-of .ensures, e) (filling-step (w .inv .1 o e) (omega arith) (omega (arith, k)) (c .before .before .before .read-update .ensures .reads)),
     )
 
 returns : tie.Need-returns Inv-loop μ-loop
@@ -30,7 +30,7 @@ returns c =
     let w = c .before .loop in
     let k = c .before .before .before .before .take .ensures in
     let o = c .before .before .before .before .before in
-    timed (o .before .before .before .read-offset .ensures) (k .reads) (w .inv .1 _ (o .offset-of .ensures)) (omega arith) (k .small) (search needs)
+    timed (o .before .before .before .read-offset .ensures .reads) (k .reads) (w .inv .1 _ (o .offset-of .ensures)) (omega arith) (k .small) (search needs)
 
 pub read-timing-spec : {M : Type 1} → statement M
 read-timing-spec =

@@ -30,7 +30,7 @@ loop-again c =
       omega arith,
       omega arith,
       rw (c .before .store-config .ensures)
-          (one-laid _ _ _ _ _ _ _ _ _ _ (w .inv .2) _ (w .at) 0 (omega arith) (next-config _) (omega arith) (omega arith) (r .read-trim-config .ensures)),
+          (one-laid _ _ _ _ _ _ _ _ _ _ (w .inv .2) _ (w .at) 0 (omega arith) (next-config _) (omega arith) (omega arith) (r .read-trim-config .ensures .reads)),
     )
 
 pub read-configs-spec : {M : Type 1} → statement M

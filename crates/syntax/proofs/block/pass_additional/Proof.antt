@@ -1,7 +1,6 @@
--- What is passed over has the value 0.
 use borrow.Author.Needs.{needs}
 use Rattle.oamd.specs.Block.{additional-table-data}
-use Rattle.syntax.proofs.Lines.{_▸_, worth}
+use Rattle.syntax.proofs.Lines.{_▸_}
 use Rattle.syntax.proofs.block.pass_additional.Statement.{statement}
 use Rattle.syntax.proofs.block.pass_additional.Tie as tie
 
@@ -10,7 +9,8 @@ unfolding additional-table-data
 returns c =
     let h1 = c .before .before .before .before in
     let h0 = h1 .before .before in
-    h0 .take .ensures .reads ▸ h1 .take-if .ensures .reads ▸ worth (c .skip-if .ensures .0) (rw (c .before .new .ensures) at (c .skip-if .ensures .1))
+    let g = rw (c .before .new .ensures) at (c .skip-if .ensures) in
+    record { reads = h0 .take .ensures .reads ▸ h1 .take-if .ensures .reads ▸ g .reads; empty = g .empty }
 
 pub pass-additional-spec : {M : Type 1} → statement M
 pass-additional-spec =

@@ -29,13 +29,16 @@ returns c =
     let i = h3 .before .if1 in
     let e : i .anchored ≡ pick (eqb (h0 .take .result .v) 1) true (not (eqb (h0 .before .before .args .class) 2)) =
     ⊎-elim (λ w. rw (eq-eqb _ _ (w .0 .taken)) (search needs)) (λ w. rw (ne-eqb _ _ (w .0 .left)) (search needs)) (i .came) in
-    h0 .take .ensures .reads
-    ▸ h1 .read-status .ensures
-    ▸ h2 .read-basic .ensures
-    ▸ (rw e at (h3 .read-status2 .ensures))
-    ▸ h4 .read-render .ensures
-    ▸ h5 .pass-additional .ensures
-    ▸ plain
+    record {
+      reads = h0 .take .ensures .reads
+          ▸ h1 .read-status .ensures
+          ▸ h2 .read-basic .ensures
+          ▸ (rw e at (h3 .read-status2 .ensures))
+          ▸ h4 .read-render .ensures
+          ▸ h5 .pass-additional .ensures .reads
+          ▸ plain;
+      empty = h5 .pass-additional .ensures .empty;
+    }
 
 pub read-block-spec : {M : Type 1} → statement M
 read-block-spec =

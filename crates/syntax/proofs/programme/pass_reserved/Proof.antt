@@ -1,7 +1,6 @@
--- What is passed over has the value 0.
 use borrow.Author.Needs.{needs}
 use Rattle.oamd.specs.Programme.{reserved-data}
-use Rattle.syntax.proofs.Lines.{_▸_, worth}
+use Rattle.syntax.proofs.Lines.{_▸_}
 use Rattle.syntax.proofs.programme.pass_reserved.Statement.{statement}
 use Rattle.syntax.proofs.programme.pass_reserved.Tie as tie
 
@@ -10,7 +9,8 @@ unfolding reserved-data
 returns c =
     let h0 = c .before .before .before in
     let f = h0 .before .flag .ensures in
-    (rw f at (h0 .take-if .ensures .reads)) ▸ worth (c .skip-if .ensures .0) (rw (f, c .before .new .ensures) at (c .skip-if .ensures .1))
+    let g = rw (f, c .before .new .ensures) at (c .skip-if .ensures) in
+    record { reads = (rw f at (h0 .take-if .ensures .reads)) ▸ g .reads; empty = g .empty }
 
 pub pass-reserved-spec : {M : Type 1} → statement M
 pass-reserved-spec =

@@ -30,14 +30,17 @@ returns c =
     let h0 = h1 .before .before in
     let b = h3 .read-beds .ensures in (
       refl,
-      h0 .take .ensures .reads
-          ▸ h1 .take-if .ensures .reads
-          ▸ h2 .take-if2 .ensures .reads
-          ▸ b .reads
-          ▸ h4 .read-isf .ensures .reads
-          ▸ h5 .read-dynamics .ensures .reads
-          ▸ h6 .pass-reserved .ensures
-          ▸ rw (b .distributes, b .multiplies, b .numbers, b .counts, b .holds) plain,
+      record {
+        reads = h0 .take .ensures .reads
+            ▸ h1 .take-if .ensures .reads
+            ▸ h2 .take-if2 .ensures .reads
+            ▸ b .reads
+            ▸ h4 .read-isf .ensures .reads
+            ▸ h5 .read-dynamics .ensures .reads
+            ▸ h6 .pass-reserved .ensures .reads
+            ▸ rw (b .distributes, b .multiplies, b .numbers, b .counts, b .holds) plain;
+        empty = h6 .pass-reserved .ensures .empty;
+      },
     )
 
 pub read-assignment-spec : {M : Type 1} → statement M

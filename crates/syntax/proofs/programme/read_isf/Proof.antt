@@ -1,12 +1,11 @@
 use borrow.Author.Needs.{needs}
 use Rattle.oamd.specs.Programme.{intermediate-spatial-format}
-use Rattle.syntax.proofs.Lines.{lines}
 use Rattle.syntax.proofs.programme.read_isf.Statement.{statement}
 use Rattle.syntax.proofs.programme.read_isf.Tie as tie
 
 returns : tie.Need-returns
 unfolding intermediate-spatial-format
-returns c = record { reads = search lines; small = search needs }
+returns c = rw (c .before .flag .ensures) at (c .take-unless .ensures)
 
 pub read-isf-spec : {M : Type 1} → statement M
-read-isf-spec = tie.close (tie.spec (λ c κs. search needs) (λ c κs. search needs) (λ c κs. search needs) returns)
+read-isf-spec = tie.close (tie.spec (λ c κs. search needs) (λ c κs. search needs) returns)

@@ -7,24 +7,22 @@ use Rattle.syntax.proofs.Lines.{_▸_}
 use Rattle.syntax.proofs.render.read_extent.Statement.{statement}
 use Rattle.syntax.proofs.render.read_extent.Tie as tie
 
-cast-t13 : tie.Need-cast-t13
-cast-t13 c = omega (arith, c .before .before .before .before .before .before .before .before .before .refuse-if .ensures .0, c .before .before .before .before .before .before .before .before .before .before .before .take-if .ensures .small)
+cast-t11 : tie.Need-cast-t11
+cast-t11 c = omega (arith, c .before .before .before .before .before .before .before .before .before .take-unless .ensures .small)
 
 returns : tie.Need-returns
 unfolding extent
 returns c =
-    let h5 = c .before .before .before .before .before in
-    let h4 = h5 .before .before in
+    let h4 = c .before .before .before .before .before in
     let h3 = h4 .before .before in
     let h2 = h3 .before .before in
     let h1 = h2 .before .before in
     let h0 = h1 .before .before in
-    h0 .take-if .ensures .reads
-    ▸ h1 .refuse-if .ensures .1
+    h0 .take-unless .ensures .reads
+    ▸ h1 .take-if .ensures .reads
     ▸ h2 .take-if2 .ensures .reads
     ▸ h3 .take-if3 .ensures .reads
     ▸ h4 .take-if4 .ensures .reads
-    ▸ h5 .take-if5 .ensures .reads
     ▸ plain
 
 pub read-extent-spec : {M : Type 1} → statement M
@@ -36,8 +34,7 @@ read-extent-spec =
     (λ c κs. search needs)
     (λ c κs. search needs)
     (λ c κs. search needs)
-    (λ c κs. search needs)
-    cast-t13
+    cast-t11
     (λ c. search needs)
     (λ c. search needs)
     (λ c. search needs)

@@ -1,7 +1,7 @@
 -- The casts name their facts, which lie further back than `search` looks.
 use native.Mathlib.Omega.{arith}
 use borrow.Author.Needs.{needs}
-use Rattle.bits.proofs.Sticky.{plain}
+use Rattle.bits.proofs.Sticky.{plain, emptied}
 use Rattle.oamd.specs.Timing.{block-update-info}
 use Rattle.syntax.proofs.Lines.{_▸_}
 use Rattle.syntax.proofs.timing.read_update.Statement.{statement}
@@ -16,17 +16,18 @@ cast-t14 c = omega (arith, c .before .before .before .before .before .before .be
 returns : tie.Need-returns
 unfolding block-update-info
 returns c =
-    let h4 = c .before .before .before .before .before in
+    let h4 = c .before .before .before .before .before .before in
     let h3 = h4 .before .before .before .before in
     let h2 = h3 .before .before in
     let h1 = h2 .before .before in
     let h0 = h1 .before in
-    h0 .take .ensures .reads
+    emptied (c .with-value .ensures)
+    (h0 .take .ensures .reads
     ▸ h1 .take2 .ensures .reads
     ▸ h2 .take-if .ensures .reads
     ▸ h3 .take-if2 .ensures .reads
     ▸ (rw (h4 .before .both .ensures) at (h4 .take-if3 .ensures .reads))
-    ▸ plain
+    ▸ plain)
 
 pub read-update-spec : {M : Type 1} → statement M
 read-update-spec =
@@ -43,4 +44,5 @@ read-update-spec =
     cast-t14
     (λ c. search needs)
     (λ c. search needs)
+    (λ c κs. search needs)
     returns)

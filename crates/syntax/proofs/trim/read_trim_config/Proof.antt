@@ -1,29 +1,29 @@
 -- The casts name their facts, which lie further back than `search` looks.
 use native.Mathlib.Omega.{arith}
 use borrow.Author.Needs.{needs}
-use Rattle.bits.proofs.Sticky.{plain}
+use Rattle.bits.proofs.Sticky.{plain, emptied}
 use Rattle.oamd.specs.Trim.{trim-config}
 use Rattle.syntax.proofs.Lines.{_▸_}
 use Rattle.syntax.proofs.trim.read_trim_config.Statement.{statement}
 use Rattle.syntax.proofs.trim.read_trim_config.Tie as tie
 
+cast-t15 : tie.Need-cast-t15
+cast-t15 c = omega (arith, c .before .before .before .before .before .before .before .before .before .before .before .before .before .before .before .before .before .take .ensures .small)
+
 cast-t16 : tie.Need-cast-t16
-cast-t16 c = omega (arith, c .before .before .before .before .before .before .before .before .before .before .before .before .before .before .before .before .before .before .take .ensures .small)
+cast-t16 c = omega (arith, c .before .before .before .before .before .before .before .before .before .before .before .before .before .before .before .before .take-if .ensures .small)
 
 cast-t17 : tie.Need-cast-t17
-cast-t17 c = omega (arith, c .before .before .before .before .before .before .before .before .before .before .before .before .before .before .before .before .before .take-if .ensures .small)
+cast-t17 c = omega (arith, c .before .before .before .before .before .before .before .before .before .before .before .before .before .take-if2 .ensures .small)
 
 cast-t18 : tie.Need-cast-t18
-cast-t18 c = omega (arith, c .before .before .before .before .before .before .before .before .before .before .before .before .before .before .take-if2 .ensures .small)
+cast-t18 c = omega (arith, c .before .before .before .before .before .before .before .before .before .before .before .before .take-if3 .ensures .small)
 
 cast-t19 : tie.Need-cast-t19
-cast-t19 c = omega (arith, c .before .before .before .before .before .before .before .before .before .before .before .before .before .take-if3 .ensures .small)
+cast-t19 c = omega (arith, c .before .before .before .before .before .before .before .before .before .before .before .take-unless .ensures .small)
 
 cast-t20 : tie.Need-cast-t20
-cast-t20 c = omega (arith, c .before .before .before .before .before .before .before .before .before .before .before .before .read-level .ensures .small)
-
-cast-t21 : tie.Need-cast-t21
-cast-t21 c = omega (arith, c .before .before .before .before .before .before .before .before .before .before .before .read-level2 .ensures .small)
+cast-t20 c = omega (arith, c .before .before .before .before .before .before .before .before .before .before .take-unless2 .ensures .small)
 
 returns : tie.Need-returns
 unfolding trim-config
@@ -36,23 +36,20 @@ returns c =
     let h3 = h4 .before .before in
     let h2 = h3 .before .before .before .before in
     let h1 = h2 .before .before in
-    let surround = rw (h5 .before .flag2 .ensures) at (h5 .read-level .ensures) in
-    let height = rw (h6 .before .flag3 .ensures) at (h6 .read-level2 .ensures) in
     let tb = rw (h7 .before .flag4 .ensures) at (h7 .read-balance .ensures) in
     let lis = rw (h8 .before .flag5 .ensures) at (h8 .read-balance2 .ensures) in
-    h1 .take .ensures .reads
+    emptied (c .with-value .ensures)
+    (h1 .take .ensures .reads
     ▸ h2 .take-if .ensures .reads
     ▸ (rw (h3 .before .both .ensures) at (h3 .take-if2 .ensures .reads))
     ▸ (rw (h4 .before .flag .ensures) at (h4 .take-if3 .ensures .reads))
-    ▸ surround .code
-    ▸ surround .known
-    ▸ height .code
-    ▸ height .known
+    ▸ (rw (h5 .before .flag2 .ensures) at (h5 .take-unless .ensures .reads))
+    ▸ (rw (h6 .before .flag3 .ensures) at (h6 .take-unless2 .ensures .reads))
     ▸ tb .sign
     ▸ tb .amount
     ▸ lis .sign
     ▸ lis .amount
-    ▸ plain
+    ▸ plain)
 
 pub read-trim-config-spec : {M : Type 1} → statement M
 read-trim-config-spec =
@@ -72,10 +69,11 @@ read-trim-config-spec =
     (λ c κs. search needs)
     (λ c κs. search needs)
     (λ c κs. search needs)
+    cast-t15
     cast-t16
     cast-t17
     cast-t18
     cast-t19
     cast-t20
-    cast-t21
+    (λ c κs. search needs)
     returns)
