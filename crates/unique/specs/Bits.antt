@@ -1,6 +1,6 @@
 -- The public functions of bits.
-use mathlib.Core.Path.{refl, ap, _∙_}
-use Prim.Native.Nat.{ℕ, _*_, _/_}
+use mathlib.Core.Path.{_≡_, refl, sym, ap, _∙_}
+use Prim.Native.Nat.{ℕ, _*_, _/_, _^_}
 use base.Stored.{codedℕ}
 use denote.Ref.{now}
 use Rattle.bits.proofs.Size as size
@@ -12,14 +12,18 @@ use Rattle.bits.proofs.refuse_if as refuse-if
 use Rattle.bits.proofs.skip_if as skip-if
 use Rattle.bits.proofs.take as take
 use Rattle.bits.proofs.take_if as take-if
+use Rattle.bits.proofs.take_unless as take-unless
 use Rattle.bits.proofs.with_value as with-value
 use Rattle.bits.proofs.word as word
-use Rattle.bits.specs.Language.{bits, bitsIf, skip, when, refuseIf}
+use Rattle.bits.specs.declared.Cur.{Cur}
+use Rattle.bits.specs.declared.Refusal.{Refusal}
+use Rattle.bits.specs.Language.{bit, bits, between, bitsIf, bitsUnless, skip, when, refuseIf}
 use Rattle.bits.specs.Refusals.{numberOf}
 use Rattle.bits.specs.Size.{variable-bits-max}
-use Rattle.bits.specs.View.{wordAt}
-use Rattle.unique.specs.OneAnswer.{OneAnswer, by-equation, said, result-set, _beside_}
-use Rattle.unique.specs.Readings.{asRead, readBy, reading-set}
+use Rattle.bits.specs.Unique.{one-reads, one-gave}
+use Rattle.bits.specs.View.{wordAt, Reads, Gave, valued}
+use Rattle.unique.specs.OneAnswer.{OneAnswer, by-relation, by-equation, said, result-set, _beside_}
+use Rattle.unique.specs.Readings.{holding, giving, TookBy, took-once, GaveBy, gave-once, reading-set}
 
 pub one-open : OneAnswer opens.ended (λ M. opens.clauses) (λ M. opens.spec) (λ κs a. a) (λ κs a r z. r)
 one-open = by-equation (result-set opens.ended) (λ w. refl) _ (λ w κs a r z p. said (λ h. h) (p .holds))
@@ -36,29 +40,48 @@ one-with-value = by-equation (result-set with-value.ended) (λ w. refl) _ (λ w 
 pub one-word : OneAnswer word.ended (λ M. word.clauses) (λ M. word.spec) (λ κs a. now (a .0) beside a .1) (λ κs a r z. r)
 one-word = by-equation (result-set word.ended) (λ w. refl) (λ i. wordAt (i .0) (i .1 .0 .0 / 8)) (λ w κs a r z p. said (λ h. h) (p .holds))
 
-pub one-take : OneAnswer take.ended (λ M. take.clauses) (λ M. take.spec) (λ κs a. now (a .0) beside a .1) (λ κs a r z. asRead (r .v) r)
-one-take = by-equation (λ κs. reading-set codedℕ) (λ w. refl) (readBy (λ x. bits (x .0))) (λ w κs a r z p. said (λ h. h .reads .same) (p .holds))
+pub one-take : OneAnswer take.ended (λ M. take.clauses) (λ M. take.spec) (λ κs a. now (a .0) beside a .1) (λ κs a r z. holding r)
+one-take =
+    by-relation (λ κs. reading-set codedℕ) (λ w. refl) (TookBy _ _) (took-once (λ i. bits (i .1 .1 .1 .0)) (λ i. 2 ^ i .1 .1 .1 .0))
+    (λ w κs a r z p. said (λ h. (r, h, refl)) (p .holds))
 
 pub one-take-if : OneAnswer take-if.ended (λ M. take-if.clauses) (λ M. take-if.spec)
-    (λ κs a. a .0 beside now (a .1 .0) beside a .1 .1) (λ κs a r z. asRead (r .v) r)
+    (λ κs a. now (a .1 .0) beside a .1 .1 .0 beside a .1 .1 .1 .0 beside a .0 beside a .1 .1 .1 .1) (λ κs a r z. holding r)
 one-take-if =
-    by-equation (λ κs. reading-set codedℕ) (λ w. refl) (λ i. readBy (λ x. bitsIf (i .0) (x .0)) (i .1))
-    (λ w κs a r z p. said (λ h. h .reads .same) (p .holds))
+    by-relation (λ κs. reading-set codedℕ) (λ w. refl) (TookBy _ _) (took-once (λ i. bitsIf (i .1 .1 .1 .0) (i .1 .1 .1 .1 .0)) (λ i. 2 ^ i .1 .1 .1 .1 .0))
+    (λ w κs a r z p. said (λ h. (r, h, refl)) (p .holds))
+
+pub one-take-unless : OneAnswer take-unless.ended (λ M. take-unless.clauses) (λ M. take-unless.spec)
+    (λ κs a. now (a .1 .0) beside a .1 .1 .0 beside a .1 .1 .1 .0 beside a .0 beside a .1 .1 .1 .1) (λ κs a r z. holding r)
+one-take-unless =
+    by-relation (λ κs. reading-set codedℕ) (λ w. refl) (TookBy _ _)
+    (took-once (λ i. when (i .1 .1 .1 .0) (bitsUnless (numberOf Refusal.Reserved) (i .1 .1 .1 .1 .0) (between (i .1 .1 .1 .1 .1 .0) (i .1 .1 .1 .1 .1 .1 .0))) 0)
+    (λ i. 2 ^ i .1 .1 .1 .1 .0))
+    (λ w κs a r z p. said (λ h. (r, h, refl)) (p .holds))
+
+-- Where the value is known too, the cursor is one.
+cursor-once : (d d' : Cur) (v : ℕ) → d .v ≡ v → d' .v ≡ v → valued d 0 ≡ valued d' 0 → d ≡ d'
+cursor-once d d' v h h' same = ap (λ (x : ℕ). valued d x) (h ∙ sym h') ∙ ap (λ (x : Cur). valued x (d' .v)) same
 
 pub one-refuse-if : OneAnswer refuse-if.ended (λ M. refuse-if.clauses) (λ M. refuse-if.spec)
-    (λ κs a. a .0 beside now (a .1 .0) beside a .1 .1) (λ κs a r z. asRead (r .v) r)
+    (λ κs a. now (a .1 .0) beside a .1 .1 .0 beside a .1 .1 .1 .0 beside a .0 beside a .1 .1 .1 .1) (λ κs a r z. r)
 one-refuse-if =
-    by-equation (λ κs. reading-set codedℕ) (λ w. refl) (λ i. readBy (λ x. refuseIf (i .0) (numberOf (x .0)) (x .1 .0) (i .1 .1 .1 .0 .v)) (i .1))
-    (λ w κs a r z p. said (λ h. h .1 .same) (p .holds))
+    by-relation (result-set refuse-if.ended) (λ w. refl)
+    (λ i d. (d .v ≡ i .1 .1 .0 .v)
+    × Reads (refuseIf (i .1 .1 .1 .0) (numberOf (i .1 .1 .1 .1 .0)) (i .1 .1 .1 .1 .1 .0) (i .1 .1 .0 .v)) (bit (i .0)) (i .1 .1 .0) (i .1 .0) (d .v) d)
+    (λ i d d' g g'. cursor-once d d' (i .1 .1 .0 .v) (g .0) (g' .0) (one-reads (g .1) (g' .1) .0))
+    (λ w κs a r z p. said (λ h. h) (p .holds))
 
 pub one-skip-if : OneAnswer skip-if.ended (λ M. skip-if.clauses) (λ M. skip-if.spec)
-    (λ κs a. a .0 beside now (a .1 .0) beside a .1 .1) (λ κs a r z. asRead (r .v) r)
+    (λ κs a. now (a .1 .0) beside a .1 .1 .0 beside a .1 .1 .1 .0 beside a .0 beside a .1 .1 .1 .1) (λ κs a r z. r)
 one-skip-if =
-    by-equation (λ κs. reading-set codedℕ) (λ w. refl) (λ i. readBy (λ x. when (i .0) (skip (8 * (x .0 .0))) 0) (i .1))
-    (λ w κs a r z p. said (λ h. ap (λ (v : ℕ). asRead v r) (h .0) ∙ h .1 .same) (p .holds))
+    by-relation (result-set skip-if.ended) (λ w. refl)
+    (λ i d. Gave (when (i .1 .1 .1 .0) (skip (8 * (i .1 .1 .1 .1 .0 .0))) 0) (bit (i .0)) (i .1 .1 .0) (i .1 .0) 0 d)
+    (λ i d d' g g'. one-gave g g' .0)
+    (λ w κs a r z p. said (λ h. h) (p .holds))
 
 pub one-read-size : OneAnswer read-size.ended (λ M. read-size.clauses) (λ M. read-size.spec)
-    (λ κs a. now (a .0) beside a .1) (λ κs a r z. asRead (r .size) (r .cur))
+    (λ κs a. now (a .0) beside a .1) (λ κs a r z. giving (r .size) (r .cur))
 one-read-size =
-    by-equation (λ κs. reading-set (size.the-row .coded)) (λ w. refl) (readBy (λ x. variable-bits-max))
-    (λ w κs a r z p. said (λ h. h .2 .same) (p .holds))
+    by-relation (λ κs. reading-set (size.the-row .coded)) (λ w. refl) (GaveBy _) (gave-once (λ i. variable-bits-max))
+    (λ w κs a r z p. said (λ h. (r .size, r .cur, h .2, refl)) (p .holds))

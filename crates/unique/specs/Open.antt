@@ -55,5 +55,5 @@ value-open one =
     let a : Args take.signature κs = (empty, (record { end = record { 0 = 0 }; inner = false }, (refused 0, (1, tt)))) in
     let z : Lasts take.ended κs a = (tt, (tt, (tt, (tt, tt)))) in
     let free : (v : ℕ) → v < 2 → Ensured take.ended (λ M. take.clauses) w₀ κs a (refused v) z =
-    λ v l. record { ghost = tt; owned = w₀ .𝓤 .one; holds = ∣ (record { reads = record { same = refl }; small = l }, tt) ∣₁ } in
+    λ v l. record { ghost = tt; owned = w₀ .𝓤 .one; holds = ∣ (record { reads = record { same = refl; handed = λ z. refl }; small = l }, tt) ∣₁ } in
     none-is-one (one .once w₀ w₀ κs κs a a (refused 0) (refused 1) z z refl (free 0 (omega arith)) (free 1 (omega arith)))
