@@ -5,9 +5,7 @@ use Rattle.checks.proofs.timing.update_valid.Tie as tie
 
 returns : tie.Need-returns
 unfolding updateValid
-returns c =
-    let values = c .before .before in
-    rw (c .both2 .ensures, c .before .both .ensures, values .wide-ranged2 .ensures, values .before .wide-ranged .ensures, values .before .before .offset-if .ensures, values .before .before .before .raw2 .ensures, values .before .before .before .before .raw .ensures)
+returns c = cc
 
 pub update-valid-spec : {M : Type 1} → statement M
 update-valid-spec =
