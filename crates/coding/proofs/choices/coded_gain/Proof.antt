@@ -5,7 +5,7 @@ use Rattle.coding.proofs.choices.coded_gain.Tie as tie
 
 returns : tie.Need-returns
 unfolding codedGain
-returns c = cc
+returns c = rw (c .choice2 .ensures, c .before .choice .ensures, c .before .before .less2 .ensures, c .before .before .before .less .ensures, c .before .before .before .before .gain-index .ensures)
 
 pub coded-gain-spec : {M : Type 1} → statement M
 coded-gain-spec =

@@ -5,7 +5,7 @@ use Rattle.coding.proofs.choices.coded_offset.Tie as tie
 
 returns : tie.Need-returns
 unfolding codedOffset
-returns c = cc
+returns c = rw (c .choice .ensures)
 
 pub coded-offset-spec : {M : Type 1} → statement M
 coded-offset-spec = tie.close (tie.spec (λ c κs. search needs) returns)

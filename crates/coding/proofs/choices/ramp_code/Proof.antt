@@ -5,7 +5,7 @@ use Rattle.coding.proofs.choices.ramp_code.Tie as tie
 
 returns : tie.Need-returns
 unfolding rampCode
-returns c = cc
+returns c = rw (c .choice3 .ensures, c .before .choice2 .ensures, c .before .before .choice .ensures)
 
 pub ramp-code-spec : {M : Type 1} → statement M
 ramp-code-spec = tie.close (tie.spec (λ c κs. search needs) (λ c κs. search needs) (λ c κs. search needs) returns)

@@ -5,7 +5,7 @@ use Rattle.coding.proofs.choices.z_sign.Tie as tie
 
 returns : tie.Need-returns
 unfolding zSign
-returns c = cc
+returns c = rw (c .as-flag .ensures)
 
 pub z-sign-spec : {M : Type 1} → statement M
 z-sign-spec = tie.close (tie.spec (λ c κs. search needs) returns)
