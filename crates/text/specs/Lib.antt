@@ -1,0 +1,4 @@
+pub mod Numerals
+pub mod NumeralLaws
+pub mod Lines
+pub mod Laying
