@@ -1,4 +1,6 @@
 pub mod Numerals
 pub mod NumeralLaws
 pub mod Lines
+pub mod Listing
+pub mod Answer
 pub mod Laying

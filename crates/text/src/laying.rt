@@ -80,7 +80,7 @@ pub fn lay_hex(text: &mut [u8], at: usize, bytes: &[u8]) -> usize
 }
 
 // A number, and a byte behind it.
-fn lay_number(text: &mut [u8], at: usize, n: u64, end: u8) -> usize
+pub fn lay_number(text: &mut [u8], at: usize, n: u64, end: u8) -> usize
     ensures { λ r. ⌜ Laid (now (text .entry)) (now (text .exit)) at r (decimal n ++ (end ∷ [])) ⌝ }
 {
     let to = lay_decimal(text, at, n);
