@@ -4,3 +4,5 @@ pub mod Lines
 pub mod Listing
 pub mod Answer
 pub mod Laying
+pub mod Ranges
+pub mod Most

@@ -62,9 +62,12 @@ listingOf a records =
     ++ (numberLine placeKey (a .place)
     ++ only (eqb (a .refusal) 0) (tableLines a records))
 
+unfoldable pub zeros : ℕ → List ℕ
+zeros n = replicate n 0
+
 -- the payload is read with room for the records and the trim table of every payload
 abbrev pub read : List ℕ → Outcome
-read s = reading s (replicate roomBytes 0) (replicate mostTrim 0)
+read s = reading s (zeros roomBytes) (zeros mostTrim)
 
 -- the listing of a payload
 unfoldable pub listing : List ℕ → List ℕ
