@@ -5,7 +5,7 @@ use Prim.Native.Nat.{ℕ, suc, _+_, _≤_, _<_}
 use native.Mathlib.Numerals.{add-one}
 use native.Mathlib.Omega.{arith}
 use lib.ListN.{length, getD, set, drop, length-append, drop-of-length-le}
-use lib.Seq.{sets, drop-cons, set-out, length-sets, sets-eq}
+use lib.Seq.{sets, drop-cons, set-out, length-sets}
 use Rattle.bits.specs.Steps.{by-order}
 use Rattle.text.specs.Lines.{texts}
 use Rattle.text.specs.Laying.{lastPosition, capped, Laid}

@@ -1,12 +1,12 @@
 -- The whole listing: what is laid of a payload, and what is answered of a text. Assumes nothing.
 use mathlib.Core.Path.{_≡_, refl, sym, ap, ap₂, _∙_, subst}
 use mathlib.Core.List.{List, _++_}
-use Prim.Native.Nat.{ℕ, _+_, _*_, _^_, _≤_, _<_}
+use Prim.Native.Nat.{ℕ, _+_, _^_, _≤_, _<_}
 use native.Mathlib.Omega.{arith}
 use native.Mathlib.Nat.{mul-le-mul}
 use borrow.Author.Tests.{le-leb, lt-leb}
 use lib.ListN.{length, drop}
-use lib.Seq.{sets, sets-eq}
+use lib.Seq.{sets-eq}
 use Rattle.oamd.specs.declared.ReadAnswer.{ReadAnswer}
 use Rattle.oamd.specs.Tables.{roomBytes, mostTrim}
 use Rattle.oamd.specs.Record.{onto}
@@ -52,7 +52,7 @@ module _ (s records trim : List ℕ) (a : ReadAnswer) (b t : List ℕ) (e : reco
   unfolding listing
   listed = ap (λ (o : Outcome). listingOf (o .answer) (o .buffer)) read-is
 
-  pub listed-few : length s < 10 ^ 20 → length (listingOf a b) ≤ mostText
+  pub listed-few : length s < 2 ^ 64 → length (listingOf a b) ≤ mostText
   listed-few short = rw listed (most-text s short)
 
   pub listed-holds : length b ≡ roomBytes → a .refusal ≡ 0 → Holds a b

@@ -1,31 +1,26 @@
 -- The longest listing: how many bytes suffice for every payload.
-use mathlib.Core.Path.{_≡_, refl, sym, ap, _∙_, subst}
-use mathlib.Core.Bool.{Bool, true, false}
+use mathlib.Core.Path.{_≡_, refl}
 use mathlib.Core.List.{List, [], _∷_, _++_}
 use Prim.Native.Nat.{ℕ, zero, suc, _+_, _-_, _*_, _^_, _≤_, _<_}
 use native.Mathlib.Omega.{arith}
-use native.Mathlib.Nat.{mul-le-mul}
-use borrow.Author.Tests.{eqb-true}
+use borrow.Author.Tests.{eqb-true, le-leb}
 use lib.Dec.{eqb}
-use lib.ListN.{length, getD, take, drop, length-append, length-take}
-use Rattle.bits.specs.Language.{bit, from, pastPayload}
-use Rattle.bits.specs.Laws.{placed}
+use lib.ListN.{length, getD, drop, length-append, length-take}
+use Rattle.bits.specs.Language.{from}
 use Rattle.bits.specs.Writes.{only}
 use Rattle.oamd.specs.declared.ReadAnswer.{ReadAnswer}
 use Rattle.oamd.specs.declared.Programme.{Programme}
-use Rattle.oamd.specs.declared.Timing.{Timing}
 use Rattle.oamd.specs.declared.Update.{Update}
 use Rattle.oamd.specs.Tables.{recordBytes, mostObjects, mostBlocks, roomBytes, mostTrim}
 use Rattle.oamd.specs.Programme.{shares}
 use Rattle.oamd.specs.Timing.{noUpdate}
-use Rattle.oamd.specs.Payload.{object-audio-metadata-payload}
-use Rattle.oamd.specs.Answer.{Outcome, reading}
 use Rattle.written.specs.Lemmas.Facts.{by-test}
 use Rattle.keys.specs.Names.{refusalKey, placeKey, objectsKey, bedKey, isfKey, dynamicKey, blocksKey, unknownKey, blockKey, recordKey}
 use Rattle.text.specs.Numerals.{decimal, hexByte}
 use Rattle.text.specs.NumeralLaws.{decimal-length}
-use Rattle.text.specs.Lines.{texts, textsFor, hex, comma, newline, line, numberLine}
+use Rattle.text.specs.Lines.{texts, hex, comma, newline, line, numberLine}
 use Rattle.text.specs.Listing.{blockLine, blockLines, recordAt, recordLine, objectLines, recordLines, shareLines, tableLines, listingOf, zeros, read, listing}
+use Rattle.text.specs.Answer.{texted}
 use Rattle.text.specs.Ranges.{Small, accepted-small, answer-marked}
 
 -- room for the listing of every payload, and to spare
@@ -141,12 +136,17 @@ listing-most a records h l small =
     by-test (eqb (a .refusal) 0) (λ e. rw e (tables-most a records (small (eqb-true (a .refusal) 0 e)))) (λ e. rw e (omega arith)) in
     omega (arith, length-append (numberLine refusalKey (a .refusal)) (p ++ t), length-append p t)
 
--- ---- the statement
+-- ---- the statements
 
--- no listing of a payload that has a length is longer
-pub most-text : (s : List ℕ) → length s < 10 ^ 20 → length (listing s) ≤ mostText
+-- no listing is longer, of a payload that a slice can hold
+pub most-text : (s : List ℕ) → length s < 2 ^ 64 → length (listing s) ≤ mostText
 unfolding listing
 most-text s h =
-    let m = answer-marked s (zeros roomBytes) (zeros mostTrim) h in
+    let m = answer-marked s (zeros roomBytes) (zeros mostTrim) (omega arith) in
     let n = listing-most (read s .answer) (read s .buffer) (m .refusal) (m .place) (accepted-small s (zeros roomBytes) (zeros mostTrim)) in
     omega arith
+
+-- so a buffer of as many bytes is never refused
+pub never-short : (s buffer : List ℕ) → length s < 2 ^ 64 → mostText ≤ length buffer → texted (listing s) buffer .answer .refusal ≡ 0
+unfolding texted
+never-short s buffer h l = let n = most-text s h in rw (le-leb (length (listing s)) (length buffer) (omega arith))

@@ -1,11 +1,11 @@
 -- What the digits of a number are: by its last digit, the number that they stand for, that the first is not 0, and how many there are.
-use mathlib.Core.Path.{_≡_, refl, sym, ap, _∙_, subst}
+use mathlib.Core.Path.{_≡_, refl, sym, ap, _∙_}
 use mathlib.Core.List.{List, [], _∷_, _++_, append-nil, append-assoc}
 use Prim.Native.Nat.{ℕ, zero, suc, _+_, _-_, _*_, _/_, _%_, _^_, _≤_, _<_}
 use native.Mathlib.Omega.{arith}
 use native.Mathlib.Nat.{pow-suc}
 use borrow.Author.Tests.{lt-ltb, le-ltb}
-use lib.ListN.{length, getD, length-append, List·getD-append}
+use lib.ListN.{length, getD, length-append}
 use Rattle.bits.specs.Steps.{by-order}
 use Rattle.text.specs.Numerals.{digit, digitsIn, decimal, Digit, Digits, Numeral, worthFrom, worth}
 

@@ -1,6 +1,6 @@
 -- How large the numbers are that a listing prints: those of every accepted payload.
-use mathlib.Core.Path.{_≡_, refl, sym, ap, subst}
-use mathlib.Core.Bool.{Bool, true, false, not}
+use mathlib.Core.Path.{_≡_, refl, sym, subst}
+use mathlib.Core.Bool.{true, not}
 use mathlib.Core.List.{List, [], _∷_, _++_, map}
 use mathlib.Core.Option.{Option, none, some}
 use Prim.Native.Nat.{ℕ, zero, suc, _+_, _-_, _*_, _^_, _≤_, _<_}
@@ -23,10 +23,10 @@ use Rattle.oamd.specs.declared.Timing.{Timing}
 use Rattle.oamd.specs.declared.Update.{Update}
 use Rattle.oamd.specs.Tables.{mostElements, mostObjects, mostBlocks}
 use Rattle.oamd.specs.Programme.{hasReserved, program-assignment, named, total, agrees, shares}
-use Rattle.oamd.specs.Timing.{startOf, rampOf, offsetOf, updateOf, noUpdate, timingOf}
+use Rattle.oamd.specs.Timing.{startOf, offsetOf, updateOf, noUpdate, timingOf}
 use Rattle.oamd.specs.ObjectElement.{ObjectElement, object-element}
 use Rattle.oamd.specs.Element.{kind, framed, isSecond, isEarly, Known, nothing, fields, State, passOver, readKnown, oa-element, oa-element-md, elements}
-use Rattle.oamd.specs.Payload.{object-count, oa-element-count, Header, header, Payload, object-audio-metadata-payload, timing, tables}
+use Rattle.oamd.specs.Payload.{object-count, oa-element-count, header, Payload, object-audio-metadata-payload, timing, tables}
 use Rattle.oamd.specs.Answer.{Outcome, needed, reading}
 use Rattle.demands.specs.Terms.{parsed, tablesOf}
 use Rattle.demands.specs.Conditions.{Short, records-short, trim-short}

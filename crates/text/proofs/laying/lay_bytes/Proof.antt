@@ -1,12 +1,10 @@
 -- `lay_bytes` meets its contract: whoever lays the bytes left from here has laid all from the start. Assumes nothing.
 use mathlib.Core.List.{[], _∷_}
-use mathlib.Core.Path.{refl}
 use Prim.Native.Nat.{_-_, _≤_}
 use borrow.Author.Needs.{needs}
 use denote.Ref.{now}
 use native.Mathlib.Omega.{arith}
 use lib.ListN.{length, drop}
-use Rattle.text.specs.Numerals.{hexByte}
 use Rattle.text.specs.Lines.{texts}
 use Rattle.text.proofs.LayLaws.{Rest, rest-start, rest-step, rest-end, texts-more, texts-none, texts-bytes}
 use Rattle.text.proofs.laying.lay_bytes.Statement.{statement}

@@ -1,5 +1,4 @@
 -- `lay_hex` meets its contract: whoever lays the bytes left from here has laid all from the start. Assumes nothing.
-use mathlib.Core.List.{[], _∷_}
 use mathlib.Core.Path.{refl}
 use Prim.Native.Nat.{_-_, _≤_}
 use borrow.Author.Needs.{needs}
@@ -8,7 +7,7 @@ use native.Mathlib.Omega.{arith}
 use lib.ListN.{length, drop}
 use Rattle.text.specs.Numerals.{hexByte}
 use Rattle.text.specs.Lines.{texts}
-use Rattle.text.proofs.LayLaws.{Rest, rest-start, rest-step, rest-end, texts-more, texts-none, texts-bytes}
+use Rattle.text.proofs.LayLaws.{Rest, rest-start, rest-step, rest-end, texts-more, texts-none}
 use Rattle.text.proofs.laying.lay_hex.Statement.{statement}
 use Rattle.text.proofs.laying.lay_hex.Tie as tie
 
