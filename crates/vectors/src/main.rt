@@ -69,12 +69,12 @@ fn list_trim(objects: u8, trim: &[u8]) {
     printing::trim(&trim[0..n]);
 }
 
-// Reads a payload, prints what it answers, and writes its tables again. The trim buffer holds ones before.
+// Lists a payload, reads it, and writes its tables again. The trim buffer holds ones before.
 fn list_one(payload: &[u8]) {
+    printing::list(payload);
     let mut records = [0u8; 30720];
     let mut trim = [255u8; 253];
     let a = reader::read(payload, &mut records, &mut trim);
-    printing::answer(a, &records);
     let programme = a.programme;
     if a.refusal == 0 {
         list_trim(programme.objects, &trim);

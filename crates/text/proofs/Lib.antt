@@ -1,0 +1,4 @@
+pub mod LayLaws
+pub mod LineLaws
+pub mod Whole
+pub mod Worked
