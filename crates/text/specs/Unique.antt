@@ -1,4 +1,4 @@
--- The statement of `list_text` admits one answer and one buffer, and says when it is refused.
+-- The statements admit one answer and one buffer; and when a text is refused.
 use mathlib.Core.Path.{_≡_, sym, ap, _∙_}
 use mathlib.Core.List.{List}
 use mathlib.Core.Logic.{_↔_}
@@ -10,6 +10,7 @@ use Rattle.bits.specs.Steps.{by-order}
 use Rattle.text.specs.declared.TextAnswer.{TextAnswer}
 use Rattle.text.specs.Listing.{listing}
 use Rattle.text.specs.Answer.{shortText, Texted, texted}
+use Rattle.text.specs.Laying.{Laid}
 
 -- What `list_text` ensures is `record { answer = r; buffer = b } ≡ texted (listing s) buffer`: two answers, each with the buffer behind it, that both meet
 -- it are equal.
@@ -27,3 +28,7 @@ short-when text buffer = (
       (λ l. l)),
   (λ l. rw (lt-leb (length text) (length buffer) l)),
 )
+
+-- What the functions that lay a text ensure is `Laid`: it fixes the buffer and the next position.
+pub one-laid : (s t t' : List ℕ) (at r r' : ℕ) (l : List ℕ) → Laid s t at r l → Laid s t' at r' l → (t ≡ t') × (r ≡ r')
+one-laid s t t' at r r' l h h' = (h .same ∙ sym (h' .same), h .next ∙ sym (h' .next))
