@@ -5,7 +5,7 @@ use Prim.Native.Nat.{ℕ, _+_, _^_, _≤_, _<_}
 use native.Mathlib.Omega.{arith}
 use native.Mathlib.Nat.{mul-le-mul}
 use borrow.Author.Tests.{le-leb, lt-leb}
-use lib.ListN.{length, drop}
+use lib.ListN.{length, drop, replicate}
 use lib.Seq.{sets-eq}
 use Rattle.oamd.specs.declared.ReadAnswer.{ReadAnswer}
 use Rattle.oamd.specs.Tables.{roomBytes, mostTrim}
@@ -15,7 +15,7 @@ use Rattle.text.specs.declared.TextAnswer.{TextAnswer}
 use Rattle.text.specs.Listing.{listingOf, zeros, read, listing}
 use Rattle.text.specs.Answer.{shortText, textAnswer, Texted, texted}
 use Rattle.text.specs.Ranges.{Small, accepted-small}
-use Rattle.text.specs.Most.{mostText, most-text}
+use Rattle.text.specs.Most.{mostText, zeros-long, most-text}
 use Rattle.text.specs.Laying.{capped, Laid, Holds}
 
 abbrev pub gives : TextAnswer → List ℕ → Texted
@@ -42,6 +42,11 @@ module _ (l buffer : List ℕ) (few : length l ≤ mostText) (needed : ℕ) (lon
       ap₂ (λ (n : ℕ) (x : List ℕ). gives (textAnswer 0 0 n) x) e is ∙ sym (rw (le-leb (length l) (length buffer) (omega arith)) refl)
 
 -- ---- a payload that was read
+
+-- the room that it is read with
+pub zeros-are : (n : ℕ) → (_≡_ {A = List ℕ} (replicate n 0) (zeros n)) × (length {A = ℕ} (replicate n 0) ≡ n)
+unfolding zeros
+zeros-are n = (refl, zeros-long n)
 
 module _ (s records trim : List ℕ) (a : ReadAnswer) (b t : List ℕ) (e : records ≡ zeros roomBytes) (f : trim ≡ zeros mostTrim)
     (h : _≡_ {A = Outcome} (record { answer = a; buffer = b; trim = t }) (reading s records trim)) where

@@ -138,12 +138,16 @@ listing-most a records h l small =
     by-test (eqb (a .refusal) 0) (λ e. rw e (tables-most a records (small (eqb-true (a .refusal) 0 e)))) (λ e. rw e (omega arith)) in
     omega (arith, length-append (numberLine refusalKey (a .refusal)) (p ++ t), length-append p t)
 
+pub zeros-long : (n : ℕ) → length (zeros n) ≡ n
+unfolding zeros
+zeros-long n = length-replicate {A = ℕ} n 0
+
 -- no listing is longer, of a payload that a slice can hold
 pub most-text : (s : List ℕ) → length s < 2 ^ 64 → length (listing s) ≤ mostText
-unfolding listing zeros
+unfolding listing
 most-text s h =
-    let room : length (zeros roomBytes) ≡ roomBytes = length-replicate {A = ℕ} roomBytes 0 in
-    let trim : length (zeros mostTrim) ≡ mostTrim = length-replicate {A = ℕ} mostTrim 0 in
+    let room = zeros-long roomBytes in
+    let trim = zeros-long mostTrim in
     let m = answer-marked s (zeros roomBytes) (zeros mostTrim) (omega arith) (omega arith) (omega arith) in
     let n = listing-most (read s .answer) (read s .buffer) (m .refusal) (m .place) (accepted-small s (zeros roomBytes) (zeros mostTrim)) in
     omega arith

@@ -1,3 +1,4 @@
+-- `list_answer` meets its contract: the length first, then the room, then the text. Assumes nothing.
 use borrow.Author.Needs.{needs}
 use denote.Ref.{now}
 use mathlib.Core.Path.{ap, _∙_}

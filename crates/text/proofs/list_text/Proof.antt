@@ -1,3 +1,4 @@
+-- `list_text` meets its contract: the listing of what was read is that of the payload, and short enough to be measured. Assumes nothing.
 use borrow.Author.Needs.{needs}
 use denote.Ref.{now}
 use mathlib.Core.Path.{ap, _∙_}
