@@ -9,7 +9,7 @@ use Rattle.oamd.specs.declared.TrimConfig.{TrimConfig}
 use Rattle.oamd.specs.Tables.{mostObjects, mostBeds}
 use Rattle.oamd.specs.Programme.{set?, clear?, hasBeds, hasIsf, hasDynamic, hasReserved, bedInstances, agrees}
 use Rattle.oamd.specs.Trim.{hasCentre, hasSurround, hasHeight, hasTb, hasLis}
-use Rattle.written.specs.Valid.{_and_, ranged, entriesValid, bedValid, programmeValid, placeValid, volumeValid, zoneValid, screenValid}
+use Rattle.written.specs.Valid.{_and_, ranged, entriesValid, bedValid, programmeValid, locationValid, volumeValid, zoneValid, screenValid}
 
 -- what stands behind the beds, and that all together name the object count
 unfoldable pub othersValid : Programme → Bool
@@ -40,7 +40,7 @@ programme-parts p = refl
 -- bytes 4 to 16
 unfoldable pub renderedValid : Bool → Scene → Bool
 renderedValid sent s =
-    placeValid sent (s .place)
+    locationValid sent (s .location)
     and volumeValid sent (s .volume)
     and zoneValid sent (s .zone)
     and screenValid sent (s .screen)

@@ -1,11 +1,11 @@
 // One record: each of its values by what the record itself carries (Tables 28 and 29, 5.5.14, 5.5.15).
 ghost use mathlib.Core.Path.{_≡_};
 ghost use Rattle.oamd.specs.Record.{carries, recordOf};
-ghost use Rattle.written.specs.Valid.{placeValid, volumeValid, zoneValid, screenValid, sceneValid, leastDivergence, mostDivergence, divergenceValid, preciseValid, recordValid};
+ghost use Rattle.written.specs.Valid.{locationValid, volumeValid, zoneValid, screenValid, sceneValid, leastDivergence, mostDivergence, divergenceValid, preciseValid, recordValid};
 ghost use Rattle.checks.specs.Parts.{renderedValid};
 use crate::ranges::ranged;
 use oamd::Divergence;
-use oamd::Place;
+use oamd::Location;
 use oamd::Precise;
 use oamd::Scene;
 use oamd::Screen;
@@ -21,8 +21,8 @@ pub fn carries(s: Scene) -> bool
 }
 
 // Bytes 4 to 7.
-fn place_valid(sent: bool, p: Place) -> bool
-    ensures { λ r. ⌜ r ≡ placeValid sent p ⌝ }
+fn location_valid(sent: bool, p: Location) -> bool
+    ensures { λ r. ⌜ r ≡ locationValid sent p ⌝ }
 {
     let x = ranged(sent, 0, 62, 31, p.x);
     let y = ranged(sent, 0, 62, 31, p.y);
@@ -64,16 +64,16 @@ fn screen_valid(sent: bool, s: Screen) -> bool
 fn rendered_valid(sent: bool, s: Scene) -> bool
     ensures { λ r. ⌜ r ≡ renderedValid sent s ⌝ }
 {
-    let place = s.place;
+    let location = s.location;
     let volume = s.volume;
     let zone = s.zone;
     let screen = s.screen;
-    let placed = place_valid(sent, place);
+    let located = location_valid(sent, location);
     let sized = volume_valid(sent, volume);
     let zoned = zone_valid(sent, zone);
     let screened = screen_valid(sent, screen);
     let snapped = ranged(sent, 0, 1, 0, s.snap);
-    both(placed, both(sized, both(zoned, both(screened, snapped))))
+    both(located, both(sized, both(zoned, both(screened, snapped))))
 }
 
 // Bytes 0 to 16, of an object of a class.

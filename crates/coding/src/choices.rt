@@ -97,9 +97,9 @@ pub fn coded_gain(gain: u8) -> Gain
 pub fn coded_priority(priority: u8) -> Priority
     ensures { λ r. ⌜ r ≡ codedPriority priority ⌝ }
 {
-    let standard = as_flag(priority == 32);
+    let bydefault = as_flag(priority == 32);
     let bits = choice(priority == 32, 0, priority);
-    Priority { standard, bits }
+    Priority { bydefault, bits }
 }
 
 pub fn z_sign(z: u8) -> u8

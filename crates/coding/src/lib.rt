@@ -10,7 +10,7 @@ mod block; // block.rt: a block, in five parts
 pub use block::around;
 pub use block::ending;
 pub use block::opening;
-pub use block::placing;
+pub use block::positioning;
 pub use block::short;
 pub use block::sized;
 pub use choices::as_flag;

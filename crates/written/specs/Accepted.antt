@@ -19,7 +19,7 @@ use Rattle.oamd.specs.Timing.{timingOf}
 use Rattle.oamd.specs.Block.{object-info-block}
 use Rattle.oamd.specs.ObjectElement.{object-data, ObjectElement, object-element}
 use Rattle.oamd.specs.Extended.{Extension}
-use Rattle.oamd.specs.Trim.{Trim as TrimTable, trimOf}
+use Rattle.oamd.specs.Trim.{TrimTable, trimOf}
 use Rattle.oamd.specs.Record.{Record, allCarry, plainRecords, extendedRecords}
 use Rattle.oamd.specs.Element.{kind, framed, nothing, scenes, fields, State, passOver, readKnown, oa-element, oa-element-md, elements}
 use Rattle.oamd.specs.Payload.{Payload, object-audio-metadata-payload, noTiming, timing, records, tables}

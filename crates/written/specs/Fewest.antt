@@ -11,12 +11,12 @@ use Rattle.bits.specs.Writes.{toBits, only, Spells, First}
 use Rattle.bits.specs.Spells.{s-give, s-bind, s-bits, s-if}
 use Rattle.bits.specs.First.{first-append}
 use Rattle.oamd.specs.declared.Status.the-variants.{Full}
-use Rattle.oamd.specs.declared.Place.{Place}
+use Rattle.oamd.specs.declared.Location.{Location}
 use Rattle.oamd.specs.Programme.{set?, clear?}
 use Rattle.oamd.specs.Reserved.{SampleOffsetCode, ObjectSizeIdx}
 use Rattle.oamd.specs.Timing.{sample-offset, block-update-info, offsetOf, updateOf}
 use Rattle.oamd.specs.Block.{object-basic-info, coordinates, distance, extent}
-use Rattle.oamd.specs.Meaning.{gainOf, priorityOf, placeOf, distanceOf, volumeOf}
+use Rattle.oamd.specs.Meaning.{gainOf, priorityOf, locationOf, distanceOf, volumeOf}
 use Rattle.written.specs.Coded.{codedOffset, codedUpdate, codedGain, codedPriority, codedDistance, codedExtent}
 use Rattle.written.specs.Lemmas.Codable.{offsetCodable, updateCodable, gainCodable, priorityCodable, distanceCodable, extentCodable}
 use Rattle.written.specs.Form.{offsetBits, updateBits, gainBits, priorityBits, positionBits, distanceBits, extentBits}
@@ -68,25 +68,25 @@ basic-fewest above =
     s-bind _ _ _ (s-give _ _ (
     s-bind _ _ _ (s-bits 2 _ λ index a.
     s-bind _ _ _ (s-if (eqb index 2) 6 _ λ n b b'.
-    s-bind _ _ _ (s-bits 1 _ λ standard c.
-    s-bind _ _ _ (s-if (clear? standard) 5 _ λ m d d'.
+    s-bind _ _ _ (s-bits 1 _ λ bydefault c.
+    s-bind _ _ _ (s-if (clear? bydefault) 5 _ λ m d d'.
     s-give _ _ (λ other.
     rw (
-      append-nil (only (clear? standard) (toBits 5 m)),
+      append-nil (only (clear? bydefault) (toBits 5 m)),
       ← append-assoc (toBits 2 index) (only (eqb index 2) (toBits 6 n))
-          (toBits 1 standard ++ only (clear? standard) (toBits 5 m)),
+          (toBits 1 bydefault ++ only (clear? bydefault) (toBits 5 m)),
     )
     (first-append
     (gain-least (record { index = index; bits = n }) above (whole _ _ (always 0 3 0 index (omega arith) (omega arith))
     (read-ranged (eqb index 2) 63 n b b')) (omega arith))
-    (priority-least (record { standard = standard; bits = m }) (whole _ _ (always 0 1 0 standard (omega arith) (omega arith))
-    (read-ranged (clear? standard) 31 m d d')))))))))))
+    (priority-least (record { bydefault = bydefault; bits = m }) (whole _ _ (always 0 1 0 bydefault (omega arith) (omega arith))
+    (read-ranged (clear? bydefault) 31 m d d')))))))))))
 
 -- ---- absolute position, distance, size (5.5.11)
 
 -- x = 62 as 62, y likewise, and z = 0 with sign 0
-pub coordinates-fewest : (distance : ℕ) (before : Place) → Spells coordinates (λ l p. First (positionBits true (placeOf p distance before)) l)
-unfolding coordinates positionBits placeOf
+pub coordinates-fewest : (distance : ℕ) (before : Location) → Spells coordinates (λ l p. First (positionBits true (locationOf p distance before)) l)
+unfolding coordinates positionBits locationOf
 coordinates-fewest distance before =
     s-bind _ _ _ (s-bits 6 _ λ x a.
     s-bind _ _ _ (s-bits 6 _ λ y b.

@@ -13,7 +13,7 @@ use Rattle.oamd.specs.declared.Programme.{Programme}
 use Rattle.oamd.specs.declared.Shares.{Shares}
 use Rattle.oamd.specs.declared.Update.{Update}
 use Rattle.oamd.specs.declared.Timing.{Timing}
-use Rattle.oamd.specs.declared.Place.{Place}
+use Rattle.oamd.specs.declared.Location.{Location}
 use Rattle.oamd.specs.declared.Volume.{Volume}
 use Rattle.oamd.specs.declared.Zone.{Zone}
 use Rattle.oamd.specs.declared.Screen.{Screen}
@@ -25,7 +25,7 @@ use Rattle.oamd.specs.Tables.{mostObjects, mostBlocks, mostBeds, trimConfigs}
 use Rattle.oamd.specs.Programme.{set?, clear?, hasBeds, hasIsf, hasDynamic, hasReserved, bedInstances, agrees, shares, classOf}
 use Rattle.oamd.specs.Meaning.{zeroDb, zeroZ}
 use Rattle.oamd.specs.Extended.{hasX, hasY, hasZ}
-use Rattle.oamd.specs.Trim.{hasCentre, hasSurround, hasHeight, hasTb, hasLis, Trim}
+use Rattle.oamd.specs.Trim.{hasCentre, hasSurround, hasHeight, hasTb, hasLis, TrimTable}
 use Rattle.oamd.specs.Record.{Record, carries}
 use Rattle.oamd.specs.Payload.{Tables}
 
@@ -93,8 +93,8 @@ timingValid t =
 -- ---- a record
 
 -- bytes 4 to 7
-unfoldable pub placeValid : Bool → Place → Bool
-placeValid sent p =
+unfoldable pub locationValid : Bool → Location → Bool
+locationValid sent p =
     ranged sent 0 62 31 (p .x)
     and ranged sent 0 62 31 (p .y)
     and ranged sent (zeroZ - 15) (zeroZ + 15) zeroZ (p .z)
@@ -119,7 +119,7 @@ sceneValid class s =
     and eqb (s .class) class
     and ranged (set? (s .active)) 0 (zeroDb + 15) 0 (s .gain)
     and ranged (set? (s .active)) 0 32 0 (s .priority)
-    and placeValid (carries s) (s .place)
+    and locationValid (carries s) (s .location)
     and volumeValid (carries s) (s .volume)
     and zoneValid (carries s) (s .zone)
     and screenValid (carries s) (s .screen)
@@ -173,7 +173,7 @@ configValid sent c =
     and ranged (hasLis (c .presence)) 0 15 0 (c .lisamount)
 
 -- of so many objects
-unfoldable pub trimValid : ℕ → Trim → Bool
+unfoldable pub trimValid : ℕ → TrimTable → Bool
 trimValid objects t =
     ranged true 0 1 0 (t .present)
     and ranged (set? (t .present)) 0 1 0 (t .warp)

@@ -14,7 +14,6 @@ use Rattle.oamd.specs.declared.Block.{Block}
 use Rattle.oamd.specs.Programme.{set?, clear?, dynamicClass}
 use Rattle.oamd.specs.Reserved.{ZoneConstraintsIdx}
 use Rattle.oamd.specs.Block.{status-idx, object-basic-info, position, distance, zone, extent, screen, object-render-info, object-info-block, hasZone, hasSize, hasScreen, hasPriority, sends}
-use Rattle.oamd.specs.Meaning.{idle}
 use Rattle.written.specs.Valid.{zoneValid, screenValid}
 use Rattle.written.specs.Lemmas.Facts.{whole, by-test, by-flag}
 use Rattle.written.specs.Lemmas.Unreserved.{under, e-unreserved}
@@ -41,8 +40,8 @@ basic-ensures status =
     e-bind _ _ _ (e-any _ _ λ parts.
     e-bind _ _ _ (e-any _ _ λ index.
     e-bind _ _ _ (e-any _ _ λ gain.
-    e-bind _ _ _ (e-any _ _ λ standard.
-    e-bind _ _ _ (e-if (both (hasPriority parts) (clear? standard)) 5 _ λ n b b'.
+    e-bind _ _ _ (e-any _ _ λ bydefault.
+    e-bind _ _ _ (e-if (both (hasPriority parts) (clear? bydefault)) 5 _ λ n b b'.
     e-give _ _ (record { same = refl; priority = small _ n 31 b b' }))))))
 
 zone-ensures : (on : Bool) → Ensures (zone on) (λ z. zoneValid true z ≡ true)

@@ -17,9 +17,9 @@ use Rattle.oamd.specs.declared.Block.{Block}
 use Rattle.oamd.specs.declared.Scene.{Scene}
 use Rattle.oamd.specs.Programme.{set?, dynamicClass}
 use Rattle.oamd.specs.Block.{status-idx, object-basic-info, nowhere, position, distance, zone, extent, screen, object-render-info, additional-table-data, object-info-block}
-use Rattle.oamd.specs.Meaning.{placeOf, defaultPlace, defaultVolume, defaultZone, defaultScreen, resolve}
+use Rattle.oamd.specs.Meaning.{locationOf, defaultLocation, defaultVolume, defaultZone, defaultScreen, resolve}
 use Rattle.oamd.specs.Record.{carries}
-use Rattle.written.specs.Valid.{ranged, placeValid, volumeValid, zoneValid, screenValid, sceneValid}
+use Rattle.written.specs.Valid.{ranged, locationValid, volumeValid, zoneValid, screenValid, sceneValid}
 use Rattle.written.specs.Coded.{codedGain, codedPriority, zSign, zBits, codedDistance, codedExtent}
 use Rattle.written.specs.Form.{statusBits, positionBits, basicBits, renderBits, blockBits}
 use Rattle.written.specs.Lemmas.Facts.{halves, by-test, by-flag, Ranged, in-range}
@@ -33,10 +33,10 @@ pub record SceneFacts (class : ℕ) (s : Scene) : Type 0 where
   pub kind : s .class ≡ class
   pub gain : Ranged (set? (s .active)) 0 65 0 (s .gain)
   pub priority : Ranged (set? (s .active)) 0 32 0 (s .priority)
-  pub x : Ranged (carries s) 0 62 31 (s .place .x)
-  pub y : Ranged (carries s) 0 62 31 (s .place .y)
-  pub z : Ranged (carries s) 49 79 64 (s .place .z)
-  pub distance : Ranged (carries s) 0 17 0 (s .place .distance)
+  pub x : Ranged (carries s) 0 62 31 (s .location .x)
+  pub y : Ranged (carries s) 0 62 31 (s .location .y)
+  pub z : Ranged (carries s) 49 79 64 (s .location .z)
+  pub distance : Ranged (carries s) 0 17 0 (s .location .distance)
   pub width : Ranged (carries s) 0 31 0 (s .volume .width)
   pub depth : Ranged (carries s) 0 31 0 (s .volume .depth)
   pub height : Ranged (carries s) 0 31 0 (s .volume .height)
@@ -48,19 +48,19 @@ pub record SceneFacts (class : ℕ) (s : Scene) : Type 0 where
   pub snap : Ranged (carries s) 0 1 0 (s .snap)
 
 pub scene-facts : (class : ℕ) (s : Scene) → sceneValid class s ≡ true → SceneFacts class s
-unfolding sceneValid placeValid volumeValid zoneValid screenValid
+unfolding sceneValid locationValid volumeValid zoneValid screenValid
 scene-facts class s h =
     let a = halves (ranged true 0 1 0 (s .active)) _ h in
     let b = halves (eqb (s .class) class) _ (a .1) in
     let c = halves (ranged (set? (s .active)) 0 65 0 (s .gain)) _ (b .1) in
     let d = halves (ranged (set? (s .active)) 0 32 0 (s .priority)) _ (c .1) in
-    let e = halves (placeValid (carries s) (s .place)) _ (d .1) in
+    let e = halves (locationValid (carries s) (s .location)) _ (d .1) in
     let f = halves (volumeValid (carries s) (s .volume)) _ (e .1) in
     let g = halves (zoneValid (carries s) (s .zone)) _ (f .1) in
     let i = halves (screenValid (carries s) (s .screen)) _ (g .1) in
-    let x = halves (ranged (carries s) 0 62 31 (s .place .x)) _ (e .0) in
-    let y = halves (ranged (carries s) 0 62 31 (s .place .y)) _ (x .1) in
-    let z = halves (ranged (carries s) 49 79 64 (s .place .z)) _ (y .1) in
+    let x = halves (ranged (carries s) 0 62 31 (s .location .x)) _ (e .0) in
+    let y = halves (ranged (carries s) 0 62 31 (s .location .y)) _ (x .1) in
+    let z = halves (ranged (carries s) 49 79 64 (s .location .z)) _ (y .1) in
     let w = halves (ranged (carries s) 0 31 0 (s .volume .width)) _ (f .0) in
     let u = halves (ranged (carries s) 0 31 0 (s .volume .depth)) _ (w .1) in
     let o = halves (ranged (carries s) 0 5 0 (s .zone .index)) _ (g .0) in
@@ -92,8 +92,8 @@ abbrev pub fullRender : Scene → Render
 fullRender s = record {
   status = Full;
   parts = 15;
-  position = Absolute (s .place .x) (s .place .y) (zSign (s .place .z)) (zBits (s .place .z));
-  distance = codedDistance (s .place .distance);
+  position = Absolute (s .location .x) (s .location .y) (zSign (s .location .z)) (zBits (s .location .z));
+  distance = codedDistance (s .location .distance);
   zone = s .zone;
   extent = codedExtent (s .volume);
   screen = s .screen;
@@ -144,12 +144,12 @@ render-writes first class s f q =
     let x = f .x .on q in
     let y = f .y .on q in
     let z = f .z .on q in
-    let m = z-means (s .place .z) (z .0) (z .1) in
+    let m = z-means (s .location .z) (z .0) (z .1) in
     let used : Ranged true 0 1 0 (s .screen .used) = record { on = λ p. f .used .on q; off = λ p. absurd (false≢true (sym p)) } in
     let snap = f .snap .on q in
     w-bind (w-give 15)
-    (w-bind (position-writes first (s .place .x) (s .place .y) (zSign (s .place .z)) (zBits (s .place .z)) (omega arith) (omega arith) (m .0) (m .1))
-    (w-bind (distance-writes (codedDistance (s .place .distance)) (distance-codable (s .place .distance) (f .distance .on q .1)))
+    (w-bind (position-writes first (s .location .x) (s .location .y) (zSign (s .location .z)) (zBits (s .location .z)) (omega arith) (omega arith) (m .0) (m .1))
+    (w-bind (distance-writes (codedDistance (s .location .distance)) (distance-codable (s .location .distance) (f .distance .on q .1)))
     (w-bind (zone-writes (s .zone) (f .zone .on q .1) (f .elevation .on q .1))
     (w-bind (extent-writes (codedExtent (s .volume)) (extent-codable (s .volume) (f .width .on q .1) (f .depth .on q .1) (f .height .on q .1)))
     (w-bind (screen-writes (s .screen) used (f .factor) (f .back)) (w-end (w-bits 1 (s .snap) (omega arith)) (w-give _)))))))
@@ -192,7 +192,7 @@ block-writes blk class s f =
 
 -- where nothing of a position, a size, a zone, a screen reference or a snap is sent, they are the defaults
 pub record Plain (s : Scene) : Type 0 where
-  pub place : defaultPlace ≡ s .place
+  pub location : defaultLocation ≡ s .location
   pub volume : defaultVolume ≡ s .volume
   pub zone : defaultZone ≡ s .zone
   pub screen : defaultScreen ≡ s .screen
@@ -203,7 +203,7 @@ plain {s = s} f c =
     let used = sym (f .used .off c) in
     let off : set? (s .screen .used) ≡ false = rw (← used) refl in
     record {
-      place = λ i. record { x = sym (f .x .off c) i; y = sym (f .y .off c) i; z = sym (f .z .off c) i; distance = sym (f .distance .off c) i };
+      location = λ i. record { x = sym (f .x .off c) i; y = sym (f .y .off c) i; z = sym (f .z .off c) i; distance = sym (f .distance .off c) i };
       volume = λ i. record { width = sym (f .width .off c) i; depth = sym (f .depth .off c) i; height = sym (f .height .off c) i };
       zone = λ i. record { index = sym (f .zone .off c) i; elevation = sym (f .elevation .off c) i };
       screen = λ i. record { used = used i; factor = sym (f .factor .off off) i; depth = sym (f .back .off off) i };
@@ -212,7 +212,7 @@ plain {s = s} f c =
 
 -- a block that is written takes nothing from the block before nor from the object before
 pub block-means : (before : Scene) (above class : ℕ) (s : Scene) → SceneFacts class s → resolve before above (codedBlock s) ≡ s
-unfolding resolve codedBlock placeOf
+unfolding resolve codedBlock locationOf
 block-means before above class s f = by-test (set? (s .active))
     (λ a.
     let gain = gain-means (s .gain) above (f .gain .on a .1) in
@@ -220,17 +220,17 @@ block-means before above class s f = by-test (set? (s .active))
     by-test (carries s)
     (λ c.
     let z = f .z .on c in
-    let px = across-means (s .place .x) (f .x .on c .1) in
-    let py = across-means (s .place .y) (f .y .on c .1) in
-    let pz = z-means (s .place .z) (z .0) (z .1) .2 in
-    let pd = distance-means (s .place .distance) (f .distance .on c .1) in
+    let px = across-means (s .location .x) (f .x .on c .1) in
+    let py = across-means (s .location .y) (f .y .on c .1) in
+    let pz = z-means (s .location .z) (z .0) (z .1) .2 in
+    let pd = distance-means (s .location .distance) (f .distance .on c .1) in
     let volume = extent-means (s .volume) in
     rw (c, a) (λ i. record {
       active = s .active;
       class = s .class;
       gain = gain i;
       priority = priority i;
-      place = record { x = px i; y = py i; z = pz i; distance = pd i };
+      location = record { x = px i; y = py i; z = pz i; distance = pd i };
       volume = volume i;
       zone = s .zone;
       screen = s .screen;
@@ -243,7 +243,7 @@ block-means before above class s f = by-test (set? (s .active))
       class = s .class;
       gain = gain i;
       priority = priority i;
-      place = d .place i;
+      location = d .location i;
       volume = d .volume i;
       zone = d .zone i;
       screen = d .screen i;
@@ -257,7 +257,7 @@ block-means before above class s f = by-test (set? (s .active))
       class = s .class;
       gain = sym (f .gain .off a) i;
       priority = sym (f .priority .off a) i;
-      place = d .place i;
+      location = d .location i;
       volume = d .volume i;
       zone = d .zone i;
       screen = d .screen i;

@@ -29,7 +29,7 @@ gainCodable g = ranged true 0 3 0 (g .index) and ranged (eqb (g .index) 2) 0 63 
 
 -- 5.6.1.3
 unfoldable pub priorityCodable : Priority → Bool
-priorityCodable p = ranged true 0 1 0 (p .standard) and ranged (clear? (p .standard)) 0 31 0 (p .bits)
+priorityCodable p = ranged true 0 1 0 (p .bydefault) and ranged (clear? (p .bydefault)) 0 31 0 (p .bits)
 
 -- 5.6.1.1.15 to 5.6.1.1.17
 unfoldable pub distanceCodable : Distance → Bool

@@ -82,12 +82,12 @@ gain-least g above h low =
 -- ---- the priority (5.6.1.3)
 
 abbrev priorityCode : ℕ → ℕ → Priority
-priorityCode standard bits = record { standard = standard; bits = bits }
+priorityCode bydefault bits = record { bydefault = bydefault; bits = bits }
 
 priorityTest : ℕ → ℕ → Bool
-priorityTest standard bits =
-    implies (priorityCodable (priorityCode standard bits))
-    (first? (priorityBits (codedPriority (priorityOf (priorityCode standard bits)))) (priorityBits (priorityCode standard bits)))
+priorityTest bydefault bits =
+    implies (priorityCodable (priorityCode bydefault bits))
+    (first? (priorityBits (codedPriority (priorityOf (priorityCode bydefault bits)))) (priorityBits (priorityCode bydefault bits)))
 
 priorities : allBelow2 2 32 priorityTest ≡ true
 unfolding priorityTest priorityCodable ranged priorityBits codedPriority priorityOf toBits number
@@ -96,8 +96,8 @@ priorities = refl
 pub priority-least : (p : Priority) → priorityCodable p ≡ true → First (priorityBits (codedPriority (priorityOf p))) (priorityBits p)
 unfolding priorityTest priorityCodable
 priority-least p h =
-    let x = halves (ranged true 0 1 0 (p .standard)) _ h in
-    first-of _ _ (implied (priorityCodable p) _ (below2 2 32 priorityTest priorities (p .standard) (p .bits) (most true 1 _ (x .0))
+    let x = halves (ranged true 0 1 0 (p .bydefault)) _ h in
+    first-of _ _ (implied (priorityCodable p) _ (below2 2 32 priorityTest priorities (p .bydefault) (p .bits) (most true 1 _ (x .0))
     (most _ 31 (p .bits) (x .1))) h)
 
 -- ---- the distance (5.6.1.1.15 to 5.6.1.1.17)

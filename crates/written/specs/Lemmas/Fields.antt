@@ -59,16 +59,16 @@ pub basic-writes : (g : Gain) (p : Priority) → gainCodable g ≡ true → prio
 unfolding object-basic-info gainBits priorityBits gainCodable priorityCodable
 basic-writes g p h i =
     let a = halves (ranged true 0 3 0 (g .index)) _ h in
-    let b = halves (ranged true 0 1 0 (p .standard)) _ i in
+    let b = halves (ranged true 0 1 0 (p .bydefault)) _ i in
     w-list (sym (append-assoc (toBits 2 (g .index)) _ _))
     (w-bind (w-give 3) (w-bind (w-ranged 2 (in-range true 0 3 0 (g .index) (a .0)) (omega arith))
     (w-bind (w-ranged 6 (in-range _ _ _ _ _ (a .1)) (omega arith))
-    (w-bind (w-ranged 1 (in-range true 0 1 0 (p .standard) (b .0)) (omega arith)) (w-end (w-ranged 5 (in-range _ _ _ _ _ (b .1)) (omega arith))
+    (w-bind (w-ranged 1 (in-range true 0 1 0 (p .bydefault) (b .0)) (omega arith)) (w-end (w-ranged 5 (in-range _ _ _ _ _ (b .1)) (omega arith))
     (w-give _))))))
 
 -- and where nothing is
 abbrev pub noBasic : Basic
-noBasic = record { status = Default; parts = 0; gain = record { index = 0; bits = 0 }; priority = record { standard = 0; bits = 0 } }
+noBasic = record { status = Default; parts = 0; gain = record { index = 0; bits = 0 }; priority = record { bydefault = 0; bits = 0 } }
 
 pub no-basic-writes : Writes (object-basic-info Default) [] noBasic
 unfolding object-basic-info

@@ -10,7 +10,7 @@ use borrow.Author.Tests.{le-leb, lt-leb}
 use Rattle.oamd.specs.declared.Shares.{Shares}
 use Rattle.oamd.specs.declared.TrimConfig.{TrimConfig}
 use Rattle.oamd.specs.Programme.{classOf}
-use Rattle.oamd.specs.Trim.{Trim, configBytesOf, configsBytesOf, trimBytesOf}
+use Rattle.oamd.specs.Trim.{TrimTable, configBytesOf, configsBytesOf, trimBytesOf}
 use Rattle.written.specs.Valid.{ranged, entriesValid, configValid, trimValid}
 use Rattle.written.specs.Lemmas.Facts.{halves, by-test, Ranged, in-range}
 use Rattle.written.specs.Lemmas.TrimBack.{config-facts, trim-facts}
@@ -81,7 +81,7 @@ flags-small n (b ∷ bs) h =
     let x = halves (ranged (leb 1 n) 0 1 0 b) _ h in
     small (in-range (leb 1 n) 0 1 0 b (x .0)) (omega arith) (flags-small (n - 1) bs (x .1))
 
-pub trim-small : (objects : ℕ) (t : Trim) → trimValid objects t ≡ true → Small (trimBytesOf t)
+pub trim-small : (objects : ℕ) (t : TrimTable) → trimValid objects t ≡ true → Small (trimBytesOf t)
 unfolding trimBytesOf
 trim-small objects t v =
     let f = trim-facts objects t v in

@@ -18,7 +18,7 @@ use Rattle.oamd.specs.declared.TrimConfig.{TrimConfig}
 use Rattle.oamd.specs.Tables.{trimConfigs}
 use Rattle.oamd.specs.Programme.{set?, clear?}
 use Rattle.oamd.specs.Reserved.{WarpMode, GlobalTrimMode, TrimSurround, TrimHeight}
-use Rattle.oamd.specs.Trim.{hasCentre, hasSurround, hasHeight, hasTb, hasLis, trim-config, noConfig, Trim, trim-element, noTrim, trimOf}
+use Rattle.oamd.specs.Trim.{hasCentre, hasSurround, hasHeight, hasTb, hasLis, trim-config, noConfig, TrimTable, trim-element, noTrim, trimOf}
 use Rattle.written.specs.Valid.{_and_, ranged, entriesValid, configValid, trimValid}
 use Rattle.written.specs.Form.{configBits, trimElementBits, hasTrim}
 use Rattle.written.specs.Lemmas.Facts.{halves, by-test, by-flag, Ranged, in-range, w-ranged}
@@ -117,7 +117,7 @@ array-writes valid empty p l f g on n xs e h =
     (λ q. subst (λ (k : ℕ). replicate k empty ≡ xs) e (entries-unused valid empty g xs (rw q at h)))
 
 -- the trim table of so many objects, its tests as facts
-pub record TrimFacts (objects : ℕ) (t : Trim) : Type 0 where
+pub record TrimFacts (objects : ℕ) (t : TrimTable) : Type 0 where
   pub present : Ranged true 0 1 0 (t .present)
   pub warp : Ranged (set? (t .present)) 0 1 0 (t .warp)
   pub mode : Ranged (set? (t .present)) 0 2 0 (t .mode)
@@ -127,7 +127,7 @@ pub record TrimFacts (objects : ℕ) (t : Trim) : Type 0 where
   pub flags : length (t .disabled) ≡ objects
   pub disabled : entriesValid (λ used x. ranged used 0 1 0 x) (pick (set? (t .per-object)) objects 0) (t .disabled) ≡ true
 
-pub trim-facts : (objects : ℕ) (t : Trim) → trimValid objects t ≡ true → TrimFacts objects t
+pub trim-facts : (objects : ℕ) (t : TrimTable) → trimValid objects t ≡ true → TrimFacts objects t
 unfolding trimValid
 trim-facts objects t h =
     let a = halves (ranged true 0 1 0 (t .present)) _ h in
@@ -149,10 +149,10 @@ trim-facts objects t h =
     }
 
 -- the trim element that is read, if there is one
-abbrev pub carriedTrim : Trim → Option Trim
+abbrev pub carriedTrim : TrimTable → Option TrimTable
 carriedTrim t = pick (hasTrim t) (some t) none
 
-module _ (objects : ℕ) (t : Trim) (v : TrimFacts objects t) where
+module _ (objects : ℕ) (t : TrimTable) (v : TrimFacts objects t) where
   configs-written : Writes (when (eqb (t .mode) 2) (for trimConfigs (λ cfg. trim-config)) (replicate trimConfigs noConfig))
       (only (eqb (t .mode) 2) (eachBits (λ cfg c. configBits c) 0 (t .configs))) (t .configs)
   configs-written = array-writes configValid noConfig trim-config configBits config-writes no-config (eqb (t .mode) 2) trimConfigs (t .configs)
