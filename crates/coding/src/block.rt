@@ -5,7 +5,6 @@ ghost use mathlib.Core.List.{_++_};
 ghost use Prim.Native.Nat.{_≤_};
 ghost use Rattle.coding.specs.Packing.{Packs, openingBits, positioningBits, aroundBits, sizedBits, endingBits};
 use crate::Packed;
-use crate::choices::less;
 use crate::packing::field;
 use crate::packing::joined;
 use crate::packing::kept_if;
@@ -17,6 +16,7 @@ use crate::parts::screen;
 use crate::parts::status;
 use crate::parts::zone;
 use oamd::Scene;
+use oamd::less;
 
 // Whether it is active, and gain and priority.
 pub fn opening(first: bool, s: Scene) -> Packed

@@ -10,13 +10,7 @@ use oamd::Gain;
 use oamd::Offset;
 use oamd::Priority;
 use oamd::Volume;
-
-// a - b, or 0.
-pub fn less(a: u8, b: u8) -> u8
-    ensures { λ r. ⌜ r ≡ a - b ⌝ }
-{
-    if a < b { 0 } else { a - b }
-}
+use oamd::less;
 
 pub fn choice(t: bool, a: u8, b: u8) -> u8
     ensures { λ r. ⌜ r ≡ pick t a b ⌝ }

@@ -16,7 +16,6 @@ pub use block::sized;
 pub use choices::as_flag;
 pub use choices::choice;
 pub use choices::coded_offset;
-pub use choices::less;
 pub use choices::ramp_bits;
 pub use choices::ramp_code;
 pub use choices::ramp_index;

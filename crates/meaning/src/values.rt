@@ -9,18 +9,13 @@ use oamd::Location;
 use oamd::Position;
 use oamd::Priority;
 use oamd::Volume;
+use oamd::less;
 
 // 0 dB, as a record has it.
 const ZERO_DB: u8 = 50;
 
 // z = 0, as a record has it.
 const ZERO_Z: u32 = 64;
-
-fn less(a: u8, b: u8) -> u8
-    ensures { λ r. ⌜ r ≡ a - b ⌝ }
-{
-    if a < b { 0 } else { a - b }
-}
 
 // The gain in dB plus 50, or 0 for minus infinity. Index 3 takes the gain of the object before in the same block (Tables 18 and 19).
 pub fn gain_of(g: Gain, gainbefore: u8) -> u8

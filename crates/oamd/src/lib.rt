@@ -8,6 +8,7 @@ mod choices; // choices.rt: a flag of an array of flags, and an element's kind
 pub use choices::both;
 pub use choices::flag;
 pub use choices::kind_of;
+pub use choices::less;
 pub use tables::bed_labels;
 pub use tables::distance_code;
 pub use tables::isf_objects;

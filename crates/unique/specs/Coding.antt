@@ -9,7 +9,6 @@ use Rattle.coding.proofs.as_flag as as-flag
 use Rattle.coding.proofs.choice as choice
 use Rattle.coding.proofs.coded_offset as coded-offset
 use Rattle.coding.proofs.ending as ending
-use Rattle.coding.proofs.less as less
 use Rattle.coding.proofs.opening as opening
 use Rattle.coding.proofs.positioning as positioning
 use Rattle.coding.proofs.ramp_bits as ramp-bits
@@ -30,9 +29,6 @@ one-choice = by-equation (result-set choice.ended) (λ w. refl) _ (λ w κs a r 
 
 pub one-coded-offset : OneAnswer coded-offset.ended (λ M. coded-offset.clauses) (λ M. coded-offset.spec) (λ κs a. a) (λ κs a r z. r)
 one-coded-offset = by-equation (result-set coded-offset.ended) (λ w. refl) _ (λ w κs a r z p. said (λ h. h) (p .holds))
-
-pub one-less : OneAnswer less.ended (λ M. less.clauses) (λ M. less.spec) (λ κs a. a) (λ κs a r z. r)
-one-less = by-equation (result-set less.ended) (λ w. refl) _ (λ w κs a r z p. said (λ h. h) (p .holds))
 
 pub one-ramp-bits : OneAnswer ramp-bits.ended (λ M. ramp-bits.clauses) (λ M. ramp-bits.spec) (λ κs a. a) (λ κs a r z. r)
 one-ramp-bits = by-equation (result-set ramp-bits.ended) (λ w. refl) _ (λ w κs a r z p. said (λ h. h) (p .holds))

@@ -6,6 +6,7 @@ use Rattle.oamd.proofs.distance_code as distance-code
 use Rattle.oamd.proofs.flag as flag
 use Rattle.oamd.proofs.isf_objects as isf-objects
 use Rattle.oamd.proofs.kind_of as kind-of
+use Rattle.oamd.proofs.less as less
 use Rattle.oamd.proofs.ramp_code as ramp-code
 use Rattle.oamd.proofs.ramp_duration as ramp-duration
 use Rattle.oamd.proofs.sample_offset as sample-offset
@@ -37,3 +38,6 @@ one-ramp-duration = by-equation (result-set ramp-duration.ended) (λ w. refl) _ 
 
 pub one-sample-offset : OneAnswer sample-offset.ended (λ M. sample-offset.clauses) (λ M. sample-offset.spec) (λ κs a. a) (λ κs a r z. r)
 one-sample-offset = by-equation (result-set sample-offset.ended) (λ w. refl) _ (λ w κs a r z p. said (λ h. h) (p .holds))
+
+pub one-less : OneAnswer less.ended (λ M. less.clauses) (λ M. less.spec) (λ κs a. a) (λ κs a r z. r)
+one-less = by-equation (result-set less.ended) (λ w. refl) _ (λ w κs a r z p. said (λ h. h) (p .holds))
