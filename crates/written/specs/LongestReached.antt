@@ -11,7 +11,7 @@ use Rattle.oamd.specs.Timing.{samples}
 use Rattle.oamd.specs.Trim.{TrimTable}
 use Rattle.oamd.specs.Record.{Record}
 use Rattle.oamd.specs.Payload.{Tables}
-use Rattle.written.specs.Valid.{ranged, entriesValid, bedValid, programmeValid, sampleOffset, updateValid, timingValid, locationValid, volumeValid, zoneValid, screenValid, sceneValid, divergenceValid, preciseValid, recordValid, firstBad, configValid, trimValid, Valid}
+use Rattle.written.specs.Valid.{betweenIf, entriesValid, bedValid, programmeValid, sampleOffset, updateValid, timingValid, locationValid, volumeValid, zoneValid, screenValid, sceneValid, divergenceValid, preciseValid, recordValid, firstBad, configValid, trimValid, Valid}
 use Rattle.written.specs.Coded.{codedOffset, rampCode, codedUpdate, gainIndex, codedGain, codedPriority, zSign, zBits, codedDistance, sizeIndex, codedExtent}
 use Rattle.written.specs.Form.{countBits, bedBits, bedsBits, assignmentBits, headerBits, offsetBits, updateBits, timingBits, statusBits, gainBits, priorityBits, positionBits, distanceBits, zoneBits, extentBits, screenBits, basicBits, renderBits, blockBits, byObject, objectDataBits, objectElementBits, divergenceBits, preciseBits, any, extendedElementBits, configBits, trimElementBits, groupBits, sizeBits, sizeFor, framedBits, elementBits, hasExtended, formBits, form}
 
@@ -78,7 +78,7 @@ pub fullTables : Tables
 fullTables = record { programme = fullProgramme; timing = fullTiming; records = replicate 1272 fullRecord; trim = fullTrim }
 
 pub full-valid : Valid fullTables
-unfolding fullTables fullProgramme fullTiming fullRecord fullTrim programmeValid ranged entriesValid bedValid agrees named shares allBeds bedObjects labels classOf timingValid sampleOffset updateValid firstBad recordValid sceneValid locationValid volumeValid zoneValid screenValid divergenceValid preciseValid trimValid configValid
+unfolding fullTables fullProgramme fullTiming fullRecord fullTrim programmeValid entriesValid bedValid agrees named shares allBeds bedObjects labels classOf timingValid sampleOffset updateValid firstBad recordValid sceneValid locationValid volumeValid zoneValid screenValid divergenceValid preciseValid trimValid configValid betweenIf
 full-valid = record { programme = refl; timing = refl; count = refl; records = refl; trim = refl }
 
 full-bits : length (formBits fullTables) ≡ 115845

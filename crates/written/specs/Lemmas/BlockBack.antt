@@ -6,7 +6,7 @@ use Prim.Native.Nat.{ℕ, _≤_}
 use native.Mathlib.Omega.{arith}
 use lib.Dec.{eqb}
 use borrow.Author.Tests.{eqb-true}
-use Rattle.bits.specs.Language.{pick}
+use Rattle.bits.specs.Language.{pick, between}
 use Rattle.bits.specs.Writes.{toBits, only}
 use Rattle.bits.specs.Back.{Writes, w-give, w-bits, w-bind, w-end}
 use Rattle.oamd.specs.declared.Status.{Status}
@@ -19,10 +19,10 @@ use Rattle.oamd.specs.Programme.{set?, dynamicClass}
 use Rattle.oamd.specs.Block.{status-idx, object-basic-info, nowhere, position, distance, zone, extent, screen, object-render-info, additional-table-data, object-info-block}
 use Rattle.oamd.specs.Meaning.{locationOf, defaultLocation, defaultVolume, defaultZone, defaultScreen, resolve}
 use Rattle.oamd.specs.Record.{carries}
-use Rattle.written.specs.Valid.{ranged, locationValid, volumeValid, zoneValid, screenValid, sceneValid}
+use Rattle.written.specs.Valid.{betweenIf, locationValid, volumeValid, zoneValid, screenValid, sceneValid}
 use Rattle.written.specs.Coded.{codedGain, codedPriority, zSign, zBits, codedDistance, codedExtent}
 use Rattle.written.specs.Form.{statusBits, positionBits, basicBits, renderBits, blockBits}
-use Rattle.written.specs.Lemmas.Facts.{halves, by-test, by-flag, Ranged, in-range}
+use Rattle.written.specs.Lemmas.Facts.{halves, by-test, by-flag, Ranged, or-default, in-range, always-ranged}
 use Rattle.written.specs.Lemmas.Means.{gain-codable, gain-means, priority-codable, priority-means, z-means, across-means, distance-codable, distance-means, extent-codable, extent-means}
 use Rattle.written.specs.Lemmas.Fields.{fullBasic, basic-writes, noBasic, no-basic-writes, position-writes, distance-writes, zone-writes, extent-writes, screen-writes}
 
@@ -50,40 +50,40 @@ pub record SceneFacts (class : ℕ) (s : Scene) : Type 0 where
 pub scene-facts : (class : ℕ) (s : Scene) → sceneValid class s ≡ true → SceneFacts class s
 unfolding sceneValid locationValid volumeValid zoneValid screenValid
 scene-facts class s h =
-    let a = halves (ranged true 0 1 0 (s .active)) _ h in
+    let a = halves (between 0 1 (s .active)) _ h in
     let b = halves (eqb (s .class) class) _ (a .1) in
-    let c = halves (ranged (set? (s .active)) 0 65 0 (s .gain)) _ (b .1) in
-    let d = halves (ranged (set? (s .active)) 0 32 0 (s .priority)) _ (c .1) in
+    let c = halves (betweenIf (set? (s .active)) 0 65 (s .gain)) _ (b .1) in
+    let d = halves (betweenIf (set? (s .active)) 0 32 (s .priority)) _ (c .1) in
     let e = halves (locationValid (carries s) (s .location)) _ (d .1) in
     let f = halves (volumeValid (carries s) (s .volume)) _ (e .1) in
     let g = halves (zoneValid (carries s) (s .zone)) _ (f .1) in
     let i = halves (screenValid (carries s) (s .screen)) _ (g .1) in
-    let x = halves (ranged (carries s) 0 62 31 (s .location .x)) _ (e .0) in
-    let y = halves (ranged (carries s) 0 62 31 (s .location .y)) _ (x .1) in
-    let z = halves (ranged (carries s) 49 79 64 (s .location .z)) _ (y .1) in
-    let w = halves (ranged (carries s) 0 31 0 (s .volume .width)) _ (f .0) in
-    let u = halves (ranged (carries s) 0 31 0 (s .volume .depth)) _ (w .1) in
-    let o = halves (ranged (carries s) 0 5 0 (s .zone .index)) _ (g .0) in
-    let k = halves (ranged (carries s) 0 1 0 (s .screen .used)) _ (i .0) in
-    let l = halves (ranged (set? (s .screen .used)) 0 7 0 (s .screen .factor)) _ (k .1) in
+    let x = halves (pick (carries s) (between 0 62 (s .location .x)) (eqb (s .location .x) 31)) _ (e .0) in
+    let y = halves (pick (carries s) (between 0 62 (s .location .y)) (eqb (s .location .y) 31)) _ (x .1) in
+    let z = halves (pick (carries s) (between 49 79 (s .location .z)) (eqb (s .location .z) 64)) _ (y .1) in
+    let w = halves (betweenIf (carries s) 0 31 (s .volume .width)) _ (f .0) in
+    let u = halves (betweenIf (carries s) 0 31 (s .volume .depth)) _ (w .1) in
+    let o = halves (betweenIf (carries s) 0 5 (s .zone .index)) _ (g .0) in
+    let k = halves (betweenIf (carries s) 0 1 (s .screen .used)) _ (i .0) in
+    let l = halves (betweenIf (set? (s .screen .used)) 0 7 (s .screen .factor)) _ (k .1) in
     record {
-      active = in-range true 0 1 0 (s .active) (a .0) .on refl .1;
+      active = always-ranged 0 1 (s .active) (a .0) .on refl .1;
       kind = eqb-true _ _ (b .0);
-      gain = in-range _ _ _ _ _ (c .0);
-      priority = in-range _ _ _ _ _ (d .0);
-      x = in-range _ _ _ _ _ (x .0);
-      y = in-range _ _ _ _ _ (y .0);
-      z = in-range _ _ _ _ _ (z .0);
-      distance = in-range _ _ _ _ _ (z .1);
-      width = in-range _ _ _ _ _ (w .0);
-      depth = in-range _ _ _ _ _ (u .0);
-      height = in-range _ _ _ _ _ (u .1);
-      zone = in-range _ _ _ _ _ (o .0);
-      elevation = in-range _ _ _ _ _ (o .1);
-      used = in-range _ _ _ _ _ (k .0);
-      factor = in-range _ _ _ _ _ (l .0);
-      back = in-range _ _ _ _ _ (l .1);
-      snap = in-range _ _ _ _ _ (i .1);
+      gain = in-range _ _ _ _ (c .0);
+      priority = in-range _ _ _ _ (d .0);
+      x = or-default (carries s) 0 62 31 (s .location .x) (x .0);
+      y = or-default (carries s) 0 62 31 (s .location .y) (y .0);
+      z = or-default (carries s) 49 79 64 (s .location .z) (z .0);
+      distance = in-range _ _ _ _ (z .1);
+      width = in-range _ _ _ _ (w .0);
+      depth = in-range _ _ _ _ (u .0);
+      height = in-range _ _ _ _ (u .1);
+      zone = in-range _ _ _ _ (o .0);
+      elevation = or-default (carries s) 0 1 1 (s .zone .elevation) (o .1);
+      used = in-range _ _ _ _ (k .0);
+      factor = in-range _ _ _ _ (l .0);
+      back = in-range _ _ _ _ (l .1);
+      snap = in-range _ _ _ _ (i .1);
     }
 
 -- ---- what is read
