@@ -7,11 +7,11 @@ use native.Mathlib.Omega.{arith}
 use lib.Dec.{ltb, eqb}
 use lib.ListN.{length, getD}
 use borrow.Author.Tests.{lt-ltb, le-ltb, eq-eqb}
-use Rattle.bits.specs.Language.{pick, both}
+use Rattle.bits.specs.Language.{pick, both, between}
 use Rattle.oamd.specs.declared.TrimConfig.{TrimConfig}
-use Rattle.oamd.specs.Tables.{trimConfigs, trimFixed}
+use Rattle.oamd.specs.Tables.{trimConfigs, trimHead, perObjectByte, trimFixed}
 use Rattle.oamd.specs.Programme.{set?}
-use Rattle.written.specs.Valid.{ranged, entriesValid, configValid, trimValid}
+use Rattle.written.specs.Valid.{betweenIf, entriesValid, configValid, trimValid}
 use Rattle.written.specs.Answer.{configAt, configsAt, bytesAt, trimAt}
 use Rattle.checks.proofs.Entries.{SoFar, none, turn, whole}
 
@@ -63,14 +63,15 @@ module _ {A : Type 0} {f : Bool → A → Bool} {on : Bool} {n : ℕ} {xs : List
 
 -- a table, by the tests of its parts
 pub table-tested : (objects : ℕ) (s : List ℕ) {present warp mode configs per-object flags last rest moded warped all : Bool}
-    → present ≡ ranged true 0 1 0 (getD s 0 0)
-    → warp ≡ ranged (set? (getD s 0 0)) 0 1 0 (getD s 1 0)
-    → mode ≡ ranged (set? (getD s 0 0)) 0 2 0 (getD s 2 0)
-    → configs ≡ entriesValid configValid (pick (eqb (getD s 2 0) 2) trimConfigs 0) (configsAt s trimConfigs 3)
-    → per-object ≡ ranged (set? (getD s 0 0)) 0 1 0 (getD s 93 0)
-    → flags ≡ entriesValid (λ used x. ranged used 0 1 0 x) (pick (set? (getD s 93 0)) objects 0) (bytesAt s objects trimFixed)
+    → present ≡ between 0 1 (getD s 0 0)
+    → warp ≡ betweenIf (set? (getD s 0 0)) 0 1 (getD s 1 0)
+    → mode ≡ betweenIf (set? (getD s 0 0)) 0 2 (getD s 2 0)
+    → configs ≡ entriesValid configValid (pick (eqb (getD s 2 0) 2) trimConfigs 0) (configsAt s trimConfigs trimHead)
+    → per-object ≡ betweenIf (set? (getD s 0 0)) 0 1 (getD s perObjectByte 0)
+    → flags ≡ entriesValid (λ used x. betweenIf used 0 1 x) (pick (set? (getD s perObjectByte 0)) objects 0) (bytesAt s objects trimFixed)
     → last ≡ both per-object flags → rest ≡ both configs last → moded ≡ both mode rest → warped ≡ both warp moded → all ≡ both present warped
     → all ≡ trimValid objects (trimAt objects s)
 unfolding trimValid trimAt
 table-tested objects s a b c d e f g h i j k =
-    rw (eq-eqb (length (configsAt s trimConfigs 3)) trimConfigs (configs-length s trimConfigs 3), eq-eqb (length (bytesAt s objects trimFixed)) objects (bytes-length s objects trimFixed)) (cc)
+    rw (eq-eqb (length (configsAt s trimConfigs trimHead)) trimConfigs (configs-length s trimConfigs trimHead))
+    (rw (eq-eqb (length (bytesAt s objects trimFixed)) objects (bytes-length s objects trimFixed)) (cc))

@@ -8,7 +8,7 @@ ghost use Rattle.oamd.specs.Meaning.{idle};
 ghost use Rattle.oamd.specs.Extended.{noDivergence, noPrecise};
 ghost use Rattle.written.specs.Answer.{sceneAt, divergenceAt, preciseAt};
 use oamd::Divergence;
-use oamd::Place;
+use oamd::Location;
 use oamd::Precise;
 use oamd::Scene;
 use oamd::Screen;
@@ -29,11 +29,11 @@ pub fn whole(bytes: &[u8], at: usize, n: usize) -> bool
     true
 }
 
-fn place_at(records: &[u8], at: usize) -> Place
+fn location_at(records: &[u8], at: usize) -> Location
     requires { ⌜ at + 24 ≤ length (now records) ⌝ }
-    ensures { λ r. ⌜ r ≡ sceneAt (now (records .entry)) at .place ⌝ }
+    ensures { λ r. ⌜ r ≡ sceneAt (now (records .entry)) at .location ⌝ }
 {
-    Place {
+    Location {
         x: records[at + 4],
         y: records[at + 5],
         z: records[at + 6],
@@ -77,7 +77,7 @@ fn scene_of(records: &[u8], at: usize) -> Scene
     requires { ⌜ at + 24 ≤ length (now records) ⌝ }
     ensures { λ r. ⌜ r ≡ sceneAt (now (records .entry)) at ⌝ }
 {
-    let place = place_at(records, at);
+    let location = location_at(records, at);
     let volume = volume_at(records, at);
     let zone = zone_at(records, at);
     let screen = screen_at(records, at);
@@ -86,7 +86,7 @@ fn scene_of(records: &[u8], at: usize) -> Scene
         class: records[at + 1],
         gain: records[at + 2],
         priority: records[at + 3],
-        place,
+        location,
         volume,
         zone,
         screen,

@@ -6,8 +6,9 @@ ghost use Rattle.oamd.specs.Tables.{mostBeds};
 ghost use Rattle.oamd.specs.Programme.{set?, bedInstances};
 ghost use Rattle.written.specs.Valid.{entriesValid, bedValid, programmeValid};
 ghost use Rattle.checks.specs.Parts.{othersValid, assignmentValid};
-use crate::ranges::ranged;
-use crate::ranges::wide_ranged;
+use crate::ranges::between;
+use crate::ranges::between_if;
+use crate::ranges::wide_between_if;
 use oamd::Bed;
 use oamd::Programme;
 use oamd::both;
@@ -25,9 +26,9 @@ fn bed_valid(used: bool, b: Bed) -> bool
 {
     let assigned = both(used, b.lfeonly == 0);
     let most = most_assignment(b.standard);
-    let lfeonly = ranged(used, 0, 1, 0, b.lfeonly);
-    let standard = ranged(assigned, 0, 1, 0, b.standard);
-    let assignment = wide_ranged(assigned, 0, most, 0, b.assignment);
+    let lfeonly = between_if(used, 0, 1, b.lfeonly);
+    let standard = between_if(assigned, 0, 1, b.standard);
+    let assignment = wide_between_if(assigned, 0, most, b.assignment);
     both(lfeonly, both(standard, assignment))
 }
 
@@ -65,8 +66,8 @@ fn others_valid(p: Programme) -> bool
 {
     let has_isf = oamd::flag(4, 2, p.content as u32);
     let has_dynamic = oamd::flag(4, 1, p.content as u32);
-    let isf = ranged(has_isf, 0, 5, 0, p.isf);
-    let dynamics = ranged(has_dynamic, 0, 158, 0, p.dynamics);
+    let isf = between_if(has_isf, 0, 5, p.isf);
+    let dynamics = between_if(has_dynamic, 0, 158, p.dynamics);
     let agreed = meaning::agrees(p);
     both(isf, both(dynamics, agreed))
 }
@@ -78,9 +79,9 @@ fn assignment_valid(p: Programme) -> bool
     let has_beds = oamd::flag(4, 3, p.content as u32);
     let count = bed_instances(p.content, p.multiple, p.instances);
     let beds = p.beds;
-    let distribute = ranged(has_beds, 0, 1, 0, p.distribute);
-    let multiple = ranged(has_beds, 0, 1, 0, p.multiple);
-    let instances = ranged(p.multiple == 1, 0, 7, 0, p.instances);
+    let distribute = between_if(has_beds, 0, 1, p.distribute);
+    let multiple = between_if(has_beds, 0, 1, p.multiple);
+    let instances = between_if(p.multiple == 1, 0, 7, p.instances);
     let counted = p.bedcount as u32 == count;
     let entries = beds_valid(beds, p.bedcount);
     let others = others_valid(p);
@@ -93,10 +94,10 @@ pub fn programme_valid(p: Programme) -> bool
     ensures { λ r. ⌜ r ≡ programmeValid p ⌝ }
 {
     let reserved = oamd::flag(4, 0, p.content as u32);
-    let objects = ranged(true, 1, 159, 0, p.objects);
-    let dynonly = ranged(true, 0, 1, 0, p.dynonly);
-    let lfe = ranged(p.dynonly == 1, 0, 1, 0, p.lfe);
-    let content = ranged(p.dynonly == 0, 0, 15, 0, p.content);
+    let objects = between(1, 159, p.objects);
+    let dynonly = between(0, 1, p.dynonly);
+    let lfe = between_if(p.dynonly == 1, 0, 1, p.lfe);
+    let content = between_if(p.dynonly == 0, 0, 15, p.content);
     let assignment = assignment_valid(p);
     let rest = both(content, both(!reserved, assignment));
     both(objects, both(dynonly, both(lfe, rest)))

@@ -1,11 +1,12 @@
 // One record: each of its values by what the record itself carries (Tables 28 and 29, 5.5.14, 5.5.15).
 ghost use mathlib.Core.Path.{_≡_};
 ghost use Rattle.oamd.specs.Record.{carries, recordOf};
-ghost use Rattle.written.specs.Valid.{placeValid, volumeValid, zoneValid, screenValid, sceneValid, leastDivergence, mostDivergence, divergenceValid, preciseValid, recordValid};
+ghost use Rattle.written.specs.Valid.{locationValid, volumeValid, zoneValid, screenValid, sceneValid, leastDivergence, mostDivergence, divergenceValid, preciseValid, recordValid};
 ghost use Rattle.checks.specs.Parts.{renderedValid};
-use crate::ranges::ranged;
+use crate::ranges::between;
+use crate::ranges::between_if;
 use oamd::Divergence;
-use oamd::Place;
+use oamd::Location;
 use oamd::Precise;
 use oamd::Scene;
 use oamd::Screen;
@@ -21,23 +22,26 @@ pub fn carries(s: Scene) -> bool
 }
 
 // Bytes 4 to 7.
-fn place_valid(sent: bool, p: Place) -> bool
-    ensures { λ r. ⌜ r ≡ placeValid sent p ⌝ }
+fn location_valid(sent: bool, p: Location) -> bool
+    ensures { λ r. ⌜ r ≡ locationValid sent p ⌝ }
 {
-    let x = ranged(sent, 0, 62, 31, p.x);
-    let y = ranged(sent, 0, 62, 31, p.y);
-    let z = ranged(sent, 49, 79, 64, p.z);
-    let distance = ranged(sent, 0, 17, 0, p.distance);
-    both(x, both(y, both(z, distance)))
+    let distance = between_if(sent, 0, 17, p.distance);
+    if sent {
+        let x = between(0, 62, p.x);
+        let y = between(0, 62, p.y);
+        let z = between(49, 79, p.z);
+        return both(x, both(y, both(z, distance)));
+    }
+    both(p.x == 31, both(p.y == 31, both(p.z == 64, distance)))
 }
 
 // Bytes 8 to 10.
 fn volume_valid(sent: bool, v: Volume) -> bool
     ensures { λ r. ⌜ r ≡ volumeValid sent v ⌝ }
 {
-    let width = ranged(sent, 0, 31, 0, v.width);
-    let depth = ranged(sent, 0, 31, 0, v.depth);
-    let height = ranged(sent, 0, 31, 0, v.height);
+    let width = between_if(sent, 0, 31, v.width);
+    let depth = between_if(sent, 0, 31, v.depth);
+    let height = between_if(sent, 0, 31, v.height);
     both(width, both(depth, height))
 }
 
@@ -45,18 +49,20 @@ fn volume_valid(sent: bool, v: Volume) -> bool
 fn zone_valid(sent: bool, z: Zone) -> bool
     ensures { λ r. ⌜ r ≡ zoneValid sent z ⌝ }
 {
-    let index = ranged(sent, 0, 5, 0, z.index);
-    let elevation = ranged(sent, 0, 1, 1, z.elevation);
-    both(index, elevation)
+    let index = between_if(sent, 0, 5, z.index);
+    if sent {
+        return both(index, between(0, 1, z.elevation));
+    }
+    both(index, z.elevation == 1)
 }
 
 // Bytes 13 to 15: factor and depth only of a screen that is used.
 fn screen_valid(sent: bool, s: Screen) -> bool
     ensures { λ r. ⌜ r ≡ screenValid sent s ⌝ }
 {
-    let used = ranged(sent, 0, 1, 0, s.used);
-    let factor = ranged(s.used == 1, 0, 7, 0, s.factor);
-    let depth = ranged(s.used == 1, 0, 3, 0, s.depth);
+    let used = between_if(sent, 0, 1, s.used);
+    let factor = between_if(s.used == 1, 0, 7, s.factor);
+    let depth = between_if(s.used == 1, 0, 3, s.depth);
     both(used, both(factor, depth))
 }
 
@@ -64,25 +70,25 @@ fn screen_valid(sent: bool, s: Screen) -> bool
 fn rendered_valid(sent: bool, s: Scene) -> bool
     ensures { λ r. ⌜ r ≡ renderedValid sent s ⌝ }
 {
-    let place = s.place;
+    let location = s.location;
     let volume = s.volume;
     let zone = s.zone;
     let screen = s.screen;
-    let placed = place_valid(sent, place);
+    let located = location_valid(sent, location);
     let sized = volume_valid(sent, volume);
     let zoned = zone_valid(sent, zone);
     let screened = screen_valid(sent, screen);
-    let snapped = ranged(sent, 0, 1, 0, s.snap);
-    both(placed, both(sized, both(zoned, both(screened, snapped))))
+    let snapped = between_if(sent, 0, 1, s.snap);
+    both(located, both(sized, both(zoned, both(screened, snapped))))
 }
 
 // Bytes 0 to 16, of an object of a class.
 fn scene_valid(class: u8, s: Scene) -> bool
     ensures { λ r. ⌜ r ≡ sceneValid class s ⌝ }
 {
-    let active = ranged(true, 0, 1, 0, s.active);
-    let gain = ranged(s.active == 1, 0, 65, 0, s.gain);
-    let priority = ranged(s.active == 1, 0, 32, 0, s.priority);
+    let active = between(0, 1, s.active);
+    let gain = between_if(s.active == 1, 0, 65, s.gain);
+    let priority = between_if(s.active == 1, 0, 32, s.priority);
     let sent = carries(s);
     let rendered = rendered_valid(sent, s);
     let rest = both(gain, both(priority, rendered));
@@ -113,9 +119,9 @@ fn divergence_valid(sent: bool, d: Divergence) -> bool
 {
     let least = least_divergence(d.mode);
     let most = most_divergence(d.mode);
-    let used = ranged(sent, 0, 1, 0, d.used);
-    let mode = ranged(d.used == 1, 0, 2, 0, d.mode);
-    let value = ranged(d.used == 1, least, most, 0, d.value);
+    let used = between_if(sent, 0, 1, d.used);
+    let mode = between_if(d.used == 1, 0, 2, d.mode);
+    let value = between_if(d.used == 1, least, most, d.value);
     both(used, both(mode, value))
 }
 
@@ -126,10 +132,10 @@ fn precise_valid(sent: bool, p: Precise) -> bool
     let has_x = oamd::flag(3, 2, p.presence as u32);
     let has_y = oamd::flag(3, 1, p.presence as u32);
     let has_z = oamd::flag(3, 0, p.presence as u32);
-    let presence = ranged(sent, 0, 7, 0, p.presence);
-    let x = ranged(has_x, 0, 3, 0, p.x);
-    let y = ranged(has_y, 0, 3, 0, p.y);
-    let z = ranged(has_z, 0, 3, 0, p.z);
+    let presence = between_if(sent, 0, 7, p.presence);
+    let x = between_if(has_x, 0, 3, p.x);
+    let y = between_if(has_y, 0, 3, p.y);
+    let z = between_if(has_z, 0, 3, p.z);
     both(presence, both(x, both(y, z)))
 }
 

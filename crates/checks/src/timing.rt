@@ -5,8 +5,8 @@ ghost use lib.ListN.{length};
 ghost use Rattle.bits.specs.Language.{pick};
 ghost use Rattle.oamd.specs.Tables.{mostBlocks};
 ghost use Rattle.written.specs.Valid.{firstStart, updateValid, entriesValid, timingValid};
-use crate::ranges::ranged;
-use crate::ranges::wide_ranged;
+use crate::ranges::between;
+use crate::ranges::wide_between_if;
 use oamd::Timing;
 use oamd::Update;
 use oamd::both;
@@ -36,8 +36,8 @@ fn update_valid(offset: SampleCount, used: bool, u: Update) -> bool
     let ramp = u.ramp;
     let found = behind_step(start);
     let left = offset_if(used, offset);
-    let started = wide_ranged(used, 0, 2047, 0, start.raw() as u32);
-    let ramped = wide_ranged(used, 0, 2048, 0, ramp.raw() as u32);
+    let started = wide_between_if(used, 0, 2047, start.raw() as u32);
+    let ramped = wide_between_if(used, 0, 2048, ramp.raw() as u32);
     both(started, both(found.raw() == left.raw(), ramped))
 }
 
@@ -71,7 +71,7 @@ pub fn timing_valid(t: Timing) -> bool
 {
     let updates = t.updates;
     let offset = sample_offset(updates);
-    let blocks = ranged(true, 0, 8, 0, t.blocks);
+    let blocks = between(0, 8, t.blocks);
     let entries = updates_valid(offset, updates, t.blocks);
     both(blocks, entries)
 }

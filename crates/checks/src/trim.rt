@@ -4,13 +4,14 @@ ghost use Prim.Native.Nat.{_+_, _≤_, _<_};
 ghost use lib.Dec.{leb};
 ghost use lib.ListN.{length};
 ghost use Rattle.bits.specs.Language.{pick};
-ghost use Rattle.oamd.specs.Tables.{trimConfigs, configBytes, trimFixed};
+ghost use Rattle.oamd.specs.Tables.{trimConfigs, configBytes, trimHead, perObjectByte, trimFixed};
 ghost use Rattle.oamd.specs.Trim.{noConfig, trimNeeded};
-ghost use Rattle.written.specs.Valid.{_and_, ranged, entriesValid, configValid, trimValid};
+ghost use Rattle.written.specs.Valid.{_and_, betweenIf, entriesValid, configValid, trimValid};
 ghost use Rattle.written.specs.Answer.{configAt, configsAt, bytesAt, trimAt};
 ghost use Rattle.checks.specs.Parts.{balancesValid, trimsValid};
 use crate::apart::whole;
-use crate::ranges::ranged;
+use crate::ranges::between;
+use crate::ranges::between_if;
 use oamd::TrimConfig;
 use oamd::both;
 
@@ -60,10 +61,10 @@ fn balances_valid(c: TrimConfig) -> bool
 {
     let has_tb = oamd::flag(5, 1, c.presence as u32);
     let has_lis = oamd::flag(5, 0, c.presence as u32);
-    let tbsign = ranged(has_tb, 0, 1, 0, c.tbsign);
-    let tbamount = ranged(has_tb, 0, 15, 0, c.tbamount);
-    let lissign = ranged(has_lis, 0, 1, 0, c.lissign);
-    let lisamount = ranged(has_lis, 0, 15, 0, c.lisamount);
+    let tbsign = between_if(has_tb, 0, 1, c.tbsign);
+    let tbamount = between_if(has_tb, 0, 15, c.tbamount);
+    let lissign = between_if(has_lis, 0, 1, c.lissign);
+    let lisamount = between_if(has_lis, 0, 15, c.lisamount);
     both(tbsign, both(tbamount, both(lissign, lisamount)))
 }
 
@@ -74,9 +75,9 @@ fn trims_valid(c: TrimConfig) -> bool
     let has_centre = oamd::flag(5, 4, c.presence as u32);
     let has_surround = oamd::flag(5, 3, c.presence as u32);
     let has_height = oamd::flag(5, 2, c.presence as u32);
-    let centre = ranged(has_centre, 0, 15, 0, c.centre);
-    let surround = ranged(has_surround, 4, 15, 0, c.surround);
-    let height = ranged(has_height, 4, 15, 0, c.height);
+    let centre = between_if(has_centre, 0, 15, c.centre);
+    let surround = between_if(has_surround, 4, 15, c.surround);
+    let height = between_if(has_height, 4, 15, c.height);
     let balances = balances_valid(c);
     both(centre, both(surround, both(height, balances)))
 }
@@ -87,17 +88,17 @@ fn config_valid(sent: bool, c: TrimConfig) -> bool
 {
     let chosen = both(sent, c.bydefault == 0);
     let custom = both(sent, both(c.bydefault == 0, c.disabled == 0));
-    let bydefault = ranged(sent, 0, 1, 0, c.bydefault);
-    let disabled = ranged(chosen, 0, 1, 0, c.disabled);
-    let presence = ranged(custom, 0, 31, 0, c.presence);
+    let bydefault = between_if(sent, 0, 1, c.bydefault);
+    let disabled = between_if(chosen, 0, 1, c.disabled);
+    let presence = between_if(custom, 0, 31, c.presence);
     let trims = trims_valid(c);
     both(bydefault, both(disabled, both(presence, trims)))
 }
 
 // The nine configurations, all sent or none.
 fn configs_valid(sent: bool, trim: &[u8]) -> bool
-    requires { ⌜ 93 ≤ length (now trim) ⌝ }
-    ensures { λ r. ⌜ r ≡ entriesValid configValid (pick sent trimConfigs 0) (configsAt (now (trim .entry)) trimConfigs 3) ⌝ }
+    requires { ⌜ perObjectByte ≤ length (now trim) ⌝ }
+    ensures { λ r. ⌜ r ≡ entriesValid configValid (pick sent trimConfigs 0) (configsAt (now (trim .entry)) trimConfigs trimHead) ⌝ }
 {
     let mut valid = true;
     let mut at: usize = 3;
@@ -114,14 +115,14 @@ fn configs_valid(sent: bool, trim: &[u8]) -> bool
 // The flags of the objects, all sent or none.
 fn flags_valid(sent: bool, trim: &[u8], objects: u8) -> bool
     requires { ⌜ 94 + objects ≤ length (now trim) ⌝ }
-    ensures { λ r. ⌜ r ≡ entriesValid (λ used x. ranged used 0 1 0 x) (pick sent objects 0) (bytesAt (now (trim .entry)) objects trimFixed) ⌝ }
+    ensures { λ r. ⌜ r ≡ entriesValid (λ used x. betweenIf used 0 1 x) (pick sent objects 0) (bytesAt (now (trim .entry)) objects trimFixed) ⌝ }
 {
     let count = objects as usize;
     let mut valid = true;
     let mut i: usize = 0;
     while i < count {
         let flag = trim[94 + i];
-        valid = both(valid, ranged(sent, 0, 1, 0, flag));
+        valid = both(valid, between_if(sent, 0, 1, flag));
         i = i + 1;
     }
     valid
@@ -133,11 +134,11 @@ fn table_valid(objects: u8, trim: &[u8]) -> bool
     ensures { λ r. ⌜ r ≡ trimValid objects (trimAt objects (now (trim .entry))) ⌝ }
 {
     let there = trim[0] == 1;
-    let present = ranged(true, 0, 1, 0, trim[0]);
-    let warp = ranged(there, 0, 1, 0, trim[1]);
-    let mode = ranged(there, 0, 2, 0, trim[2]);
+    let present = between(0, 1, trim[0]);
+    let warp = between_if(there, 0, 1, trim[1]);
+    let mode = between_if(there, 0, 2, trim[2]);
     let configs = configs_valid(trim[2] == 2, trim);
-    let per_object = ranged(there, 0, 1, 0, trim[93]);
+    let per_object = between_if(there, 0, 1, trim[93]);
     let flags = flags_valid(trim[93] == 1, trim, objects);
     let rest = both(configs, both(per_object, flags));
     both(present, both(warp, both(mode, rest)))

@@ -22,12 +22,12 @@ unfoldable pub openingBits : Bool → Scene → List ℕ
 openingBits first s = toBits 1 (1 - s .active) ++ (statusBits (set? (s .active)) first ++ only (set? (s .active)) (basicBits s))
 
 -- where render info is sent: its status and the position
-unfoldable pub placingBits : Bool → Scene → List ℕ
-placingBits first s = statusBits true first ++ positionBits first (s .place)
+unfoldable pub positioningBits : Bool → Scene → List ℕ
+positioningBits first s = statusBits true first ++ positionBits first (s .location)
 
 -- the distance and the zone
 unfoldable pub aroundBits : Scene → List ℕ
-aroundBits s = distanceBits (codedDistance (s .place .distance)) ++ zoneBits (s .zone)
+aroundBits s = distanceBits (codedDistance (s .location .distance)) ++ zoneBits (s .zone)
 
 -- the size
 unfoldable pub sizedBits : Scene → List ℕ

@@ -3,9 +3,8 @@ ghost use mathlib.Core.Path.{_≡_};
 ghost use mathlib.Core.Bool.{false};
 ghost use mathlib.Core.List.{_++_};
 ghost use Prim.Native.Nat.{_≤_};
-ghost use Rattle.coding.specs.Packing.{Packs, openingBits, placingBits, aroundBits, sizedBits, endingBits};
+ghost use Rattle.coding.specs.Packing.{Packs, openingBits, positioningBits, aroundBits, sizedBits, endingBits};
 use crate::Packed;
-use crate::choices::less;
 use crate::packing::field;
 use crate::packing::joined;
 use crate::packing::kept_if;
@@ -17,6 +16,7 @@ use crate::parts::screen;
 use crate::parts::status;
 use crate::parts::zone;
 use oamd::Scene;
+use oamd::less;
 
 // Whether it is active, and gain and priority.
 pub fn opening(first: bool, s: Scene) -> Packed
@@ -33,13 +33,13 @@ pub fn opening(first: bool, s: Scene) -> Packed
 }
 
 // Where render info is sent: its status and the position.
-pub fn placing(first: bool, s: Scene) -> Packed
-    ensures { λ r. ⌜ Packs r (placingBits first s) ⌝ }
+pub fn positioning(first: bool, s: Scene) -> Packed
+    ensures { λ r. ⌜ Packs r (positioningBits first s) ⌝ }
     ensures { λ r. ⌜ (1 ≤ r .width .0) × (r .width .0 ≤ 20) ⌝ }
 {
     let full = status(true, first);
-    let place = position(first, s.place);
-    joined(full, place)
+    let location = position(first, s.location);
+    joined(full, location)
 }
 
 // The distance and the zone.
@@ -47,7 +47,7 @@ pub fn around(s: Scene) -> Packed
     ensures { λ r. ⌜ Packs r (aroundBits s) ⌝ }
     ensures { λ r. ⌜ (1 ≤ r .width .0) × (r .width .0 ≤ 10) ⌝ }
 {
-    let far = distance(s.place.distance);
+    let far = distance(s.location.distance);
     let zones = zone(s.zone);
     joined(far, zones)
 }

@@ -10,13 +10,7 @@ use oamd::Gain;
 use oamd::Offset;
 use oamd::Priority;
 use oamd::Volume;
-
-// a - b, or 0.
-pub fn less(a: u8, b: u8) -> u8
-    ensures { λ r. ⌜ r ≡ a - b ⌝ }
-{
-    if a < b { 0 } else { a - b }
-}
+use oamd::less;
 
 pub fn choice(t: bool, a: u8, b: u8) -> u8
     ensures { λ r. ⌜ r ≡ pick t a b ⌝ }
@@ -97,9 +91,9 @@ pub fn coded_gain(gain: u8) -> Gain
 pub fn coded_priority(priority: u8) -> Priority
     ensures { λ r. ⌜ r ≡ codedPriority priority ⌝ }
 {
-    let standard = as_flag(priority == 32);
+    let bydefault = as_flag(priority == 32);
     let bits = choice(priority == 32, 0, priority);
-    Priority { standard, bits }
+    Priority { bydefault, bits }
 }
 
 pub fn z_sign(z: u8) -> u8

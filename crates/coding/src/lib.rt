@@ -10,13 +10,12 @@ mod block; // block.rt: a block, in five parts
 pub use block::around;
 pub use block::ending;
 pub use block::opening;
-pub use block::placing;
+pub use block::positioning;
 pub use block::short;
 pub use block::sized;
 pub use choices::as_flag;
 pub use choices::choice;
 pub use choices::coded_offset;
-pub use choices::less;
 pub use choices::ramp_bits;
 pub use choices::ramp_code;
 pub use choices::ramp_index;

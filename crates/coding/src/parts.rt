@@ -14,7 +14,7 @@ use crate::choices::z_sign;
 use crate::packing::field;
 use crate::packing::joined;
 use crate::packing::kept_if;
-use oamd::Place;
+use oamd::Location;
 use oamd::Scene;
 use oamd::Screen;
 use oamd::Volume;
@@ -46,10 +46,10 @@ fn priority(v: u8) -> Packed
     ensures { λ r. ⌜ r .width .0 ≤ 6 ⌝ }
 {
     let p = coded_priority(v);
-    let standard = field(1, p.standard as u32);
+    let bydefault = field(1, p.bydefault as u32);
     let bits = field(5, p.bits as u32);
-    let more = kept_if(p.standard == 0, bits);
-    joined(standard, more)
+    let more = kept_if(p.bydefault == 0, bits);
+    joined(bydefault, more)
 }
 
 pub fn basic(s: Scene) -> Packed
@@ -62,7 +62,7 @@ pub fn basic(s: Scene) -> Packed
 }
 
 // An absolute position; in a later block it says that it is one.
-pub fn position(first: bool, p: Place) -> Packed
+pub fn position(first: bool, p: Location) -> Packed
     ensures { λ r. ⌜ Packs r (positionBits first p) ⌝ }
     ensures { λ r. ⌜ (1 ≤ r .width .0) × (r .width .0 ≤ 18) ⌝ }
 {

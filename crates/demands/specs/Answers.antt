@@ -13,7 +13,7 @@ use Rattle.bits.specs.Steps.{value}
 use Rattle.bits.specs.Laws.{placed}
 use Rattle.oamd.specs.Tables.{mostBytes, recordStride, trimConfigs}
 use Rattle.oamd.specs.Record.{Record, bytesOf, onto}
-use Rattle.oamd.specs.Trim.{Trim, trimBytesOf, trimNeeded}
+use Rattle.oamd.specs.Trim.{TrimTable, trimBytesOf, trimNeeded}
 use Rattle.oamd.specs.Lengths.{length-bytes, length-trim}
 use Rattle.oamd.specs.Payload.{Payload, object-audio-metadata-payload, tables}
 use Rattle.oamd.specs.Answer.{Outcome, refused, accepted, needed, reading}
@@ -38,7 +38,7 @@ pub record Accepts (buffer trim : List ℕ) (o : Outcome) : Type 0 where
   pub records : List Record
   pub many : length records ≡ o .answer .programme .objects * o .answer .timing .blocks
   pub recorded : Fronts (recordStride * length records) (bytesOf records) buffer (o .buffer)
-  pub table : Trim
+  pub table : TrimTable
   pub configs : length (table .configs) ≡ trimConfigs
   pub flags : length (table .disabled) ≡ o .answer .programme .objects
   pub trimmed : Fronts (trimNeeded (o .answer .programme .objects)) (trimBytesOf table) trim (o .trim)

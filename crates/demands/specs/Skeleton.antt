@@ -7,7 +7,7 @@ use Prim.Native.Nat.{ℕ, zero, suc, _-_}
 use Rattle.bits.specs.Language.{Res, ok, no, pick, P, give, field, _>>=_}
 use Rattle.oamd.specs.declared.Kind.{Kind}
 use Rattle.oamd.specs.declared.Kind.the-variants.{Unknown, Object, Trim, Extended}
-use Rattle.oamd.specs.Element.{elementBits, headBits, framed}
+use Rattle.oamd.specs.Element.{declaredLength, headLength, framed}
 use Rattle.oamd.specs.Payload.{oa-element-count, Header, header}
 use Rattle.oamd.specs.Answer.{Outcome}
 use Rattle.demands.specs.Terms.{runs}
@@ -18,7 +18,7 @@ pub record Body : Type 0 where
   pub bits : List ℕ
 
 unfoldable pub body : ℕ → P Body
-body alternate = framed alternate (λ k size. field (elementBits size - headBits alternate) (λ l. record { kind = k; bits = l }))
+body alternate = framed alternate (λ k size. field (declaredLength size - headLength alternate) (λ l. record { kind = k; bits = l }))
 
 -- n elements, one after the other
 unfoldable pub bodies : ℕ → ℕ → P (List Body)

@@ -20,7 +20,7 @@ use Rattle.oamd.specs.Programme.{set?, hasIsf}
 use Rattle.oamd.specs.Block.{hasZone, hasSize}
 use Rattle.oamd.specs.Trim.{hasSurround, hasHeight}
 use Rattle.oamd.specs.Reserved.{Field, IntermediateSpatialFormatIdx, SampleOffsetCode, ZoneConstraintsIdx, ObjectSizeIdx, WarpMode, GlobalTrimMode, TrimSurround, TrimHeight, ObjectDivMode, ObjectDivCode, unreserved}
-use Rattle.oamd.specs.Element.{elementBits, State, fields, oa-element-md}
+use Rattle.oamd.specs.Element.{declaredLength, State, fields, oa-element-md}
 use Rattle.oamd.specs.Payload.{Payload, object-audio-metadata-payload}
 use Rattle.demands.specs.Terms.{runs}
 use Rattle.demands.specs.Skeleton.{isKnown}
@@ -41,7 +41,7 @@ pub record Sized (s : List ℕ) (id : ℕ) : Type 1 where
 
 -- its declared end, counted from behind its size
 abbrev pub declaredEnd : {s : List ℕ} {id : ℕ} → Sized s id → ℕ
-declaredEnd x = x .behind + elementBits (x .size)
+declaredEnd x = x .behind + declaredLength (x .size)
 
 -- 2: a field passes the payload's end, and the place is the field's first bit; or an element's declared end passes it, and the place is the first bit of its
 -- size. Each group and each flag of a size is a field, and so is each run of reserved or additional data

@@ -1,15 +1,15 @@
 // What an object is from a block on: each group's value by its status (Tables 28 and 29).
 ghost use mathlib.Core.Path.{_≡_};
 ghost use Rattle.oamd.specs.Block.{hasGain, hasPriority, hasPosition, hasZone, hasSize, hasScreen};
-ghost use Rattle.oamd.specs.Meaning.{valueOf, gainOf, priorityOf, distanceOf, placeOf, volumeOf, defaultPlace, defaultVolume, defaultZone, defaultScreen, idle, resolve};
+ghost use Rattle.oamd.specs.Meaning.{valueOf, gainOf, priorityOf, distanceOf, locationOf, volumeOf, defaultLocation, defaultVolume, defaultZone, defaultScreen, idle, resolve};
 use crate::values::distance_of;
 use crate::values::gain_of;
-use crate::values::place_of;
+use crate::values::location_of;
 use crate::values::priority_of;
 use crate::values::volume_of;
 use oamd::Basic;
 use oamd::Block;
-use oamd::Place;
+use oamd::Location;
 use oamd::Render;
 use oamd::Scene;
 use oamd::Screen;
@@ -17,10 +17,10 @@ use oamd::Status;
 use oamd::Volume;
 use oamd::Zone;
 
-fn default_place() -> Place
-    ensures { λ r. ⌜ r ≡ defaultPlace ⌝ }
+fn default_location() -> Location
+    ensures { λ r. ⌜ r ≡ defaultLocation ⌝ }
 {
-    Place {
+    Location {
         x: 31,
         y: 31,
         z: 64,
@@ -61,7 +61,7 @@ fn default_screen() -> Screen
 pub fn idle(class: u8) -> Scene
     ensures { λ r. ⌜ r ≡ idle class ⌝ }
 {
-    let place = default_place();
+    let location = default_location();
     let volume = default_volume();
     let zone = default_zone();
     let screen = default_screen();
@@ -70,7 +70,7 @@ pub fn idle(class: u8) -> Scene
         class,
         gain: 0,
         priority: 0,
-        place,
+        location,
         volume,
         zone,
         screen,
@@ -79,53 +79,53 @@ pub fn idle(class: u8) -> Scene
 }
 
 // A number whose default is 0.
-fn number_by(status: Status, sent: bool, before: u8, value: u8) -> u8
-    ensures { λ r. ⌜ r ≡ valueOf status sent 0 before value ⌝ }
+fn number_by(status: Status, sent: bool, valuebefore: u8, value: u8) -> u8
+    ensures { λ r. ⌜ r ≡ valueOf status sent 0 valuebefore value ⌝ }
 {
     match status {
         Status::Default => 0,
         Status::Full => value,
-        Status::Reuse => before,
-        Status::Mixed => { if sent { value } else { before } }
+        Status::Reuse => valuebefore,
+        Status::Mixed => { if sent { value } else { valuebefore } }
     }
 }
 
-fn gain_after(before: u8, above: u8, b: Basic) -> u8
-    ensures { λ r. ⌜ r ≡ valueOf (b .status) (hasGain (b .parts)) 0 before (gainOf (b .gain) above) ⌝ }
+fn gain_after(valuebefore: u8, gainbefore: u8, b: Basic) -> u8
+    ensures { λ r. ⌜ r ≡ valueOf (b .status) (hasGain (b .parts)) 0 valuebefore (gainOf (b .gain) gainbefore) ⌝ }
 {
     let status = b.status;
     let coded = b.gain;
-    let value = gain_of(coded, above);
-    number_by(status, oamd::flag(2, 1, b.parts as u32), before, value)
+    let value = gain_of(coded, gainbefore);
+    number_by(status, oamd::flag(2, 1, b.parts as u32), valuebefore, value)
 }
 
-fn priority_after(before: u8, b: Basic) -> u8
-    ensures { λ r. ⌜ r ≡ valueOf (b .status) (hasPriority (b .parts)) 0 before (priorityOf (b .priority)) ⌝ }
+fn priority_after(valuebefore: u8, b: Basic) -> u8
+    ensures { λ r. ⌜ r ≡ valueOf (b .status) (hasPriority (b .parts)) 0 valuebefore (priorityOf (b .priority)) ⌝ }
 {
     let status = b.status;
     let coded = b.priority;
     let value = priority_of(coded);
-    number_by(status, oamd::flag(2, 0, b.parts as u32), before, value)
+    number_by(status, oamd::flag(2, 0, b.parts as u32), valuebefore, value)
 }
 
-fn place_after(before: Place, n: Render) -> Place
-    ensures { λ r. ⌜ r ≡ valueOf (n .status) (hasPosition (n .parts)) defaultPlace before (placeOf (n .position) (distanceOf (n .distance)) before) ⌝ }
+fn location_after(valuebefore: Location, n: Render) -> Location
+    ensures { λ r. ⌜ r ≡ valueOf (n .status) (hasPosition (n .parts)) defaultLocation valuebefore (locationOf (n .position) (distanceOf (n .distance)) valuebefore) ⌝ }
 {
     let status = n.status;
     let position = n.position;
     let distance = n.distance;
-    let value = place_of(position, distance_of(distance), before);
+    let value = location_of(position, distance_of(distance), valuebefore);
     let sent = oamd::flag(4, 3, n.parts as u32);
     match status {
-        Status::Default => default_place(),
+        Status::Default => default_location(),
         Status::Full => value,
-        Status::Reuse => before,
-        Status::Mixed => { if sent { value } else { before } }
+        Status::Reuse => valuebefore,
+        Status::Mixed => { if sent { value } else { valuebefore } }
     }
 }
 
-fn volume_after(before: Volume, n: Render) -> Volume
-    ensures { λ r. ⌜ r ≡ valueOf (n .status) (hasSize (n .parts)) defaultVolume before (volumeOf (n .extent)) ⌝ }
+fn volume_after(valuebefore: Volume, n: Render) -> Volume
+    ensures { λ r. ⌜ r ≡ valueOf (n .status) (hasSize (n .parts)) defaultVolume valuebefore (volumeOf (n .extent)) ⌝ }
 {
     let status = n.status;
     let extent = n.extent;
@@ -134,13 +134,13 @@ fn volume_after(before: Volume, n: Render) -> Volume
     match status {
         Status::Default => default_volume(),
         Status::Full => value,
-        Status::Reuse => before,
-        Status::Mixed => { if sent { value } else { before } }
+        Status::Reuse => valuebefore,
+        Status::Mixed => { if sent { value } else { valuebefore } }
     }
 }
 
-fn zone_after(before: Zone, n: Render) -> Zone
-    ensures { λ r. ⌜ r ≡ valueOf (n .status) (hasZone (n .parts)) defaultZone before (n .zone) ⌝ }
+fn zone_after(valuebefore: Zone, n: Render) -> Zone
+    ensures { λ r. ⌜ r ≡ valueOf (n .status) (hasZone (n .parts)) defaultZone valuebefore (n .zone) ⌝ }
 {
     let status = n.status;
     let value = n.zone;
@@ -148,13 +148,13 @@ fn zone_after(before: Zone, n: Render) -> Zone
     match status {
         Status::Default => default_zone(),
         Status::Full => value,
-        Status::Reuse => before,
-        Status::Mixed => { if sent { value } else { before } }
+        Status::Reuse => valuebefore,
+        Status::Mixed => { if sent { value } else { valuebefore } }
     }
 }
 
-fn screen_after(before: Screen, n: Render) -> Screen
-    ensures { λ r. ⌜ r ≡ valueOf (n .status) (hasScreen (n .parts)) defaultScreen before (n .screen) ⌝ }
+fn screen_after(valuebefore: Screen, n: Render) -> Screen
+    ensures { λ r. ⌜ r ≡ valueOf (n .status) (hasScreen (n .parts)) defaultScreen valuebefore (n .screen) ⌝ }
 {
     let status = n.status;
     let value = n.screen;
@@ -162,31 +162,31 @@ fn screen_after(before: Screen, n: Render) -> Screen
     match status {
         Status::Default => default_screen(),
         Status::Full => value,
-        Status::Reuse => before,
-        Status::Mixed => { if sent { value } else { before } }
+        Status::Reuse => valuebefore,
+        Status::Mixed => { if sent { value } else { valuebefore } }
     }
 }
 
 // A block, by the scene of the block before and the gain of the object before in the same block.
-pub fn resolved(before: Scene, above: u8, b: Block) -> Scene
-    ensures { λ r. ⌜ r ≡ resolve before above b ⌝ }
+pub fn resolved(blockbefore: Scene, gainbefore: u8, b: Block) -> Scene
+    ensures { λ r. ⌜ r ≡ resolve blockbefore gainbefore b ⌝ }
 {
     let basic = b.basic;
     let render = b.render;
     let status = render.status;
-    let place = before.place;
-    let volume = before.volume;
-    let zone = before.zone;
-    let screen = before.screen;
+    let location = blockbefore.location;
+    let volume = blockbefore.volume;
+    let zone = blockbefore.zone;
+    let screen = blockbefore.screen;
     Scene {
         active: b.active,
         class: b.class,
-        gain: gain_after(before.gain, above, basic),
-        priority: priority_after(before.priority, basic),
-        place: place_after(place, render),
+        gain: gain_after(blockbefore.gain, gainbefore, basic),
+        priority: priority_after(blockbefore.priority, basic),
+        location: location_after(location, render),
         volume: volume_after(volume, render),
         zone: zone_after(zone, render),
         screen: screen_after(screen, render),
-        snap: number_by(status, true, before.snap, render.snap),
+        snap: number_by(status, true, blockbefore.snap, render.snap),
     }
 }

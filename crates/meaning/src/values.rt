@@ -1,14 +1,15 @@
 // The value of each group of a block, by its own fields (5.6.1).
 ghost use mathlib.Core.Path.{_≡_};
 ghost use Prim.Native.Nat.{_-_};
-ghost use Rattle.oamd.specs.Meaning.{gainOf, priorityOf, clamp, movedBy, across, upright, heightOf, distanceOf, placeOf, volumeOf};
+ghost use Rattle.oamd.specs.Meaning.{gainOf, priorityOf, clamp, movedBy, across, upright, heightOf, distanceOf, locationOf, volumeOf};
 use oamd::Distance;
 use oamd::Extent;
 use oamd::Gain;
-use oamd::Place;
+use oamd::Location;
 use oamd::Position;
 use oamd::Priority;
 use oamd::Volume;
+use oamd::less;
 
 // 0 dB, as a record has it.
 const ZERO_DB: u8 = 50;
@@ -16,15 +17,9 @@ const ZERO_DB: u8 = 50;
 // z = 0, as a record has it.
 const ZERO_Z: u32 = 64;
 
-fn less(a: u8, b: u8) -> u8
-    ensures { λ r. ⌜ r ≡ a - b ⌝ }
-{
-    if a < b { 0 } else { a - b }
-}
-
 // The gain in dB plus 50, or 0 for minus infinity. Index 3 takes the gain of the object before in the same block (Tables 18 and 19).
-pub fn gain_of(g: Gain, above: u8) -> u8
-    ensures { λ r. ⌜ r ≡ gainOf g above ⌝ }
+pub fn gain_of(g: Gain, gainbefore: u8) -> u8
+    ensures { λ r. ⌜ r ≡ gainOf g gainbefore ⌝ }
 {
     let index = g.index;
     let bits = g.bits;
@@ -40,14 +35,14 @@ pub fn gain_of(g: Gain, above: u8) -> u8
         }
         return less(ZERO_DB + 14, bits);
     }
-    above
+    gainbefore
 }
 
 // The priority in 32nds.
 pub fn priority_of(p: Priority) -> u8
     ensures { λ r. ⌜ r ≡ priorityOf p ⌝ }
 {
-    if p.standard == 1 { 32 } else { p.bits }
+    if p.bydefault == 1 { 32 } else { p.bits }
 }
 
 // A numerator of x or y, at most 62.
@@ -89,7 +84,7 @@ fn height_of(sign: u8, z: u8) -> u32
     if ZERO_Z < n { 0 } else { ZERO_Z - n }
 }
 
-// 0 not given, 1 infinity, else 2 and the index of one of Table 15's sixteen entries.
+// 0 not given, 1 infinity, else by the index.
 pub fn distance_of(d: Distance) -> u8
     ensures { λ r. ⌜ r ≡ distanceOf d ⌝ }
 {
@@ -99,24 +94,24 @@ pub fn distance_of(d: Distance) -> u8
     if d.infinite == 1 {
         return 1;
     }
-    if d.index < 16 { 2 + d.index } else { 0 }
+    oamd::distance_code(d.index)
 }
 
 // Coordinates as they stand, or moved from those of the block before; each stays within its range.
-pub fn place_of(p: Position, distance: u8, before: Place) -> Place
-    ensures { λ r. ⌜ r ≡ placeOf p distance before ⌝ }
+pub fn location_of(p: Position, distance: u8, locationbefore: Location) -> Location
+    ensures { λ r. ⌜ r ≡ locationOf p distance locationbefore ⌝ }
 {
     match p {
-        Position::Absolute(x, y, sign, z) => Place {
+        Position::Absolute(x, y, sign, z) => Location {
             x: across_of(x as u32),
             y: across_of(y as u32),
             z: upright_of(height_of(sign, z)),
             distance,
         },
-        Position::Moved(x, y, z) => Place {
-            x: across_of(moved_by(before.x, x)),
-            y: across_of(moved_by(before.y, y)),
-            z: upright_of(moved_by(before.z, z)),
+        Position::Moved(x, y, z) => Location {
+            x: across_of(moved_by(locationbefore.x, x)),
+            y: across_of(moved_by(locationbefore.y, y)),
+            z: upright_of(moved_by(locationbefore.z, z)),
             distance,
         },
     }

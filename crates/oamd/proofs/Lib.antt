@@ -2,3 +2,4 @@ pub mod Table
 pub mod Reserved
 pub mod Worked
 pub mod Ends
+pub mod Seed

@@ -15,7 +15,7 @@ use Rattle.oamd.specs.Timing.{sample-offset, block-update-info, md-updat
 use Rattle.oamd.specs.Block.{status-idx, object-basic-info, differences, coordinates, position, distance, zone, extent, screen, object-render-info, additional-table-data, object-info-block}
 use Rattle.oamd.specs.ObjectElement.{object-data, object-element}
 use Rattle.oamd.specs.Extended.{obj-div-block, ext-prec-pos-block, extended-object-element}
-use Rattle.oamd.specs.Meaning.{gainOf, priorityOf, distanceOf, placeOf, volumeOf, resolve, scenesFrom, scenesOf, allScenes}
+use Rattle.oamd.specs.Meaning.{gainOf, priorityOf, distanceOf, locationOf, volumeOf, resolve, scenesFrom, scenesOf, allScenes}
 use Rattle.oamd.specs.Record.{plainRecords, extendedRecords, recordBytesOf, bytesOf, onto}
 use Rattle.oamd.specs.Trim.{trim-config, trim-element, trimOf, configsBytesOf, trimBytesOf, trimNeeded}
 use Rattle.oamd.specs.Element.{kind, framed, scenes, fields, passOver, readKnown, oa-element, oa-element-md, elements}
@@ -156,5 +156,5 @@ examples =
     ∷ []
 
 pub worked : All examples
-unfolding sizeFrom slice number run bit each from groups gainOf startOf bed-assignment bed-instances intermediate-spatial-format num-dynamic-objects reserved-data program-assignment labels bedObjects allBeds named agrees shares classOf plainRecords extendedRecords recordBytesOf bytesOf onto kind framed scenes fields passOver readKnown oa-element oa-element-md elements oa-md-version object-count oa-element-count header object-audio-metadata-payload timing records tables trim-config trim-element trimOf configsBytesOf trimBytesOf housed reading sample-offset block-update-info md-update-info offsetOf rampOf timingOf status-idx object-basic-info differences coordinates position distance zone extent screen object-render-info additional-table-data object-info-block object-data object-element obj-div-block ext-prec-pos-block extended-object-element priorityOf distanceOf placeOf volumeOf resolve scenesFrom scenesOf allScenes
+unfolding sizeFrom slice number run bit each from groups gainOf startOf bed-assignment bed-instances intermediate-spatial-format num-dynamic-objects reserved-data program-assignment labels bedObjects allBeds named agrees shares classOf plainRecords extendedRecords recordBytesOf bytesOf onto kind framed scenes fields passOver readKnown oa-element oa-element-md elements oa-md-version object-count oa-element-count header object-audio-metadata-payload timing records tables trim-config trim-element trimOf configsBytesOf trimBytesOf housed reading sample-offset block-update-info md-update-info offsetOf rampOf timingOf status-idx object-basic-info differences coordinates position distance zone extent screen object-render-info additional-table-data object-info-block object-data object-element obj-div-block ext-prec-pos-block extended-object-element priorityOf distanceOf locationOf volumeOf resolve scenesFrom scenesOf allScenes
 worked = (refl, (refl, (refl, (refl, (refl, (refl, (refl, (refl, (refl, (refl, (refl, (refl, (refl, (refl, (refl, (refl, ((refl, refl, refl), tt)))))))))))))))))

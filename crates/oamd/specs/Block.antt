@@ -57,7 +57,7 @@ object-basic-info status = do
     status = status;
     parts = object-basic-info;
     gain = record { index = object-gain-idx; bits = object-gain-bits };
-    priority = record { standard = b-default-object-priority; bits = object-priority-bits };
+    priority = record { bydefault = b-default-object-priority; bits = object-priority-bits };
   })
 
 -- Table 31: the parts of obj_render_info[], by index. (The indices printed in 5.5.11 are those of an older mask.)

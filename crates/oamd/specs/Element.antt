@@ -16,7 +16,7 @@ use Rattle.oamd.specs.declared.Scene.{Scene}
 use Rattle.oamd.specs.Programme.{set?, shares}
 use Rattle.oamd.specs.ObjectElement.{ObjectElement, object-element}
 use Rattle.oamd.specs.Extended.{Extension, extended-object-element}
-use Rattle.oamd.specs.Trim.{trim-element}
+use Rattle.oamd.specs.Trim.{TrimTable, trim-element}
 use Rattle.oamd.specs.Meaning.{allScenes}
 use Rattle.oamd.specs.Record.{allCarry}
 
@@ -28,27 +28,27 @@ kind oa-element-id-idx alternate =
     (pick (eqb oa-element-id-idx 1) Object (pick (eqb oa-element-id-idx 2) Trim (pick (eqb oa-element-id-idx 5) Extended Unknown)))
 
 -- oa_element_size in bits: bytes that begin at any bit, counted from the alternate id, or else from the discard flag (5.6.4.3)
-abbrev pub elementBits : Size → ℕ
-elementBits size = 8 * (size .value + 1)
+abbrev pub declaredLength : Size → ℕ
+declaredLength size = 8 * (size .value + 1)
 
 -- from the first bit of the size to the first that it counts
-abbrev pub sizeBits : Size → ℕ
-sizeBits size = 5 * size .groups
+abbrev pub sizeLength : Size → ℕ
+sizeLength size = 5 * size .groups
 
 -- the bits that the alternate id, where there is one, and the discard flag take
-abbrev pub headBits : ℕ → ℕ
-headBits b-alternate-object-data-present = pick (set? b-alternate-object-data-present) 5 1
+abbrev pub headLength : ℕ → ℕ
+headLength b-alternate-object-data-present = pick (set? b-alternate-object-data-present) 5 1
 
 -- from the first bit of the id to behind the discard flag
 abbrev pub backToId : ℕ → Size → ℕ
-backToId b-alternate-object-data-present size = 4 + sizeBits size + headBits b-alternate-object-data-present
+backToId b-alternate-object-data-present size = 4 + sizeLength size + headLength b-alternate-object-data-present
 
 -- an element: id, size, which must fit, and, held to the declared end, the alternate id, the discard flag, and what f reads by its kind
 unfoldable pub framed : {A : Type 0} → ℕ → (Kind → Size → P A) → P A
 framed b-alternate-object-data-present f = do
   oa-element-id-idx ← bits 4
   oa-element-size-bits ← variable-bits-max
-  within (elementBits oa-element-size-bits) (sizeBits oa-element-size-bits) (do
+  within (declaredLength oa-element-size-bits) (sizeLength oa-element-size-bits) (do
     alternate-object-data-id-idx ← bitsIf (set? b-alternate-object-data-present) 4
     b-discard-unknown-element ← bits 1
     f (kind oa-element-id-idx alternate-object-data-id-idx) oa-element-size-bits)
@@ -56,7 +56,7 @@ framed b-alternate-object-data-present f = do
 -- the known elements that have been read
 pub record Known : Type 0 where
   pub object : Option ObjectElement
-  pub trim : Option Rattle.oamd.specs.Trim.Trim
+  pub trim : Option TrimTable
   pub extended : Option Extension
 
 abbrev pub nothing : Known

@@ -7,7 +7,7 @@ use lib.ListN.{length, length-append}
 use Rattle.oamd.specs.declared.TrimConfig.{TrimConfig}
 use Rattle.oamd.specs.Tables.{recordStride, trimConfigs, configBytes}
 use Rattle.oamd.specs.Record.{Record, recordBytesOf, bytesOf}
-use Rattle.oamd.specs.Trim.{Trim, configBytesOf, configsBytesOf, trimBytesOf, trimNeeded}
+use Rattle.oamd.specs.Trim.{TrimTable, configBytesOf, configsBytesOf, trimBytesOf, trimNeeded}
 
 pub length-record : (r : Record) → length (recordBytesOf r) ≡ recordStride
 unfolding recordBytesOf
@@ -24,7 +24,7 @@ length-configs [] = refl
 length-configs (c ∷ cs) = let n = length-configs cs in length-append (configBytesOf c) (configsBytesOf cs) ∙ omega arith
 
 -- a trim table of nine configurations and a flag for each object
-pub length-trim : (objects : ℕ) (t : Trim) → length (t .configs) ≡ trimConfigs → length (t .disabled) ≡ objects
+pub length-trim : (objects : ℕ) (t : TrimTable) → length (t .configs) ≡ trimConfigs → length (t .disabled) ≡ objects
     → length (trimBytesOf t) ≡ trimNeeded objects
 unfolding trimBytesOf
 length-trim objects t nine flags =

@@ -16,7 +16,7 @@ use Rattle.oamd.specs.Tables.{mostBlocks}
 use Rattle.oamd.specs.Timing.{timingOf, noUpdate}
 use Rattle.oamd.specs.ObjectElement.{ObjectElement}
 use Rattle.oamd.specs.Extended.{Extension}
-use Rattle.oamd.specs.Trim.{Trim, trimOf}
+use Rattle.oamd.specs.Trim.{TrimTable, trimOf}
 use Rattle.oamd.specs.Record.{Record, plainRecords, extendedRecords}
 use Rattle.oamd.specs.Element.{Known, nothing, scenes, elements}
 
@@ -76,7 +76,7 @@ pub record Tables : Type 0 where
   pub programme : Programme
   pub timing : Timing
   pub records : List Record
-  pub trim : Trim
+  pub trim : TrimTable
 
 -- no update without an object element
 abbrev pub noTiming : Timing

@@ -43,7 +43,7 @@ extendedRecords (s ∷ ss) (d ∷ ds) (p ∷ ps) = recordOf s d p ∷ extendedRe
 -- byte by byte
 abbrev pub sceneBytes : Scene → List ℕ
 sceneBytes s =
-    s .active ∷ s .class ∷ s .gain ∷ s .priority ∷ s .place .x ∷ s .place .y ∷ s .place .z ∷ s .place .distance
+    s .active ∷ s .class ∷ s .gain ∷ s .priority ∷ s .location .x ∷ s .location .y ∷ s .location .z ∷ s .location .distance
     ∷ s .volume .width ∷ s .volume .depth ∷ s .volume .height ∷ s .zone .index ∷ s .zone .elevation
     ∷ s .screen .used ∷ s .screen .factor ∷ s .screen .depth ∷ s .snap ∷ []
 

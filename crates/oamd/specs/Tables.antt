@@ -42,6 +42,14 @@ trimConfigs = 9
 abbrev pub configBytes : ℕ
 configBytes = 10
 
+-- the bytes of the trim table before the configurations
+abbrev pub trimHead : ℕ
+trimHead = 3
+
+-- the byte of the trim table that is b_disable_trim_per_obj, behind the configurations
+abbrev pub perObjectByte : ℕ
+perObjectByte = 93
+
 -- the bytes of the trim table before the flags of the objects
 abbrev pub trimFixed : ℕ
 trimFixed = 94
@@ -62,6 +70,10 @@ bedLabels = 1 ∷ 2 ∷ 2 ∷ 2 ∷ 2 ∷ 2 ∷ 2 ∷ 1 ∷ 1 ∷ 2 ∷ []
 -- Table 13, one label for each index of nonstd_bed_channel_assignment[]
 abbrev pub nonstdLabels : List ℕ
 nonstdLabels = 1 ∷ 1 ∷ 1 ∷ 1 ∷ 1 ∷ 1 ∷ 1 ∷ 1 ∷ 1 ∷ 1 ∷ 1 ∷ 1 ∷ 1 ∷ 1 ∷ 1 ∷ 1 ∷ 1 ∷ []
+
+-- Table 15, byte 7 of a record by distance_factor_idx
+abbrev pub distanceCodes : List ℕ
+distanceCodes = 2 ∷ 3 ∷ 4 ∷ 5 ∷ 6 ∷ 7 ∷ 8 ∷ 9 ∷ 10 ∷ 11 ∷ 12 ∷ 13 ∷ 14 ∷ 15 ∷ 16 ∷ 17 ∷ []
 
 -- Table 23, sample offset by sample_offset_idx
 abbrev pub sampleOffsets : List ℕ

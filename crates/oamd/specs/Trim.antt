@@ -68,7 +68,7 @@ noConfig = record {
 }
 
 -- the trim table: whether the element is there, and its fields as carried; disabled is b_disable_trim[obj]
-pub record Trim : Type 0 where
+pub record TrimTable : Type 0 where
   pub present : ℕ
   pub warp : ℕ
   pub mode : ℕ
@@ -77,7 +77,7 @@ pub record Trim : Type 0 where
   pub disabled : List ℕ
 
 -- the two reserved bits are passed over
-unfoldable pub trim-element : ℕ → P Trim
+unfoldable pub trim-element : ℕ → P TrimTable
 trim-element object-count = do
   warp-mode ← unreserved WarpMode
   reserved ← bits 2
@@ -85,7 +85,7 @@ trim-element object-count = do
   configs ← when (eqb global-trim-mode 2) (for trimConfigs (λ cfg. trim-config)) (replicate trimConfigs noConfig)
   b-disable-trim-per-obj ← bits 1
   b-disable-trim ← when (set? b-disable-trim-per-obj) (for object-count (λ obj. bits 1)) (replicate object-count 0)
-  give {A = Trim} (record {
+  give {A = TrimTable} (record {
     present = 1;
     warp = warp-mode;
     mode = global-trim-mode;
@@ -97,7 +97,7 @@ trim-element object-count = do
 -- ---- the trim table
 
 -- without the element all of it is 0
-abbrev pub noTrim : ℕ → Trim
+abbrev pub noTrim : ℕ → TrimTable
 noTrim objects = record {
   present = 0;
   warp = 0;
@@ -107,7 +107,7 @@ noTrim objects = record {
   disabled = replicate objects 0;
 }
 
-unfoldable pub trimOf : ℕ → Option Trim → Trim
+unfoldable pub trimOf : ℕ → Option TrimTable → TrimTable
 trimOf objects none = noTrim objects
 trimOf objects (some t) = t
 
@@ -120,7 +120,7 @@ unfoldable pub configsBytesOf : List TrimConfig → List ℕ
 configsBytesOf [] = []
 configsBytesOf (c ∷ cs) = configBytesOf c ++ configsBytesOf cs
 
-unfoldable pub trimBytesOf : Trim → List ℕ
+unfoldable pub trimBytesOf : TrimTable → List ℕ
 trimBytesOf t = t .present ∷ t .warp ∷ t .mode ∷ (configsBytesOf (t .configs) ++ (t .per-object ∷ t .disabled))
 
 -- how many they are

@@ -1,5 +1,6 @@
-// The two choices that stand in one place each: the order of the bits in an array of flags, and what an element is known as.
+// What stands in one place: the order of the bits in an array of flags, what an element is known as, and two small steps that every crate above needs.
 ghost use mathlib.Core.Path.{_≡_};
+ghost use Prim.Native.Nat.{_-_};
 ghost use lib.Dec.{eqb};
 ghost use Rattle.bits.specs.Language.{flag, both};
 ghost use Rattle.oamd.specs.Element.{kind};
@@ -21,6 +22,13 @@ pub fn both(a: bool, b: bool) -> bool
     ensures { λ r. ⌜ r ≡ both a b ⌝ }
 {
     if a { b } else { false }
+}
+
+// a - b, or 0.
+pub fn less(a: u8, b: u8) -> u8
+    ensures { λ r. ⌜ r ≡ a - b ⌝ }
+{
+    if a < b { 0 } else { a - b }
 }
 
 // Known are the object element (id 1) with no alternate id or with alternate id 0, the trim element (id 2) and the extended object element (id 5).

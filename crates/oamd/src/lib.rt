@@ -8,7 +8,9 @@ mod choices; // choices.rt: a flag of an array of flags, and an element's kind
 pub use choices::both;
 pub use choices::flag;
 pub use choices::kind_of;
+pub use choices::less;
 pub use tables::bed_labels;
+pub use tables::distance_code;
 pub use tables::isf_objects;
 pub use tables::ramp_code;
 pub use tables::ramp_duration;
@@ -91,7 +93,7 @@ pub struct Gain {
 
 // A priority, as coded (5.5.10).
 pub struct Priority {
-    pub standard: u8,
+    pub bydefault: u8,
     pub bits: u8,
 }
 
@@ -159,7 +161,7 @@ pub struct Block {
 }
 
 // Where an object is: bytes 4 to 7 of a record.
-pub struct Place {
+pub struct Location {
     pub x: u8,
     pub y: u8,
     pub z: u8,
@@ -194,7 +196,7 @@ pub struct Scene {
     pub class: u8,
     pub gain: u8,
     pub priority: u8,
-    pub place: Place,
+    pub location: Location,
     pub volume: Volume,
     pub zone: Zone,
     pub screen: Screen,

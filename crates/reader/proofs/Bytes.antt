@@ -16,7 +16,7 @@ use Rattle.oamd.specs.Record.{Record, recordOf, plainRecords, recordBytesOf, by
 use Rattle.oamd.specs.Lengths.{length-record, length-bytes}
 use Rattle.oamd.specs.Extended.{noDivergence, noPrecise}
 use Rattle.reader.specs.Layout.{setFrom}
-use Rattle.reader.specs.Running.{gainAbove}
+use Rattle.reader.specs.Running.{gainOfObjectBefore}
 
 pub bytes-append : (xs ys : List Record) → bytesOf (xs ++ ys) ≡ bytesOf xs ++ bytesOf ys
 unfolding bytesOf
@@ -89,8 +89,8 @@ gain-of (s ∷ ss) (suc m) h = gain-of ss m (omega arith)
 
 -- the byte that the code reads back is the gain of the object before
 pub above-is : (ss : List Scene) (t : List ℕ) (k at : ℕ) → 1 ≤ k → at ≡ recordStride * length ss
-    → pick (leb (recordStride * k) at) (getD (onto (bytesOf (plainRecords ss)) t) (at - recordStride * k + 2) 0) zeroDb ≡ gainAbove k ss
-unfolding gainAbove
+    → pick (leb (recordStride * k) at) (getD (onto (bytesOf (plainRecords ss)) t) (at - recordStride * k + 2) 0) zeroDb ≡ gainOfObjectBefore k ss
+unfolding gainOfObjectBefore
 above-is ss t k at p e = by-order k (length ss)
     (λ h.
     let f : at - recordStride * k + 2 ≡ recordStride * (length ss - k) + 2 = omega arith in

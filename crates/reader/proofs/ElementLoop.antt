@@ -27,7 +27,7 @@ use Rattle.oamd.specs.Tables.{roomBytes, mostTrim, mostBlocks, mostObjects}
 use Rattle.oamd.specs.Programme.{set?, shares}
 use Rattle.oamd.specs.Record.{plainRecords, bytesOf, onto}
 use Rattle.oamd.specs.Trim.{trimOf}
-use Rattle.oamd.specs.Element.{kind, elementBits, sizeBits, backToId, framed, Known, nothing, there, isSecond, scenes, fields, passOver, readKnown, oa-element, oa-element-md, elements}
+use Rattle.oamd.specs.Element.{kind, declaredLength, sizeLength, backToId, framed, Known, nothing, there, isSecond, scenes, fields, passOver, readKnown, oa-element, oa-element-md, elements}
 use Rattle.oamd.specs.Payload.{timing, noTiming, records}
 use Rattle.reader.specs.declared.Scope.{Scope}
 use Rattle.reader.specs.declared.State.{State}
@@ -215,7 +215,7 @@ unfolding closeAt
 close-begun e l d h z = by-zero (e .no) (λ y. y) (λ y. ap (λ (c : Cur). c .no) (sym (rw (ne-eqb (e .no) 0 y) at h)) ∙ z)
 
 pub framed-read : {w : Scope} {st : State} {b : Bits} {c c₁ c₂ o c₃ c₄ d : Cur} {l i : Limit} {out out' table table' : List ℕ} {id other flag back : ℕ} {z : Size} {k : Kind} {r : StateStep}
-    → Reads (bits 4) b c l id c₁ → Reads variable-bits-max b c₁ l z c₂ → o ≡ openAt l c₂ (elementBits z) (sizeBits z) → i ≡ innerOf l c₂ (elementBits z)
+    → Reads (bits 4) b c l id c₁ → Reads variable-bits-max b c₁ l z c₂ → o ≡ openAt l c₂ (declaredLength z) (sizeLength z) → i ≡ innerOf l c₂ (declaredLength z)
     → Reads (bitsIf (set? (w .alternate)) 4) b o i other c₃ → Reads (bits 1) b c₃ i flag c₄ → k ≡ kind id other → back ≡ backToId (w .alternate) z
     → BodyRead k back w st b c₄ i out table r out' table' → d ≡ closeAt (r .cur) i → OneRead w st b c l out table (record { state = r .state; cur = d }) out' table'
 unfolding oa-element-md framed

@@ -18,11 +18,11 @@ use Rattle.oamd.specs.Tables.{recordStride, roomBytes}
 use Rattle.oamd.specs.Programme.{clear?, classOf}
 use Rattle.oamd.specs.Block.{object-info-block}
 use Rattle.oamd.specs.ObjectElement.{object-data, object-element}
-use Rattle.oamd.specs.Meaning.{resolve, idle, zeroDb, allScenes}
+use Rattle.oamd.specs.Meaning.{resolve, nothingBefore, zeroDb, allScenes}
 use Rattle.oamd.specs.Record.{recordOf, plainRecords, recordBytesOf, bytesOf, onto}
 use Rattle.oamd.specs.Extended.{noDivergence, noPrecise}
 use Rattle.reader.specs.Layout.{setFrom}
-use Rattle.reader.specs.Running.{gainAbove, withBlocks, withObjects}
+use Rattle.reader.specs.Running.{gainOfObjectBefore, withBlocks, withObjects}
 use Rattle.reader.specs.declared.TimingStep.{TimingStep}
 use Rattle.reader.specs.Steps.{TimingRead, Standing, ObjectRead, ObjectsRead, ElementRead}
 use Rattle.reader.proofs.Bytes.{stored, above-is}
@@ -49,7 +49,7 @@ length-withBlocks : (k : ℕ) (ss : List Scene) (before : Scene) (bs : List Bloc
 unfolding withBlocks
 length-withBlocks k ss before [] = omega arith
 length-withBlocks k ss before (b ∷ bs) =
-    let s : Scene = resolve before (gainAbove k ss) b in
+    let s : Scene = resolve before (gainOfObjectBefore k ss) b in
     length-withBlocks k (ss ++ (s ∷ [])) s bs ∙ omega (arith, length-append ss (s ∷ []))
 
 -- where scenes stand behind some blocks, and what is still to come of the object
@@ -57,7 +57,7 @@ pub record Stands (k : ℕ) (ss : List Scene) (t : List ℕ) (vs : List Block) (
   pub us : List Scene
   pub stand : Standing us t out
   pub more : length us ≡ length ss + length vs
-  pub rest : (bs : List Block) → withBlocks k ss (idle 0) (vs ++ bs) ≡ withBlocks k us scene bs
+  pub rest : (bs : List Block) → withBlocks k ss nothingBefore (vs ++ bs) ≡ withBlocks k us scene bs
 
 module _ (class k at₀ : ℕ) (b : Bits) (l : Limit) (c : Cur) (out₀ : List ℕ) where
   -- before block i of an object
@@ -68,7 +68,7 @@ module _ (class k at₀ : ℕ) (b : Bits) (l : Limit) (c : Cur) (out₀ : List �
     pub left : Left (object-data k class) b c l (turns k (object-info-block class) (λ vs. give vs) i vs) cur
     pub stands : (ss : List Scene) (t : List ℕ) → Standing ss t out₀ → at₀ ≡ recordStride * length ss → length t ≡ roomBytes → Stands k ss t vs scene out
 
-pub enter : (class k at₀ : ℕ) (b : Bits) (l : Limit) (c : Cur) (out₀ : List ℕ) → length out₀ ≡ roomBytes → Inside class k at₀ b l c out₀ 0 at₀ (idle 0) c out₀
+pub enter : (class k at₀ : ℕ) (b : Bits) (l : Limit) (c : Cur) (out₀ : List ℕ) → length out₀ ≡ roomBytes → Inside class k at₀ b l c out₀ 0 at₀ nothingBefore c out₀
 unfolding object-data
 enter class k at₀ b l c out₀ h = record {
   vs = [];
@@ -92,14 +92,14 @@ module _ {class k at₀ : ℕ} {b : Bits} {l : Limit} {c : Cur} {out₀ : List �
     stands = λ ss t s e n.
         let y = x .stands ss t s e n in
         let m : at ≡ recordStride * length (y .us) = omega (arith, x .many, y .more) in
-        let g : above ≡ gainAbove k (y .us) =
+        let g : above ≡ gainOfObjectBefore k (y .us) =
         a ∙ ap (λ (o : List ℕ). pick (leb (recordStride * k) at) (getD o (at - recordStride * k + 2) 0) zeroDb) (y .stand) ∙ above-is (y .us) t k at (omega arith) m in
-        let r : next ≡ resolve scene (gainAbove k (y .us)) v = q ∙ ap (λ (u : ℕ). resolve scene u v) g in
+        let r : next ≡ resolve scene (gainOfObjectBefore k (y .us)) v = q ∙ ap (λ (u : ℕ). resolve scene u v) g in
         record {
           us = y .us ++ (next ∷ []);
           stand = ap (setFrom at 0 (recordBytesOf (recordOf next noDivergence noPrecise))) (y .stand) ∙ stored (y .us) next t at m (omega arith);
           more = omega (arith, y .more, length-append (y .us) (next ∷ []), length-append (x .vs) (v ∷ []));
-          rest = λ bs. ap (withBlocks k ss (idle 0)) (append-assoc (x .vs) (v ∷ []) bs) ∙ y .rest (v ∷ bs)
+          rest = λ bs. ap (withBlocks k ss nothingBefore) (append-assoc (x .vs) (v ∷ []) bs) ∙ y .rest (v ∷ bs)
               ∙ ap (λ (u : Scene). withBlocks k (y .us ++ (u ∷ [])) u bs) (sym r);
         };
   }
@@ -113,7 +113,7 @@ module _ {class k at₀ : ℕ} {b : Bits} {l : Limit} {c : Cur} {out₀ : List �
     size = x .size;
     stand = λ ss t s e n.
         let y = x .stands ss t s e n in
-        y .stand ∙ ap (λ (us : List Scene). onto (bytesOf (plainRecords us)) t) (sym (ap (withBlocks k ss (idle 0)) (sym (append-nil (x .vs))) ∙ y .rest []));
+        y .stand ∙ ap (λ (us : List Scene). onto (bytesOf (plainRecords us)) t) (sym (ap (withBlocks k ss nothingBefore) (sym (append-nil (x .vs))) ∙ y .rest []));
   }
 
 -- ---- the objects
@@ -157,14 +157,14 @@ module _ {n : ℕ} {s : Shares} {k : ℕ} {b : Bits} {l : Limit} {c : Cur} {out�
   further class at x h m place e o =
       let f : ℕ → P (List Block) = λ j. object-data k (classOf s j) in
       let r : Reads (f j) b cur l (o .value) _ = rw e at (o .reads) in
-      let w = length-withBlocks k (x .ss) (idle 0) (o .value) in
+      let w = length-withBlocks k (x .ss) nothingBefore (o .value) in
       let d = add-mul j 1 k in
       record {
         vs = x .vs ++ (o .value ∷ []);
         whole = each-snoc k (x .vs) (o .value) (x .whole) (o .long);
         size = o .size;
         left = for-step n f (λ vs. give vs) j (x .vs) h (x .left) r;
-        ss = withBlocks k (x .ss) (idle 0) (o .value);
+        ss = withBlocks k (x .ss) nothingBefore (o .value);
         stand = o .stand (x .ss) out₀ (x .stand) (omega (arith, x .more)) m;
         more = omega (arith, w, x .more, o .long, d, one-mul k);
         rest = λ os. ap (withObjects k []) (append-assoc (x .vs) (o .value ∷ []) os) ∙ x .rest (o .value ∷ os);

@@ -8,12 +8,12 @@ use lib.Seq.{getD-append-add}
 use borrow.Author.Tests.{le-leb, lt-leb}
 use Rattle.oamd.specs.declared.Scene.{Scene}
 use Rattle.oamd.specs.declared.Block.{Block}
-use Rattle.oamd.specs.Meaning.{resolve, idle, zeroDb, firstGain, behindFirst, scenesFrom, scenesOf, allScenes}
-use Rattle.reader.specs.Running.{gainAbove, withBlocks, withObjects}
+use Rattle.oamd.specs.Meaning.{resolve, idle, zeroDb, firstGain, behindFirst, nothingBefore, scenesFrom, scenesOf, allScenes}
+use Rattle.reader.specs.Running.{gainOfObjectBefore, withBlocks, withObjects}
 
 -- behind the scenes ss, those of the object before are above
 abbrev Above : ℕ → List Scene → List Scene → Type 0
-Above k ss above = (mine : List Scene) → length mine < k → gainAbove k (ss ++ mine) ≡ firstGain (drop (length mine) above)
+Above k ss above = (mine : List Scene) → length mine < k → gainOfObjectBefore k (ss ++ mine) ≡ firstGain (drop (length mine) above)
 
 none-above : (m : ℕ) → firstGain (drop m []) ≡ zeroDb
 none-above zero = refl
@@ -26,7 +26,7 @@ behind-drop (suc m) [] = refl
 behind-drop (suc m) (s ∷ ss) = behind-drop m ss
 
 first-object : (k : ℕ) → Above k [] []
-unfolding gainAbove
+unfolding gainOfObjectBefore
 first-object k mine h = rw (lt-leb k (length mine) h) (sym (none-above (length mine)))
 
 gain-at : (ss : List Scene) (m : ℕ) → m < length ss → firstGain (drop m ss) ≡ getD ss m (idle 0) .gain
@@ -35,7 +35,7 @@ gain-at (s ∷ ss) zero h = refl
 gain-at (s ∷ ss) (suc m) h = gain-at ss m (omega arith)
 
 next-object : (k : ℕ) (prev last : List Scene) → length last ≡ k → Above k (prev ++ last) last
-unfolding gainAbove
+unfolding gainOfObjectBefore
 next-object k prev last e mine h =
     let n = length-append (prev ++ last) mine in
     let m = length-append prev last in
@@ -66,9 +66,9 @@ same-from : (k : ℕ) (os : List (List Block)) (ss above : List Scene) → Each 
 unfolding withObjects allScenes scenesOf
 same-from k [] ss above e h = rw append-nil
 same-from k (o ∷ os) ss above e h =
-    let mine : List Scene = scenesFrom (idle 0) above o in
-    let x : withBlocks k ss (idle 0) o ≡ ss ++ mine = rw append-nil at (one-object k ss above h o [] (idle 0) (omega arith)) in
-    rw (x, same-from k os (ss ++ mine) mine (e .1) (next-object k ss mine (length-scenes (idle 0) above o ∙ e .0)), append-assoc)
+    let mine : List Scene = scenesFrom nothingBefore above o in
+    let x : withBlocks k ss nothingBefore o ≡ ss ++ mine = rw append-nil at (one-object k ss above h o [] nothingBefore (omega arith)) in
+    rw (x, same-from k os (ss ++ mine) mine (e .1) (next-object k ss mine (length-scenes nothingBefore above o ∙ e .0)), append-assoc)
 
 pub same : (k : ℕ) (os : List (List Block)) → Each k os → withObjects k [] os ≡ allScenes [] os
 same k os e = same-from k os [] [] e (first-object k)

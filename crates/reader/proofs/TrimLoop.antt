@@ -17,7 +17,7 @@ use Rattle.oamd.specs.Tables.{mostObjects, trimFixed, mostTrim}
 use Rattle.oamd.specs.Programme.{set?}
 use Rattle.oamd.specs.Reserved.{WarpMode, GlobalTrimMode, unreserved}
 use Rattle.oamd.specs.Record.{onto}
-use Rattle.oamd.specs.Trim.{Trim, trim-element, noTrim, trimOf, configBytesOf, configsBytesOf, trimBytesOf, trimNeeded}
+use Rattle.oamd.specs.Trim.{TrimTable, trim-element, noTrim, trimOf, configBytesOf, configsBytesOf, trimBytesOf, trimNeeded}
 use Rattle.reader.specs.Layout.{setFrom, noTrimBytes}
 use Rattle.reader.specs.Steps.{PartRead, ConfigsRead, FlagsRead, TrimRead, TrimHeld}
 use Rattle.reader.proofs.Bytes.{seam}
@@ -122,7 +122,7 @@ trimming {out = out} {out₂ = out₂} {warp = warp} {mode = mode} {flagged} r�
   stand = stand;
 }
   where
-    value : Trim
+    value : TrimTable
     value = record { present = 1; warp = warp; mode = mode; configs = cs .value; per-object = flagged; disabled = fs .value }
 
     head : List ℕ

@@ -21,8 +21,8 @@ use Rattle.oamd.specs.Programme.{shares, classOf}
 use Rattle.oamd.specs.Timing.{MdUpdateInfo, md-update-info, timingOf}
 use Rattle.oamd.specs.ObjectElement.{ObjectElement, object-data, object-element}
 use Rattle.oamd.specs.Extended.{Extension, extended-object-element}
-use Rattle.oamd.specs.Trim.{Trim, trim-config, noConfig, trim-element, trimOf, configsBytesOf, trimBytesOf, trimNeeded}
-use Rattle.oamd.specs.Meaning.{allScenes, idle}
+use Rattle.oamd.specs.Trim.{TrimTable, trim-config, noConfig, trim-element, trimOf, configsBytesOf, trimBytesOf, trimNeeded}
+use Rattle.oamd.specs.Meaning.{allScenes, nothingBefore}
 use Rattle.oamd.specs.Record.{Record, recordOf, carries, allCarry, plainRecords, extendedRecords, bytesOf, onto}
 use Rattle.oamd.specs.Element.{Known, nothing, there, scenes, oa-element, oa-element-md, elements}
 use Rattle.oamd.specs.Payload.{header, object-audio-metadata-payload, timing, records}
@@ -56,7 +56,7 @@ pub record ObjectRead (class blocks at : ℕ) (b : Bits) (c : Cur) (l : Limit) (
   pub long : length value ≡ blocks
   pub size : length out' ≡ roomBytes
   pub stand : (ss : List Scene) (t : List ℕ) → Standing ss t out → at ≡ recordStride * length ss → length t ≡ roomBytes
-      → Standing (withBlocks blocks ss (idle 0) value) t out'
+      → Standing (withBlocks blocks ss nothingBefore value) t out'
 
 pub record ObjectsRead (n : ℕ) (s : Shares) (blocks : ℕ) (b : Bits) (c : Cur) (l : Limit) (out : List ℕ) (d : Cur) (out' : List ℕ) : Type 0 where
   pub value : List (List Block)
@@ -141,7 +141,7 @@ abbrev pub FlagsRead : Bool → ℕ → Bits → Cur → Limit → List ℕ → 
 FlagsRead on n b c l out d out' = PartRead (when on (for n (λ obj. bits 1)) (replicate n 0)) (λ flags. flags) n trimFixed b c l out d out'
 
 pub record TrimRead (objects : ℕ) (b : Bits) (c : Cur) (l : Limit) (out : List ℕ) (d : Cur) (out' : List ℕ) : Type 0 where
-  pub value : Trim
+  pub value : TrimTable
   pub reads : Reads (trim-element objects) b c l value d
   pub long : length (trimBytesOf value) ≡ trimNeeded objects
   pub size : length out' ≡ mostTrim
@@ -150,7 +150,7 @@ pub record TrimRead (objects : ℕ) (b : Bits) (c : Cur) (l : Limit) (out : List
 -- ---- the elements
 
 -- what a flag and the bytes hold of the trim element, read or not
-pub record TrimHeld (objects : ℕ) (element : Option Trim) (read : Bool) (table : List ℕ) : Type 0 where
+pub record TrimHeld (objects : ℕ) (element : Option TrimTable) (read : Bool) (table : List ℕ) : Type 0 where
   pub told : read ≡ there element
   pub long : length (trimBytesOf (trimOf objects element)) ≡ trimNeeded objects
   pub stand : table ≡ onto (trimBytesOf (trimOf objects element)) noTrimBytes

@@ -3,7 +3,7 @@ ghost use mathlib.Core.Path.{_≡_};
 ghost use Prim.Native.Nat.{_+_, _≤_, _<_};
 ghost use lib.ListN.{length};
 ghost use Rattle.bits.specs.Language.{bit};
-ghost use Rattle.oamd.specs.Element.{headBits};
+ghost use Rattle.oamd.specs.Element.{headLength};
 ghost use Rattle.oamd.specs.Tables.{mostElements, mostObjects, mostBlocks, roomBytes, mostTrim};
 ghost use Rattle.reader.specs.Layout.{noTrimBytes};
 ghost use Rattle.reader.specs.Steps.{BodyRead, RecordsBody, TableBody, OneRead, ElementsRead};
@@ -160,7 +160,7 @@ fn read_body(
 
 // The bits that the alternate id, where there is one, and the discard flag take.
 fn head_bits(alternate: u32) -> u32
-    ensures { λ r. ⌜ (r ≡ headBits alternate) × (r ≤ 5) ⌝ }
+    ensures { λ r. ⌜ (r ≡ headLength alternate) × (r ≤ 5) ⌝ }
 {
     if alternate == 1 { 5 } else { 1 }
 }

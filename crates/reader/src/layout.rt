@@ -28,10 +28,10 @@ pub fn store_scene(out: &mut [u8; ROOM], at: usize, r: Scene)
     out[at + 1] = r.class;
     out[at + 2] = r.gain;
     out[at + 3] = r.priority;
-    out[at + 4] = r.place.x;
-    out[at + 5] = r.place.y;
-    out[at + 6] = r.place.z;
-    out[at + 7] = r.place.distance;
+    out[at + 4] = r.location.x;
+    out[at + 5] = r.location.y;
+    out[at + 6] = r.location.z;
+    out[at + 7] = r.location.distance;
     out[at + 8] = r.volume.width;
     out[at + 9] = r.volume.depth;
     out[at + 10] = r.volume.height;
@@ -72,7 +72,7 @@ pub fn store_precise(out: &mut [u8; ROOM], at: usize, p: Precise)
 }
 
 // The gain that stands `back` bytes before a record, or 0 dB where no object stands before it.
-pub fn gain_above(out: &[u8; ROOM], at: usize, back: usize) -> u8
+pub fn gain_of_object_before(out: &[u8; ROOM], at: usize, back: usize) -> u8
     requires { ⌜ (at + recordStride ≤ roomBytes) × (1 ≤ back) ⌝ }
     ensures { λ r. ⌜ r ≡ pick (leb back at) (getD (now (out .entry)) (at - back + 2) 0) 50 ⌝ }
 {

@@ -9,7 +9,7 @@ use crate::ROOM;
 use crate::STRIDE;
 use crate::Scope;
 use crate::TimingStep;
-use crate::layout::gain_above;
+use crate::layout::gain_of_object_before;
 use crate::layout::store_scene;
 use crate::timing::read_timing;
 use bits::Cur;
@@ -29,15 +29,16 @@ fn read_object(
     ensures { λ r. ⌜ ObjectRead class blocks from (bit (now (s .entry))) c l (now (out .entry)) r (now (out .exit)) ⌝ }
 {
     let back = STRIDE * blocks;
-    let mut scene = meaning::idle(0);
+    let nothing_before = meaning::idle(0);
+    let mut scene = nothing_before;
     let mut cur = c;
     let mut at = from;
     let mut i: usize = 0;
     while i < blocks {
         let step = syntax::read_block(s, l, cur, class, i as u32);
         let block = step.block;
-        let above = gain_above(out, at, back);
-        scene = meaning::resolved(scene, above, block);
+        let gain = gain_of_object_before(out, at, back);
+        scene = meaning::resolved(scene, gain, block);
         store_scene(out, at, scene);
         cur = step.cur;
         at = at + STRIDE;

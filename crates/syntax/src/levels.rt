@@ -65,8 +65,8 @@ pub fn read_basic(s: &[u8], l: Limit, c: Cur, status: Status) -> BasicStep
     let index = bits::take_if(oamd::flag(2, 1, parts.v), s, l, parts, 2);
     let level = bits::take_if(index.v == 2, s, l, index, 6);
     let ranked = oamd::flag(2, 0, parts.v);
-    let standard = bits::take_if(ranked, s, l, level, 1);
-    let rank = bits::take_if(oamd::both(ranked, standard.v == 0), s, l, standard, 5);
+    let bydefault = bits::take_if(ranked, s, l, level, 1);
+    let rank = bits::take_if(oamd::both(ranked, bydefault.v == 0), s, l, bydefault, 5);
     BasicStep {
         basic: Basic {
             status,
@@ -76,7 +76,7 @@ pub fn read_basic(s: &[u8], l: Limit, c: Cur, status: Status) -> BasicStep
                 bits: level.v as u8,
             },
             priority: Priority {
-                standard: standard.v as u8,
+                bydefault: bydefault.v as u8,
                 bits: rank.v as u8,
             },
         },

@@ -145,10 +145,10 @@ pub fn read_render(s: &[u8], l: Limit, c: Cur, status: Status, first: bool) -> R
     ensures { λ r. ⌜ Reads (object-render-info status first) (bit (now (s .entry))) c l (r .render) (r .cur) ⌝ }
 {
     let parts = read_parts(s, l, c, status, 15, 4);
-    let placed = oamd::flag(4, 3, parts.v);
-    let p = read_position(s, l, parts, placed, first);
+    let positioned = oamd::flag(4, 3, parts.v);
+    let p = read_position(s, l, parts, positioned, first);
     let position = p.position;
-    let d = read_distance(s, l, p.cur, placed);
+    let d = read_distance(s, l, p.cur, positioned);
     let distance = d.distance;
     let z = read_zone(s, l, d.cur, oamd::flag(4, 2, parts.v));
     let zone = z.zone;

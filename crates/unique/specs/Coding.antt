@@ -9,9 +9,8 @@ use Rattle.coding.proofs.as_flag as as-flag
 use Rattle.coding.proofs.choice as choice
 use Rattle.coding.proofs.coded_offset as coded-offset
 use Rattle.coding.proofs.ending as ending
-use Rattle.coding.proofs.less as less
 use Rattle.coding.proofs.opening as opening
-use Rattle.coding.proofs.placing as placing
+use Rattle.coding.proofs.positioning as positioning
 use Rattle.coding.proofs.ramp_bits as ramp-bits
 use Rattle.coding.proofs.ramp_code as ramp-code
 use Rattle.coding.proofs.ramp_index as ramp-index
@@ -19,7 +18,7 @@ use Rattle.coding.proofs.ramp_indexed as ramp-indexed
 use Rattle.coding.proofs.short as short
 use Rattle.coding.proofs.sized as sized
 use Rattle.coding.specs.declared.Packed.{Packed}
-use Rattle.coding.specs.Packing.{Packs, openingBits, placingBits, aroundBits, sizedBits, endingBits}
+use Rattle.coding.specs.Packing.{Packs, openingBits, positioningBits, aroundBits, sizedBits, endingBits}
 use Rattle.unique.specs.OneAnswer.{OneAnswer, by-relation, by-equation, said, both-said, result-set}
 
 pub one-as-flag : OneAnswer as-flag.ended (λ M. as-flag.clauses) (λ M. as-flag.spec) (λ κs a. a) (λ κs a r z. r)
@@ -30,9 +29,6 @@ one-choice = by-equation (result-set choice.ended) (λ w. refl) _ (λ w κs a r 
 
 pub one-coded-offset : OneAnswer coded-offset.ended (λ M. coded-offset.clauses) (λ M. coded-offset.spec) (λ κs a. a) (λ κs a r z. r)
 one-coded-offset = by-equation (result-set coded-offset.ended) (λ w. refl) _ (λ w κs a r z p. said (λ h. h) (p .holds))
-
-pub one-less : OneAnswer less.ended (λ M. less.clauses) (λ M. less.spec) (λ κs a. a) (λ κs a r z. r)
-one-less = by-equation (result-set less.ended) (λ w. refl) _ (λ w κs a r z p. said (λ h. h) (p .holds))
 
 pub one-ramp-bits : OneAnswer ramp-bits.ended (λ M. ramp-bits.clauses) (λ M. ramp-bits.spec) (λ κs a. a) (λ κs a r z. r)
 one-ramp-bits = by-equation (result-set ramp-bits.ended) (λ w. refl) _ (λ w κs a r z p. said (λ h. h) (p .holds))
@@ -55,9 +51,9 @@ one-opening =
     by-relation (result-set opening.ended) (λ w. refl) (λ a r. Packs r (openingBits (a .0) (a .1 .0))) (packed-once _)
     (λ w κs a r z p. both-said (λ h g. h) (p .holds))
 
-pub one-placing : OneAnswer placing.ended (λ M. placing.clauses) (λ M. placing.spec) (λ κs a. a) (λ κs a r z. r)
-one-placing =
-    by-relation (result-set placing.ended) (λ w. refl) (λ a r. Packs r (placingBits (a .0) (a .1 .0))) (packed-once _)
+pub one-positioning : OneAnswer positioning.ended (λ M. positioning.clauses) (λ M. positioning.spec) (λ κs a. a) (λ κs a r z. r)
+one-positioning =
+    by-relation (result-set positioning.ended) (λ w. refl) (λ a r. Packs r (positioningBits (a .0) (a .1 .0))) (packed-once _)
     (λ w κs a r z p. both-said (λ h g. h) (p .holds))
 
 pub one-around : OneAnswer around.ended (λ M. around.clauses) (λ M. around.spec) (λ κs a. a) (λ κs a r z. r)

@@ -2,9 +2,11 @@
 use mathlib.Core.Path.{refl}
 use Rattle.oamd.proofs.bed_labels as bed-labels
 use Rattle.oamd.proofs.both as both
+use Rattle.oamd.proofs.distance_code as distance-code
 use Rattle.oamd.proofs.flag as flag
 use Rattle.oamd.proofs.isf_objects as isf-objects
 use Rattle.oamd.proofs.kind_of as kind-of
+use Rattle.oamd.proofs.less as less
 use Rattle.oamd.proofs.ramp_code as ramp-code
 use Rattle.oamd.proofs.ramp_duration as ramp-duration
 use Rattle.oamd.proofs.sample_offset as sample-offset
@@ -25,6 +27,9 @@ one-bed-labels = by-equation (result-set bed-labels.ended) (λ w. refl) _ (λ w 
 pub one-isf-objects : OneAnswer isf-objects.ended (λ M. isf-objects.clauses) (λ M. isf-objects.spec) (λ κs a. a) (λ κs a r z. r)
 one-isf-objects = by-equation (result-set isf-objects.ended) (λ w. refl) _ (λ w κs a r z p. said (λ h. h) (p .holds))
 
+pub one-distance-code : OneAnswer distance-code.ended (λ M. distance-code.clauses) (λ M. distance-code.spec) (λ κs a. a) (λ κs a r z. r)
+one-distance-code = by-equation (result-set distance-code.ended) (λ w. refl) _ (λ w κs a r z p. said (λ h. h) (p .holds))
+
 pub one-ramp-code : OneAnswer ramp-code.ended (λ M. ramp-code.clauses) (λ M. ramp-code.spec) (λ κs a. a) (λ κs a r z. r)
 one-ramp-code = by-equation (result-set ramp-code.ended) (λ w. refl) _ (λ w κs a r z p. said (λ h. h) (p .holds))
 
@@ -33,3 +38,6 @@ one-ramp-duration = by-equation (result-set ramp-duration.ended) (λ w. refl) _ 
 
 pub one-sample-offset : OneAnswer sample-offset.ended (λ M. sample-offset.clauses) (λ M. sample-offset.spec) (λ κs a. a) (λ κs a r z. r)
 one-sample-offset = by-equation (result-set sample-offset.ended) (λ w. refl) _ (λ w κs a r z p. said (λ h. h) (p .holds))
+
+pub one-less : OneAnswer less.ended (λ M. less.clauses) (λ M. less.spec) (λ κs a. a) (λ κs a r z. r)
+one-less = by-equation (result-set less.ended) (λ w. refl) _ (λ w κs a r z p. said (λ h. h) (p .holds))

@@ -10,13 +10,13 @@ use Rattle.oamd.specs.declared.Scene.{Scene}
 use Rattle.oamd.specs.Programme.{set?}
 use Rattle.oamd.specs.Record.{carries}
 use Rattle.written.specs.Form.{statusBits, basicBits, renderBits, blockBits}
-use Rattle.coding.specs.Packing.{openingBits, placingBits, aroundBits, sizedBits, endingBits}
+use Rattle.coding.specs.Packing.{openingBits, positioningBits, aroundBits, sizedBits, endingBits}
 use Rattle.writer.specs.Parts.{middleBits}
 
 by-parts : (first : Bool) (s : Scene) (b : Bool)
     → openingBits first s ++ (only b (middleBits first s) ++ endingBits b s)
     ≡ toBits 1 (1 - s .active) ++ (statusBits (set? (s .active)) first ++ (only (set? (s .active)) (basicBits s) ++ (statusBits b first ++ (only b (renderBits first s) ++ toBits 1 0))))
-unfolding renderBits openingBits placingBits aroundBits sizedBits endingBits statusBits
+unfolding renderBits openingBits positioningBits aroundBits sizedBits endingBits statusBits
 by-parts first s true = simp append-assoc
 by-parts first s false = simp append-assoc
 
@@ -26,10 +26,10 @@ unfolding blockBits
 block-parts first s sent e = rw (← e) (by-parts first s sent)
 
 -- and so is its length
-pub middle-length : (on first : Bool) (s : Scene) (a b c : ℕ) → on ≡ true → a ≡ length (placingBits first s) → b ≡ length (aroundBits s) → c ≡ length (sizedBits s)
+pub middle-length : (on first : Bool) (s : Scene) (a b c : ℕ) → on ≡ true → a ≡ length (positioningBits first s) → b ≡ length (aroundBits s) → c ≡ length (sizedBits s)
     → a + b + c ≡ length (only on (middleBits first s))
 middle-length on first s a b c e f g h =
-    rw e (omega (arith, length-append (placingBits first s) (aroundBits s ++ sizedBits s), length-append (aroundBits s) (sizedBits s)))
+    rw e (omega (arith, length-append (positioningBits first s) (aroundBits s ++ sizedBits s), length-append (aroundBits s) (sizedBits s)))
 
 pub no-middle : (on first : Bool) (s : Scene) → on ≡ false → _≡_ {A = ℕ} 0 (length (only on (middleBits first s)))
 no-middle on first s e = rw e refl

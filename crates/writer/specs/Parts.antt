@@ -13,7 +13,7 @@ use Rattle.oamd.specs.Tables.{mostBeds, mostBlocks, recordStride}
 use Rattle.oamd.specs.Trim.{hasCentre, hasSurround, hasHeight, hasTb, hasLis, trimNeeded}
 use Rattle.oamd.specs.Record.{Record, carries}
 use Rattle.oamd.specs.Payload.{Tables}
-use Rattle.coding.specs.Packing.{placingBits, aroundBits, sizedBits}
+use Rattle.coding.specs.Packing.{positioningBits, aroundBits, sizedBits}
 use Rattle.written.specs.Valid.{recordCount}
 use Rattle.written.specs.Form.{divergenceBits, preciseBits, any, diverges, refines, objectElementBits, extendedElementBits, trimElementBits, formBits}
 use Rattle.written.specs.Answer.{tablesOf}
@@ -22,7 +22,7 @@ use Rattle.writer.specs.declared.Measures.{Measures}
 
 -- of a block whose render info is sent: what stands before screen and snap
 abbrev pub middleBits : Bool → Scene → List ℕ
-middleBits first s = placingBits first s ++ (aroundBits s ++ sizedBits s)
+middleBits first s = positioningBits first s ++ (aroundBits s ++ sizedBits s)
 
 -- one of the two groups of the extended element, of one record
 abbrev pub extraBits : Bool → Record → List ℕ

@@ -21,10 +21,10 @@ fn put_middle(first: bool, out: &mut [u8], at: BitPos, s: Scene) -> BitPos
     ensures { λ r. ⌜ Laid (now (out .entry)) (now (out .exit)) (at .0) (r .0) (middleBits first s) ⌝ }
     ensures { λ r. ⌜ r .0 ≤ at .0 + 52 ⌝ }
 {
-    let place = coding::placing(first, s);
+    let position = coding::positioning(first, s);
     let around = coding::around(s);
     let size = coding::sized(s);
-    let p = put_packed(out, at, place);
+    let p = put_packed(out, at, position);
     let p = put_packed(out, p, around);
     put_packed(out, p, size)
 }
@@ -59,10 +59,10 @@ fn middle_width(on: bool, first: bool, s: Scene) -> BitCount
     ensures { λ r. ⌜ (r .0 ≡ length (only on (middleBits first s))) × (r .0 ≤ 52) ⌝ }
 {
     if on {
-        let place = coding::placing(first, s).width;
+        let position = coding::positioning(first, s).width;
         let around = coding::around(s).width;
         let size = coding::sized(s).width;
-        return place.plus(around).plus(size);
+        return position.plus(around).plus(size);
     }
     BitCount::new(0)
 }

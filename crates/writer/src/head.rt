@@ -10,9 +10,9 @@ use crate::putting::put;
 use crate::putting::put_both;
 use crate::putting::put_if;
 use coding::choice;
-use coding::less;
 use oamd::Bed;
 use oamd::Programme;
+use oamd::less;
 use units::BitPos;
 
 // A count in 5 bits, and what it has above 31 in 7 more.

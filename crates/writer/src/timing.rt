@@ -14,7 +14,6 @@ use crate::putting::put_both;
 use crate::putting::put_if;
 use checks::sample_offset;
 use coding::coded_offset;
-use coding::less;
 use coding::ramp_bits;
 use coding::ramp_code;
 use coding::ramp_index;
@@ -22,6 +21,7 @@ use coding::ramp_indexed;
 use oamd::Offset;
 use oamd::Timing;
 use oamd::Update;
+use oamd::less;
 use units::BitPos;
 
 fn put_offset(out: &mut [u8], at: BitPos, o: Offset) -> BitPos

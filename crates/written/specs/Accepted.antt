@@ -19,11 +19,11 @@ use Rattle.oamd.specs.Timing.{timingOf}
 use Rattle.oamd.specs.Block.{object-info-block}
 use Rattle.oamd.specs.ObjectElement.{object-data, ObjectElement, object-element}
 use Rattle.oamd.specs.Extended.{Extension}
-use Rattle.oamd.specs.Trim.{Trim as TrimTable, trimOf}
+use Rattle.oamd.specs.Trim.{TrimTable, trimOf}
 use Rattle.oamd.specs.Record.{Record, allCarry, plainRecords, extendedRecords}
 use Rattle.oamd.specs.Element.{kind, framed, nothing, scenes, fields, State, passOver, readKnown, oa-element, oa-element-md, elements}
 use Rattle.oamd.specs.Payload.{Payload, object-audio-metadata-payload, noTiming, timing, records, tables}
-use Rattle.written.specs.Valid.{programmeValid, sampleOffset, updateValid, entriesValid, ranged, timingValid, firstBad, trimValid, Valid}
+use Rattle.written.specs.Valid.{betweenIf, programmeValid, sampleOffset, updateValid, entriesValid, timingValid, firstBad, trimValid, Valid}
 use Rattle.written.specs.Lemmas.AcceptedProgramme.{all-every, header-ensures}
 use Rattle.written.specs.Lemmas.AcceptedTiming.{TimingRead, timing-ensures, timing-valid}
 use Rattle.written.specs.Lemmas.AcceptedBlock.{BlockRead, block-ensures}
@@ -108,7 +108,7 @@ elements-ensure p alternate (suc n) st h =
 -- ---- the tables
 
 pub no-timing-valid : timingValid noTiming ≡ true
-unfolding timingValid ranged sampleOffset entriesValid updateValid
+unfolding timingValid sampleOffset entriesValid updateValid betweenIf
 no-timing-valid = refl
 
 -- valid records of an object element make valid tables

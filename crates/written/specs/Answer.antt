@@ -14,9 +14,9 @@ use Rattle.oamd.specs.declared.Divergence.{Divergence}
 use Rattle.oamd.specs.declared.Precise.{Precise}
 use Rattle.oamd.specs.declared.TrimConfig.{TrimConfig}
 use Rattle.oamd.specs.declared.WriteAnswer.{WriteAnswer}
-use Rattle.oamd.specs.Tables.{mostBytes, recordStride, trimConfigs, configBytes, trimFixed}
+use Rattle.oamd.specs.Tables.{mostBytes, recordStride, trimConfigs, configBytes, trimHead, perObjectByte, trimFixed}
 use Rattle.oamd.specs.Programme.{shares}
-use Rattle.oamd.specs.Trim.{Trim, trimNeeded}
+use Rattle.oamd.specs.Trim.{TrimTable, trimNeeded}
 use Rattle.oamd.specs.Record.{Record, recordOf, onto}
 use Rattle.oamd.specs.Payload.{Tables}
 use Rattle.oamd.specs.Answer.{needed}
@@ -32,7 +32,7 @@ sceneAt s at = record {
   class = getD s (at + 1) 0;
   gain = getD s (at + 2) 0;
   priority = getD s (at + 3) 0;
-  place = record { x = getD s (at + 4) 0; y = getD s (at + 5) 0; z = getD s (at + 6) 0; distance = getD s (at + 7) 0 };
+  location = record { x = getD s (at + 4) 0; y = getD s (at + 5) 0; z = getD s (at + 6) 0; distance = getD s (at + 7) 0 };
   volume = record { width = getD s (at + 8) 0; depth = getD s (at + 9) 0; height = getD s (at + 10) 0 };
   zone = record { index = getD s (at + 11) 0; elevation = getD s (at + 12) 0 };
   screen = record { used = getD s (at + 13) 0; factor = getD s (at + 14) 0; depth = getD s (at + 15) 0 };
@@ -81,13 +81,13 @@ bytesAt s zero at = []
 bytesAt s (suc n) at = getD s at 0 ∷ bytesAt s n (at + 1)
 
 -- the trim table of so many objects
-unfoldable pub trimAt : ℕ → List ℕ → Trim
+unfoldable pub trimAt : ℕ → List ℕ → TrimTable
 trimAt objects s = record {
   present = getD s 0 0;
   warp = getD s 1 0;
   mode = getD s 2 0;
-  configs = configsAt s trimConfigs 3;
-  per-object = getD s 93 0;
+  configs = configsAt s trimConfigs trimHead;
+  per-object = getD s perObjectByte 0;
   disabled = bytesAt s objects trimFixed;
 }
 

@@ -47,7 +47,7 @@ codedGain gain = record {
 
 -- the flag for a priority of 32 of 32, else 5 bits (5.6.1.3)
 unfoldable pub codedPriority : ℕ → Priority
-codedPriority priority = record { standard = asFlag (eqb priority 32); bits = pick (eqb priority 32) 0 priority }
+codedPriority priority = record { bydefault = asFlag (eqb priority 32); bits = pick (eqb priority 32) 0 priority }
 
 -- z's sign and size: 0, which either sign gives, with sign 0 (5.6.1.1.10, 5.6.1.1.11)
 unfoldable pub zSign : ℕ → ℕ

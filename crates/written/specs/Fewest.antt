@@ -11,18 +11,18 @@ use Rattle.bits.specs.Writes.{toBits, only, Spells, First}
 use Rattle.bits.specs.Spells.{s-give, s-bind, s-bits, s-if}
 use Rattle.bits.specs.First.{first-append}
 use Rattle.oamd.specs.declared.Status.the-variants.{Full}
-use Rattle.oamd.specs.declared.Place.{Place}
+use Rattle.oamd.specs.declared.Location.{Location}
 use Rattle.oamd.specs.Programme.{set?, clear?}
 use Rattle.oamd.specs.Reserved.{SampleOffsetCode, ObjectSizeIdx}
 use Rattle.oamd.specs.Timing.{sample-offset, block-update-info, offsetOf, updateOf}
 use Rattle.oamd.specs.Block.{object-basic-info, coordinates, distance, extent}
-use Rattle.oamd.specs.Meaning.{gainOf, priorityOf, placeOf, distanceOf, volumeOf}
+use Rattle.oamd.specs.Meaning.{gainOf, priorityOf, locationOf, distanceOf, volumeOf}
 use Rattle.written.specs.Coded.{codedOffset, codedUpdate, codedGain, codedPriority, codedDistance, codedExtent}
 use Rattle.written.specs.Lemmas.Codable.{offsetCodable, updateCodable, gainCodable, priorityCodable, distanceCodable, extentCodable}
 use Rattle.written.specs.Form.{offsetBits, updateBits, gainBits, priorityBits, positionBits, distanceBits, extentBits}
-use Rattle.written.specs.Lemmas.Facts.{whole}
+use Rattle.written.specs.Lemmas.Facts.{whole, always}
 use Rattle.written.specs.Lemmas.Unreserved.{under, s-unreserved}
-use Rattle.written.specs.Lemmas.AcceptedProgramme.{read-ranged, always}
+use Rattle.written.specs.Lemmas.AcceptedProgramme.{read-ranged}
 use Rattle.written.specs.Lemmas.FewestCodes.{gain-least, priority-least, distance-least, offset-least, update-least, across-least, z-least, extent-least}
 
 -- ---- timing (5.5.6, 5.5.7)
@@ -38,7 +38,7 @@ offset-fewest =
     let k = under SampleOffsetCode code (omega arith) (a refl) in
     rw (append-nil (only (eqb code 2) (toBits 5 n)))
     (offset-least (record { code = code; index = index; bits = n })
-    (whole _ _ (always 0 2 0 code (omega arith) (omega arith)) (whole _ _ (read-ranged (eqb code 1) 3 index b b')
+    (whole _ _ (always 0 2 code (omega arith) (omega arith)) (whole _ _ (read-ranged (eqb code 1) 3 index b b')
     (read-ranged (eqb code 2) 31 n c c'))) other)))))
 
 -- but for an index other than 15
@@ -54,7 +54,7 @@ update-fewest offset low =
     s-give _ _ (λ last.
     rw (append-nil (only (both (eqb code 3) (clear? indexed)) (toBits 11 n)))
     (update-least offset (record { bits = n; factor = factor; code = code; indexed = indexed; index = index }) low
-    (whole _ _ (always 0 63 0 factor (omega arith) (omega arith)) (whole _ _ (always 0 3 0 code (omega arith) (omega arith))
+    (whole _ _ (always 0 63 factor (omega arith) (omega arith)) (whole _ _ (always 0 3 code (omega arith) (omega arith))
     (whole _ _ (read-ranged (eqb code 3) 1 indexed i i')
     (whole _ _ (read-ranged (set? indexed) 15 index j j') (read-ranged (both (eqb code 3) (clear? indexed)) 2047 n b b'))))) last)))))))
 
@@ -68,25 +68,25 @@ basic-fewest above =
     s-bind _ _ _ (s-give _ _ (
     s-bind _ _ _ (s-bits 2 _ λ index a.
     s-bind _ _ _ (s-if (eqb index 2) 6 _ λ n b b'.
-    s-bind _ _ _ (s-bits 1 _ λ standard c.
-    s-bind _ _ _ (s-if (clear? standard) 5 _ λ m d d'.
+    s-bind _ _ _ (s-bits 1 _ λ bydefault c.
+    s-bind _ _ _ (s-if (clear? bydefault) 5 _ λ m d d'.
     s-give _ _ (λ other.
     rw (
-      append-nil (only (clear? standard) (toBits 5 m)),
+      append-nil (only (clear? bydefault) (toBits 5 m)),
       ← append-assoc (toBits 2 index) (only (eqb index 2) (toBits 6 n))
-          (toBits 1 standard ++ only (clear? standard) (toBits 5 m)),
+          (toBits 1 bydefault ++ only (clear? bydefault) (toBits 5 m)),
     )
     (first-append
-    (gain-least (record { index = index; bits = n }) above (whole _ _ (always 0 3 0 index (omega arith) (omega arith))
+    (gain-least (record { index = index; bits = n }) above (whole _ _ (always 0 3 index (omega arith) (omega arith))
     (read-ranged (eqb index 2) 63 n b b')) (omega arith))
-    (priority-least (record { standard = standard; bits = m }) (whole _ _ (always 0 1 0 standard (omega arith) (omega arith))
-    (read-ranged (clear? standard) 31 m d d')))))))))))
+    (priority-least (record { bydefault = bydefault; bits = m }) (whole _ _ (always 0 1 bydefault (omega arith) (omega arith))
+    (read-ranged (clear? bydefault) 31 m d d')))))))))))
 
 -- ---- absolute position, distance, size (5.5.11)
 
 -- x = 62 as 62, y likewise, and z = 0 with sign 0
-pub coordinates-fewest : (distance : ℕ) (before : Place) → Spells coordinates (λ l p. First (positionBits true (placeOf p distance before)) l)
-unfolding coordinates positionBits placeOf
+pub coordinates-fewest : (distance : ℕ) (before : Location) → Spells coordinates (λ l p. First (positionBits true (locationOf p distance before)) l)
+unfolding coordinates positionBits locationOf
 coordinates-fewest distance before =
     s-bind _ _ _ (s-bits 6 _ λ x a.
     s-bind _ _ _ (s-bits 6 _ λ y b.
@@ -102,7 +102,7 @@ distance-fewest =
     s-bind _ _ _ (s-if (both (set? given) (clear? infinite)) 4 _ λ index c c'.
     s-give _ _ (rw (append-nil (only (both (set? given) (clear? infinite)) (toBits 4 index)))
     (distance-least (record { given = given; infinite = infinite; index = index })
-    (whole _ _ (always 0 1 0 given (omega arith) (omega arith)) (whole _ _ (read-ranged (set? given) 1 infinite b b')
+    (whole _ _ (always 0 1 given (omega arith) (omega arith)) (whole _ _ (read-ranged (set? given) 1 infinite b b')
     (read-ranged (both (set? given) (clear? infinite)) 15 index c c'))))))))
 
 pub extent-fewest : Spells (extent true) (λ l e. First (extentBits (codedExtent (volumeOf e))) l)
@@ -116,6 +116,6 @@ extent-fewest =
     let k = under ObjectSizeIdx index (omega arith) (a refl) in
     s-give _ _ (rw (append-nil (only (eqb index 2) (toBits 5 h)))
     (extent-least (record { index = index; all = n; width = w; depth = d; height = h })
-    (whole _ _ (always 0 2 0 index (omega arith) (omega arith)) (whole _ _ (read-ranged (eqb index 1) 31 n b b')
+    (whole _ _ (always 0 2 index (omega arith) (omega arith)) (whole _ _ (read-ranged (eqb index 1) 31 n b b')
     (whole _ _ (read-ranged (eqb index 2) 31 w c c')
     (whole _ _ (read-ranged (eqb index 2) 31 d e e') (read-ranged (eqb index 2) 31 h f f'))))))))))))

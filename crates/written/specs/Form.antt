@@ -13,7 +13,7 @@ use Rattle.oamd.specs.declared.BlockUpdate.{BlockUpdate}
 use Rattle.oamd.specs.declared.Timing.{Timing}
 use Rattle.oamd.specs.declared.Gain.{Gain}
 use Rattle.oamd.specs.declared.Priority.{Priority}
-use Rattle.oamd.specs.declared.Place.{Place}
+use Rattle.oamd.specs.declared.Location.{Location}
 use Rattle.oamd.specs.declared.Distance.{Distance}
 use Rattle.oamd.specs.declared.Zone.{Zone}
 use Rattle.oamd.specs.declared.Extent.{Extent}
@@ -24,7 +24,7 @@ use Rattle.oamd.specs.declared.Precise.{Precise}
 use Rattle.oamd.specs.declared.TrimConfig.{TrimConfig}
 use Rattle.oamd.specs.Programme.{set?, clear?, hasBeds, hasIsf, hasDynamic}
 use Rattle.oamd.specs.Extended.{hasX, hasY, hasZ}
-use Rattle.oamd.specs.Trim.{hasCentre, hasSurround, hasHeight, hasTb, hasLis, Trim}
+use Rattle.oamd.specs.Trim.{hasCentre, hasSurround, hasHeight, hasTb, hasLis, TrimTable}
 use Rattle.oamd.specs.Record.{Record, carries}
 use Rattle.oamd.specs.Payload.{Tables}
 use Rattle.written.specs.Valid.{sampleOffset}
@@ -91,10 +91,10 @@ unfoldable pub gainBits : Gain → List ℕ
 gainBits g = toBits 2 (g .index) ++ only (eqb (g .index) 2) (toBits 6 (g .bits))
 
 unfoldable pub priorityBits : Priority → List ℕ
-priorityBits p = toBits 1 (p .standard) ++ only (clear? (p .standard)) (toBits 5 (p .bits))
+priorityBits p = toBits 1 (p .bydefault) ++ only (clear? (p .bydefault)) (toBits 5 (p .bits))
 
 -- an absolute position; in a later block it says that it is one
-unfoldable pub positionBits : Bool → Place → List ℕ
+unfoldable pub positionBits : Bool → Location → List ℕ
 positionBits first p =
     only (not first) (toBits 1 0) ++ (toBits 6 (p .x) ++ (toBits 6 (p .y) ++ (toBits 1 (zSign (p .z)) ++ toBits 4 (zBits (p .z)))))
 
@@ -121,8 +121,8 @@ basicBits s = gainBits (codedGain (s .gain)) ++ priorityBits (codedPriority (s .
 
 unfoldable pub renderBits : Bool → Scene → List ℕ
 renderBits first s =
-    positionBits first (s .place)
-    ++ (distanceBits (codedDistance (s .place .distance))
+    positionBits first (s .location)
+    ++ (distanceBits (codedDistance (s .location .distance))
     ++ (zoneBits (s .zone) ++ (extentBits (codedExtent (s .volume)) ++ (screenBits (s .screen) ++ toBits 1 (s .snap)))))
 
 -- no additional table data
@@ -201,7 +201,7 @@ configBits c =
     ++ (only (hasLis (c .presence)) (toBits 1 (c .lissign)) ++ only (hasLis (c .presence)) (toBits 4 (c .lisamount))))))))))
 
 -- the two reserved bits are 0
-unfoldable pub trimElementBits : Trim → List ℕ
+unfoldable pub trimElementBits : TrimTable → List ℕ
 trimElementBits t =
     toBits 2 (t .warp)
     ++ (toBits 2 0
@@ -243,7 +243,7 @@ unfoldable pub hasExtended : List Record → Bool
 hasExtended rs = pick (any diverges rs) true (any refines rs)
 
 -- a trim element if the trim table has it
-abbrev pub hasTrim : Trim → Bool
+abbrev pub hasTrim : TrimTable → Bool
 hasTrim t = set? (t .present)
 
 unfoldable pub formBits : Tables → List ℕ

@@ -23,7 +23,7 @@ use Rattle.oamd.specs.Meaning.{idle}
 use Rattle.oamd.specs.Record.{Record, recordOf}
 use Rattle.oamd.specs.Payload.{Payload, Tables, tables}
 use Rattle.demands.specs.Terms.{parsed}
-use Rattle.written.specs.Valid.{ranged, placeValid, volumeValid, zoneValid, screenValid, sceneValid, divergenceValid, preciseValid, recordValid, programmeValid, timingValid, recordCount, Valid}
+use Rattle.written.specs.Valid.{betweenIf, locationValid, volumeValid, zoneValid, screenValid, sceneValid, divergenceValid, preciseValid, recordValid, programmeValid, timingValid, recordCount, Valid}
 use Rattle.written.specs.Form.{statusBits, blockBits, objectElementBits, any, hasObject, hasExtended, formBits, form}
 use Rattle.written.specs.Lemmas.Facts.{whole}
 use Rattle.written.specs.Lemmas.ProgrammeBack.{programme-facts, beds-le}
@@ -60,7 +60,7 @@ abbrev idleTables : Programme → Timing → Tables
 idleTables p t = record { programme = p; timing = t; records = idleRecords (shares p) (t .blocks) 0 (recordCount p t); trim = noTrim (p .objects) }
 
 idle-valid : (class : ℕ) → recordValid class (recordOf (idle class) noDivergence noPrecise) ≡ true
-unfolding recordValid sceneValid placeValid volumeValid zoneValid screenValid divergenceValid preciseValid ranged
+unfolding recordValid sceneValid locationValid volumeValid zoneValid screenValid divergenceValid preciseValid betweenIf
 idle-valid class = whole _ _ (whole _ _ (eq-eqb class class refl) refl) refl
 
 pub all-idle : (s : Shares) (blocks i n : ℕ) → ValidFrom s blocks i (idleRecords s blocks i n)

@@ -15,7 +15,7 @@ use Rattle.oamd.specs.Timing.{noUpdate}
 use Rattle.oamd.specs.Trim.{noTrim}
 use Rattle.oamd.specs.Record.{Record}
 use Rattle.oamd.specs.Payload.{Tables}
-use Rattle.written.specs.Valid.{ranged, bedValid, entriesValid, programmeValid, sampleOffset, updateValid, timingValid, recordValid, Valid}
+use Rattle.written.specs.Valid.{betweenIf, bedValid, entriesValid, programmeValid, sampleOffset, updateValid, timingValid, recordValid, Valid}
 use Rattle.written.specs.Form.{hasObject, hasExtended, hasTrim, formBits, form}
 use Rattle.written.specs.Lemmas.Facts.{by-eq}
 use Rattle.written.specs.Lemmas.ProgrammeBack.{programme-facts, beds-le}
@@ -79,7 +79,7 @@ record Fit (class : ℕ) : Type 0 where
   first : classOf (shares programme) (0 / 1) ≡ class
 
 fit : (class : ℕ) → class ≤ 2 → Fit class
-unfolding programmeValid ranged entriesValid bedValid agrees named allBeds bedObjects labels shares classOf
+unfolding programmeValid entriesValid bedValid agrees named allBeds bedObjects labels shares classOf betweenIf
 fit class h = by-eq class 0
     (λ e. rw e (record { programme = bedless 1 1 1 0; valid = refl; few = omega arith; some = omega arith; first = refl }))
     (λ m. by-eq class 1
@@ -89,7 +89,7 @@ fit class h = by-eq class 0
     rw e (record { programme = bedless 1 1 0 0; valid = refl; few = omega arith; some = omega arith; first = refl })))
 
 one-block-valid : timingValid oneBlock ≡ true
-unfolding timingValid ranged sampleOffset entriesValid updateValid
+unfolding timingValid sampleOffset entriesValid updateValid betweenIf
 one-block-valid = refl
 
 -- ---- the statement

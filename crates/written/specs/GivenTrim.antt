@@ -10,7 +10,7 @@ use native.Mathlib.Nat.{mul-zero}
 use lib.ListN.{length, take, drop, take-append-drop}
 use Rattle.oamd.specs.declared.Programme.{Programme}
 use Rattle.oamd.specs.Programme.{hasReserved}
-use Rattle.oamd.specs.Trim.{Trim, trimBytesOf, trimNeeded}
+use Rattle.oamd.specs.Trim.{TrimTable, trimBytesOf, trimNeeded}
 use Rattle.oamd.specs.Payload.{Tables, noTiming, tables}
 use Rattle.written.specs.Valid.{programmeValid, firstBad, trimValid, Valid}
 use Rattle.written.specs.Answer.{trimAt}
@@ -23,11 +23,11 @@ use Rattle.written.specs.Given.{GivenBy, form-gives}
 use Rattle.written.specs.GivenRecord.{few-fit}
 
 -- this programme, and a trim table of which Q holds
-abbrev pub TrimGiven : Programme → (Trim → Type 0) → Type 0
+abbrev pub TrimGiven : Programme → (TrimTable → Type 0) → Type 0
 TrimGiven p Q = GivenBy (λ t. (t .programme ≡ p) × Q (t .trim))
 
 -- this trim table
-abbrev pub TrimGivenBy : Programme → Trim → Type 0
+abbrev pub TrimGivenBy : Programme → TrimTable → Type 0
 TrimGivenBy p x = TrimGiven p (λ t. t ≡ x)
 
 -- the trim table that has these bytes
@@ -36,10 +36,10 @@ TrimBytesGivenBy p s = TrimGiven p (λ t. trimBytesOf t ≡ take (trimNeeded (p 
 
 module _ (p : Programme) (v : programmeValid p ≡ true) where
   -- no update, no record, and this trim table
-  abbrev bare : Trim → Tables
+  abbrev bare : TrimTable → Tables
   bare x = record { programme = p; timing = noTiming; records = []; trim = x }
 
-  bare-valid : (x : Trim) → trimValid (p .objects) x ≡ true → Valid (bare x)
+  bare-valid : (x : TrimTable) → trimValid (p .objects) x ≡ true → Valid (bare x)
   unfolding firstBad
   bare-valid x h = record {
     programme = v;
@@ -50,11 +50,11 @@ module _ (p : Programme) (v : programmeValid p ≡ true) where
   }
 
   -- a valid one is given
-  given : (Q : Trim → Type 0) (x : Trim) → trimValid (p .objects) x ≡ true → Q x → TrimGiven p Q
+  given : (Q : TrimTable → Type 0) (x : TrimTable) → trimValid (p .objects) x ≡ true → Q x → TrimGiven p Q
   given Q x h q = form-gives _ (bare x) (bare-valid x h) (few-fit (bare x) (bare-valid x h) (omega arith)) (refl, q)
 
   -- and what is given is valid
-  given-valid : (Q : Trim → Type 0) (g : TrimGiven p Q)
+  given-valid : (Q : TrimTable → Type 0) (g : TrimGiven p Q)
       → trimValid (p .objects) (tables (g .payload .programme) (g .payload .known) .trim) ≡ true
   unfolding tables
   given-valid Q g =
@@ -65,11 +65,11 @@ module _ (p : Programme) (v : programmeValid p ≡ true) where
 
   -- ---- the statements
 
-  pub trim-given : (x : Trim) → (trimValid (p .objects) x ≡ true) ↔ TrimGivenBy p x
-  trim-given x = (λ h. given _ x h refl, λ g. subst (λ (t : Trim). trimValid (p .objects) t ≡ true) (g .gives .1) (given-valid _ g))
+  pub trim-given : (x : TrimTable) → (trimValid (p .objects) x ≡ true) ↔ TrimGivenBy p x
+  trim-given x = (λ h. given _ x h refl, λ g. subst (λ (t : TrimTable). trimValid (p .objects) t ≡ true) (g .gives .1) (given-valid _ g))
 
   -- in the words of the document
-  pub trim-bad : (x : Trim) → (trimValid (p .objects) x ≡ false) ↔ (TrimGivenBy p x → ⊥)
+  pub trim-bad : (x : TrimTable) → (trimValid (p .objects) x ≡ false) ↔ (TrimGivenBy p x → ⊥)
   trim-bad x = (
     (λ q g. false≢true (sym q ∙ trim-given x .1 g)),
     (λ n. by-test (trimValid (p .objects) x) (λ q. absurd (n (trim-given x .0 q))) (λ q. q)),
@@ -81,7 +81,7 @@ module _ (p : Programme) (v : programmeValid p ≡ true) where
   trim-bytes-given s enough = (
     (λ h. given _ (trimAt (p .objects) s) h (trim-bytes (p .objects) s enough)),
     (λ g.
-        let t : Trim = tables (g .payload .programme) (g .payload .known) .trim in
+        let t : TrimTable = tables (g .payload .programme) (g .payload .known) .trim in
         let h : trimValid (p .objects) t ≡ true = given-valid _ g in
         let f = trim-facts (p .objects) t h in
         let tail : List ℕ = drop (trimNeeded (p .objects)) s in

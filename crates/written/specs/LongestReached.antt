@@ -8,10 +8,10 @@ use Rattle.oamd.specs.declared.Programme.{Programme}
 use Rattle.oamd.specs.declared.Timing.{Timing}
 use Rattle.oamd.specs.Programme.{bedOf, agrees, named, shares, allBeds, bedObjects, labels, classOf}
 use Rattle.oamd.specs.Timing.{samples}
-use Rattle.oamd.specs.Trim.{Trim}
+use Rattle.oamd.specs.Trim.{TrimTable}
 use Rattle.oamd.specs.Record.{Record}
 use Rattle.oamd.specs.Payload.{Tables}
-use Rattle.written.specs.Valid.{ranged, entriesValid, bedValid, programmeValid, sampleOffset, updateValid, timingValid, placeValid, volumeValid, zoneValid, screenValid, sceneValid, divergenceValid, preciseValid, recordValid, firstBad, configValid, trimValid, Valid}
+use Rattle.written.specs.Valid.{betweenIf, entriesValid, bedValid, programmeValid, sampleOffset, updateValid, timingValid, locationValid, volumeValid, zoneValid, screenValid, sceneValid, divergenceValid, preciseValid, recordValid, firstBad, configValid, trimValid, Valid}
 use Rattle.written.specs.Coded.{codedOffset, rampCode, codedUpdate, gainIndex, codedGain, codedPriority, zSign, zBits, codedDistance, sizeIndex, codedExtent}
 use Rattle.written.specs.Form.{countBits, bedBits, bedsBits, assignmentBits, headerBits, offsetBits, updateBits, timingBits, statusBits, gainBits, priorityBits, positionBits, distanceBits, zoneBits, extentBits, screenBits, basicBits, renderBits, blockBits, byObject, objectDataBits, objectElementBits, divergenceBits, preciseBits, any, extendedElementBits, configBits, trimElementBits, groupBits, sizeBits, sizeFor, framedBits, elementBits, hasExtended, formBits, form}
 
@@ -43,7 +43,7 @@ fullRecord = record {
     class = 2;
     gain = 1;
     priority = 1;
-    place = record { x = 1; y = 1; z = 65; distance = 2 };
+    location = record { x = 1; y = 1; z = 65; distance = 2 };
     volume = record { width = 1; depth = 2; height = 3 };
     zone = record { index = 1; elevation = 1 };
     screen = record { used = 1; factor = 1; depth = 1 };
@@ -53,7 +53,7 @@ fullRecord = record {
   precise = record { presence = 7; x = 1; y = 1; z = 1 };
 }
 
-fullTrim : Trim
+fullTrim : TrimTable
 fullTrim = record {
   present = 1;
   warp = 0;
@@ -78,7 +78,7 @@ pub fullTables : Tables
 fullTables = record { programme = fullProgramme; timing = fullTiming; records = replicate 1272 fullRecord; trim = fullTrim }
 
 pub full-valid : Valid fullTables
-unfolding fullTables fullProgramme fullTiming fullRecord fullTrim programmeValid ranged entriesValid bedValid agrees named shares allBeds bedObjects labels classOf timingValid sampleOffset updateValid firstBad recordValid sceneValid placeValid volumeValid zoneValid screenValid divergenceValid preciseValid trimValid configValid
+unfolding fullTables fullProgramme fullTiming fullRecord fullTrim programmeValid entriesValid bedValid agrees named shares allBeds bedObjects labels classOf timingValid sampleOffset updateValid firstBad recordValid sceneValid locationValid volumeValid zoneValid screenValid divergenceValid preciseValid trimValid configValid betweenIf
 full-valid = record { programme = refl; timing = refl; count = refl; records = refl; trim = refl }
 
 full-bits : length (formBits fullTables) ≡ 115845

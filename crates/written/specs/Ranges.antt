@@ -14,7 +14,7 @@ use Rattle.oamd.specs.Timing.{noUpdate}
 use Rattle.oamd.specs.declared.Shares.{Shares}
 use Rattle.oamd.specs.Programme.{shares, classOf}
 use Rattle.oamd.specs.Record.{Record, carries, onto}
-use Rattle.oamd.specs.Trim.{Trim, trimBytesOf, trimNeeded}
+use Rattle.oamd.specs.Trim.{TrimTable, trimBytesOf, trimNeeded}
 use Rattle.oamd.specs.Lengths.{length-trim}
 use Rattle.oamd.specs.Payload.{Payload, object-audio-metadata-payload, tables}
 use Rattle.oamd.specs.Answer.{Outcome, reading}
@@ -38,10 +38,10 @@ pub record InRange (r : Record) : Type 0 where
   pub class : r .scene .class ≤ 2
   pub gain : r .scene .gain ≤ 65
   pub priority : r .scene .priority ≤ 32
-  pub x : r .scene .place .x ≤ 62
-  pub y : r .scene .place .y ≤ 62
-  pub z : (49 ≤ r .scene .place .z) × (r .scene .place .z ≤ 79)
-  pub distance : r .scene .place .distance ≤ 17
+  pub x : r .scene .location .x ≤ 62
+  pub y : r .scene .location .y ≤ 62
+  pub z : (49 ≤ r .scene .location .z) × (r .scene .location .z ≤ 79)
+  pub distance : r .scene .location .distance ≤ 17
   pub width : r .scene .volume .width ≤ 31
   pub depth : r .scene .volume .depth ≤ 31
   pub height : r .scene .volume .height ≤ 31
@@ -176,7 +176,7 @@ pub record ReadInRange (o : Outcome) : Type 0 where
   pub trim-laid : (n : ℕ) → n < trimNeeded (o .answer .programme .objects) → getD (o .trim) n 0 < 256
 
 -- the bytes of a valid trim table, whatever stands behind them
-trim-bytes-small : (objects : ℕ) (t : Trim) (trim : List ℕ) → trimValid objects t ≡ true → (n : ℕ) → n < trimNeeded objects
+trim-bytes-small : (objects : ℕ) (t : TrimTable) (trim : List ℕ) → trimValid objects t ≡ true → (n : ℕ) → n < trimNeeded objects
     → getD (onto (trimBytesOf t) trim) n 0 < 256
 unfolding onto
 trim-bytes-small objects t trim v n l =

@@ -7,13 +7,13 @@ use mathlib.Core.List.{List, [], _∷_}
 use Prim.Native.Nat.{ℕ, suc, _+_, _-_, _*_, _/_, _%_}
 use lib.Dec.{leb, eqb}
 use lib.ListN.{length, getD}
-use Rattle.bits.specs.Language.{pick, both}
+use Rattle.bits.specs.Language.{pick, both, between}
 use Rattle.oamd.specs.declared.Bed.{Bed}
 use Rattle.oamd.specs.declared.Programme.{Programme}
 use Rattle.oamd.specs.declared.Shares.{Shares}
 use Rattle.oamd.specs.declared.Update.{Update}
 use Rattle.oamd.specs.declared.Timing.{Timing}
-use Rattle.oamd.specs.declared.Place.{Place}
+use Rattle.oamd.specs.declared.Location.{Location}
 use Rattle.oamd.specs.declared.Volume.{Volume}
 use Rattle.oamd.specs.declared.Zone.{Zone}
 use Rattle.oamd.specs.declared.Screen.{Screen}
@@ -23,9 +23,9 @@ use Rattle.oamd.specs.declared.Precise.{Precise}
 use Rattle.oamd.specs.declared.TrimConfig.{TrimConfig}
 use Rattle.oamd.specs.Tables.{mostObjects, mostBlocks, mostBeds, trimConfigs}
 use Rattle.oamd.specs.Programme.{set?, clear?, hasBeds, hasIsf, hasDynamic, hasReserved, bedInstances, agrees, shares, classOf}
-use Rattle.oamd.specs.Meaning.{zeroDb, zeroZ}
+use Rattle.oamd.specs.Meaning.{zeroDb, zeroZ, defaultLocation, defaultZone}
 use Rattle.oamd.specs.Extended.{hasX, hasY, hasZ}
-use Rattle.oamd.specs.Trim.{hasCentre, hasSurround, hasHeight, hasTb, hasLis, Trim}
+use Rattle.oamd.specs.Trim.{hasCentre, hasSurround, hasHeight, hasTb, hasLis, TrimTable}
 use Rattle.oamd.specs.Record.{Record, carries}
 use Rattle.oamd.specs.Payload.{Tables}
 
@@ -34,9 +34,9 @@ infixr 30 _and_
 abbrev pub _and_ : Bool → Bool → Bool
 s and t = both s t
 
--- a value from low to high where it is carried; elsewhere the default
-unfoldable pub ranged : Bool → ℕ → ℕ → ℕ → ℕ → Bool
-ranged carried low high default v = pick carried (leb low v and leb v high) (eqb v default)
+-- a value from low to high where it is carried; elsewhere it is 0
+unfoldable pub betweenIf : Bool → ℕ → ℕ → ℕ → Bool
+betweenIf carried low high v = pick carried (between low high v) (eqb v 0)
 
 -- entries of an array, each by whether it is used: the first n are
 unfoldable pub entriesValid : {A : Type 0} → (Bool → A → Bool) → ℕ → List A → Bool
@@ -48,25 +48,25 @@ entriesValid valid n (a ∷ rest) = valid (leb 1 n) a and entriesValid valid (n 
 -- an entry of the beds
 unfoldable pub bedValid : Bool → Bed → Bool
 bedValid used b =
-    ranged used 0 1 0 (b .lfeonly)
-    and ranged (used and clear? (b .lfeonly)) 0 1 0 (b .standard)
-    and ranged (used and clear? (b .lfeonly)) 0 (pick (set? (b .standard)) 1023 131071) 0 (b .assignment)
+    betweenIf used 0 1 (b .lfeonly)
+    and betweenIf (used and clear? (b .lfeonly)) 0 1 (b .standard)
+    and betweenIf (used and clear? (b .lfeonly)) 0 (pick (set? (b .standard)) 1023 131071) (b .assignment)
 
 unfoldable pub programmeValid : Programme → Bool
 programmeValid p =
-    ranged true 1 mostObjects 0 (p .objects)
-    and ranged true 0 1 0 (p .dynonly)
-    and ranged (set? (p .dynonly)) 0 1 0 (p .lfe)
-    and ranged (clear? (p .dynonly)) 0 15 0 (p .content)
+    between 1 mostObjects (p .objects)
+    and between 0 1 (p .dynonly)
+    and betweenIf (set? (p .dynonly)) 0 1 (p .lfe)
+    and betweenIf (clear? (p .dynonly)) 0 15 (p .content)
     and not (hasReserved (p .content))
-    and ranged (hasBeds (p .content)) 0 1 0 (p .distribute)
-    and ranged (hasBeds (p .content)) 0 1 0 (p .multiple)
-    and ranged (set? (p .multiple)) 0 7 0 (p .instances)
+    and betweenIf (hasBeds (p .content)) 0 1 (p .distribute)
+    and betweenIf (hasBeds (p .content)) 0 1 (p .multiple)
+    and betweenIf (set? (p .multiple)) 0 7 (p .instances)
     and eqb (p .bedcount) (bedInstances (p .content) (p .multiple) (p .instances))
     and eqb (length (p .beds)) mostBeds
     and entriesValid bedValid (p .bedcount) (p .beds)
-    and ranged (hasIsf (p .content)) 0 5 0 (p .isf)
-    and ranged (hasDynamic (p .content)) 0 158 0 (p .dynamics)
+    and betweenIf (hasIsf (p .content)) 0 5 (p .isf)
+    and betweenIf (hasDynamic (p .content)) 0 158 (p .dynamics)
     and agrees p
 
 -- ---- the timing (5.5.6, 5.5.7)
@@ -82,48 +82,49 @@ sampleOffset t = firstStart (t .updates) % 32
 -- an entry of the updates, beside that offset
 unfoldable pub updateValid : ℕ → Bool → Update → Bool
 updateValid offset used u =
-    ranged used 0 2047 0 (u .start .0) and eqb (u .start .0 % 32) (pick used offset 0) and ranged used 0 2048 0 (u .ramp .0)
+    betweenIf used 0 2047 (u .start .0) and eqb (u .start .0 % 32) (pick used offset 0) and betweenIf used 0 2048 (u .ramp .0)
 
 unfoldable pub timingValid : Timing → Bool
 timingValid t =
-    ranged true 0 mostBlocks 0 (t .blocks)
+    between 0 mostBlocks (t .blocks)
     and eqb (length (t .updates)) mostBlocks
     and entriesValid (updateValid (sampleOffset t)) (t .blocks) (t .updates)
 
 -- ---- a record
 
 -- bytes 4 to 7
-unfoldable pub placeValid : Bool → Place → Bool
-placeValid sent p =
-    ranged sent 0 62 31 (p .x)
-    and ranged sent 0 62 31 (p .y)
-    and ranged sent (zeroZ - 15) (zeroZ + 15) zeroZ (p .z)
-    and ranged sent 0 17 0 (p .distance)
+unfoldable pub locationValid : Bool → Location → Bool
+locationValid sent p =
+    pick sent (between 0 62 (p .x)) (eqb (p .x) (defaultLocation .x))
+    and pick sent (between 0 62 (p .y)) (eqb (p .y) (defaultLocation .y))
+    and pick sent (between (zeroZ - 15) (zeroZ + 15) (p .z)) (eqb (p .z) (defaultLocation .z))
+    and betweenIf sent 0 17 (p .distance)
 
 -- bytes 8 to 10
 unfoldable pub volumeValid : Bool → Volume → Bool
-volumeValid sent v = ranged sent 0 31 0 (v .width) and ranged sent 0 31 0 (v .depth) and ranged sent 0 31 0 (v .height)
+volumeValid sent v = betweenIf sent 0 31 (v .width) and betweenIf sent 0 31 (v .depth) and betweenIf sent 0 31 (v .height)
 
 -- bytes 11 and 12
 unfoldable pub zoneValid : Bool → Zone → Bool
-zoneValid sent z = ranged sent 0 5 0 (z .index) and ranged sent 0 1 1 (z .elevation)
+zoneValid sent z =
+    betweenIf sent 0 5 (z .index) and pick sent (between 0 1 (z .elevation)) (eqb (z .elevation) (defaultZone .elevation))
 
 -- bytes 13 to 15
 unfoldable pub screenValid : Bool → Screen → Bool
-screenValid sent s = ranged sent 0 1 0 (s .used) and ranged (set? (s .used)) 0 7 0 (s .factor) and ranged (set? (s .used)) 0 3 0 (s .depth)
+screenValid sent s = betweenIf sent 0 1 (s .used) and betweenIf (set? (s .used)) 0 7 (s .factor) and betweenIf (set? (s .used)) 0 3 (s .depth)
 
 -- bytes 0 to 16, of an object of a class: an inactive record, and what is sent of dynamic objects only, has the defaults (Tables 28 and 29)
 unfoldable pub sceneValid : ℕ → Scene → Bool
 sceneValid class s =
-    ranged true 0 1 0 (s .active)
+    between 0 1 (s .active)
     and eqb (s .class) class
-    and ranged (set? (s .active)) 0 (zeroDb + 15) 0 (s .gain)
-    and ranged (set? (s .active)) 0 32 0 (s .priority)
-    and placeValid (carries s) (s .place)
+    and betweenIf (set? (s .active)) 0 (zeroDb + 15) (s .gain)
+    and betweenIf (set? (s .active)) 0 32 (s .priority)
+    and locationValid (carries s) (s .location)
     and volumeValid (carries s) (s .volume)
     and zoneValid (carries s) (s .zone)
     and screenValid (carries s) (s .screen)
-    and ranged (carries s) 0 1 0 (s .snap)
+    and betweenIf (carries s) 0 1 (s .snap)
 
 -- by object_div_mode: an index of 2 bits; nothing; a code of 6 bits, 0 reserved (5.5.14)
 abbrev pub leastDivergence : ℕ → ℕ
@@ -135,17 +136,17 @@ mostDivergence mode = getD (3 ∷ 0 ∷ 63 ∷ []) mode 0
 -- bytes 17 to 19
 unfoldable pub divergenceValid : Bool → Divergence → Bool
 divergenceValid sent d =
-    ranged sent 0 1 0 (d .used)
-    and ranged (set? (d .used)) 0 2 0 (d .mode)
-    and ranged (set? (d .used)) (leastDivergence (d .mode)) (mostDivergence (d .mode)) 0 (d .value)
+    betweenIf sent 0 1 (d .used)
+    and betweenIf (set? (d .used)) 0 2 (d .mode)
+    and betweenIf (set? (d .used)) (leastDivergence (d .mode)) (mostDivergence (d .mode)) (d .value)
 
 -- bytes 20 to 23
 unfoldable pub preciseValid : Bool → Precise → Bool
 preciseValid sent p =
-    ranged sent 0 7 0 (p .presence)
-    and ranged (hasX (p .presence)) 0 3 0 (p .x)
-    and ranged (hasY (p .presence)) 0 3 0 (p .y)
-    and ranged (hasZ (p .presence)) 0 3 0 (p .z)
+    betweenIf sent 0 7 (p .presence)
+    and betweenIf (hasX (p .presence)) 0 3 (p .x)
+    and betweenIf (hasY (p .presence)) 0 3 (p .y)
+    and betweenIf (hasZ (p .presence)) 0 3 (p .z)
 
 unfoldable pub recordValid : ℕ → Record → Bool
 recordValid class r =
@@ -161,28 +162,28 @@ firstBad s blocks i (r ∷ rs) = pick (recordValid (classOf s (i / blocks)) r) (
 -- a configuration, by whether it is sent
 unfoldable pub configValid : Bool → TrimConfig → Bool
 configValid sent c =
-    ranged sent 0 1 0 (c .bydefault)
-    and ranged (sent and clear? (c .bydefault)) 0 1 0 (c .disabled)
-    and ranged (sent and clear? (c .bydefault) and clear? (c .disabled)) 0 31 0 (c .presence)
-    and ranged (hasCentre (c .presence)) 0 15 0 (c .centre)
-    and ranged (hasSurround (c .presence)) 4 15 0 (c .surround)
-    and ranged (hasHeight (c .presence)) 4 15 0 (c .height)
-    and ranged (hasTb (c .presence)) 0 1 0 (c .tbsign)
-    and ranged (hasTb (c .presence)) 0 15 0 (c .tbamount)
-    and ranged (hasLis (c .presence)) 0 1 0 (c .lissign)
-    and ranged (hasLis (c .presence)) 0 15 0 (c .lisamount)
+    betweenIf sent 0 1 (c .bydefault)
+    and betweenIf (sent and clear? (c .bydefault)) 0 1 (c .disabled)
+    and betweenIf (sent and clear? (c .bydefault) and clear? (c .disabled)) 0 31 (c .presence)
+    and betweenIf (hasCentre (c .presence)) 0 15 (c .centre)
+    and betweenIf (hasSurround (c .presence)) 4 15 (c .surround)
+    and betweenIf (hasHeight (c .presence)) 4 15 (c .height)
+    and betweenIf (hasTb (c .presence)) 0 1 (c .tbsign)
+    and betweenIf (hasTb (c .presence)) 0 15 (c .tbamount)
+    and betweenIf (hasLis (c .presence)) 0 1 (c .lissign)
+    and betweenIf (hasLis (c .presence)) 0 15 (c .lisamount)
 
 -- of so many objects
-unfoldable pub trimValid : ℕ → Trim → Bool
+unfoldable pub trimValid : ℕ → TrimTable → Bool
 trimValid objects t =
-    ranged true 0 1 0 (t .present)
-    and ranged (set? (t .present)) 0 1 0 (t .warp)
-    and ranged (set? (t .present)) 0 2 0 (t .mode)
+    between 0 1 (t .present)
+    and betweenIf (set? (t .present)) 0 1 (t .warp)
+    and betweenIf (set? (t .present)) 0 2 (t .mode)
     and eqb (length (t .configs)) trimConfigs
     and entriesValid configValid (pick (eqb (t .mode) 2) trimConfigs 0) (t .configs)
-    and ranged (set? (t .present)) 0 1 0 (t .per-object)
+    and betweenIf (set? (t .present)) 0 1 (t .per-object)
     and eqb (length (t .disabled)) objects
-    and entriesValid (λ used x. ranged used 0 1 0 x) (pick (set? (t .per-object)) objects 0) (t .disabled)
+    and entriesValid (λ used x. betweenIf used 0 1 x) (pick (set? (t .per-object)) objects 0) (t .disabled)
 
 -- ---- the tables
 

@@ -24,7 +24,7 @@ use Rattle.oamd.specs.Timing.{sample-offset, md-update-info}
 use Rattle.oamd.specs.Block.{hasZone, hasSize, zone, extent, object-render-info, object-info-block}
 use Rattle.oamd.specs.ObjectElement.{object-data, ObjectElement, object-element}
 use Rattle.oamd.specs.Extended.{obj-div-block, noDivergence, Extension, extended-object-element}
-use Rattle.oamd.specs.Trim.{hasSurround, hasHeight, trim-config, noConfig, Trim as TrimTable, trim-element}
+use Rattle.oamd.specs.Trim.{hasSurround, hasHeight, trim-config, noConfig, TrimTable, trim-element}
 use Rattle.oamd.specs.Element.{Known, nothing, fields, State, passOver, readKnown, oa-element, oa-element-md, framed, elements, kind}
 use Rattle.oamd.specs.Payload.{header, Payload, object-audio-metadata-payload}
 use Rattle.demands.specs.Terms.{parsed}

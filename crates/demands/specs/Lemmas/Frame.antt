@@ -13,7 +13,7 @@ use Rattle.bits.specs.Size.{sizeFrom, variable-bits-max}
 use Rattle.bits.specs.Steps.{no-ok, by-order, field-ok, field-no, give-ok, bind-ok, bind-is, bind-stops, within-is, within-stops}
 use Rattle.oamd.specs.declared.Kind.{Kind}
 use Rattle.oamd.specs.Programme.{set?}
-use Rattle.oamd.specs.Element.{kind, elementBits, sizeBits, headBits, backToId, framed}
+use Rattle.oamd.specs.Element.{kind, declaredLength, sizeLength, headLength, backToId, framed}
 use Rattle.demands.specs.Lemmas.Numbers.{size-says}
 
 -- ---- how far the parts of a frame go
@@ -46,7 +46,7 @@ size-goes (suc k) value g b at e o {z} {to} h =
     go read p false q i j h ih = let n = ih h in omega arith
 
 pub alternate-goes : (alternate : ℕ) (b : Bits) (at e o : ℕ) {v to : ℕ} → run (bitsIf (set? alternate) 4) b at e o ≡ ok v to
-    → to + 1 ≡ at + headBits alternate
+    → to + 1 ≡ at + headLength alternate
 alternate-goes alternate b at e o {v} {to} h = go (set? alternate) h
   where
     go : (t : Bool) → run (bitsIf t 4) b at e o ≡ ok v to → to + 1 ≡ at + pick t 5 1
@@ -60,7 +60,7 @@ abbrev pub bodyAt : ℕ → ℕ → Size → ℕ
 bodyAt at alternate size = at + backToId alternate size
 
 abbrev pub endAt : ℕ → Size → ℕ
-endAt at size = at + (4 + sizeBits size) + elementBits size
+endAt at size = at + (4 + sizeLength size) + declaredLength size
 
 -- it is whole: its kind and its size, and what each reader of elements makes of it
 pub record Frame (alternate : ℕ) (b : Bits) (at e o : ℕ) : Type 1 where
@@ -93,24 +93,24 @@ unfolding framed Says
 frame alternate b at e o = by-id (run (bits 4) b at e o) refl
   where
     by-flag : (id p : ℕ) → run (bits 4) b at e o ≡ ok id p → (size : Size) (start : ℕ) → run variable-bits-max b p e o ≡ ok size start
-        → start + elementBits size ≤ e → (other q : ℕ) → run (bitsIf (set? alternate) 4) b start (start + elementBits size) pastDeclared ≡ ok other q
-        → (x : Res ℕ) → run (bits 1) b q (start + elementBits size) pastDeclared ≡ x → Frame alternate b at e o ⊎ Broken alternate b at e o
+        → start + declaredLength size ≤ e → (other q : ℕ) → run (bitsIf (set? alternate) 4) b start (start + declaredLength size) pastDeclared ≡ ok other q
+        → (x : Res ℕ) → run (bits 1) b q (start + declaredLength size) pastDeclared ≡ x → Frame alternate b at e o ⊎ Broken alternate b at e o
     by-flag id p hi size start hz l other q ho (no r pl m) hd = inr (record {
       r = r;
       pl = pl;
       m = m;
-      why = inr (field-no 1 number b q (start + elementBits size) pastDeclared hd .0);
+      why = inr (field-no 1 number b q (start + declaredLength size) pastDeclared hd .0);
       same = λ f.
           bind-is _ _ b at e o hi ∙ bind-is _ _ b p e o hz
           ∙ within-stops _ _ _ b start e o l
-          (bind-is _ _ b start (start + elementBits size) pastDeclared ho ∙ bind-stops _ _ b q (start + elementBits size) pastDeclared hd);
+          (bind-is _ _ b start (start + declaredLength size) pastDeclared ho ∙ bind-stops _ _ b q (start + declaredLength size) pastDeclared hd);
     })
     by-flag id p hi size start hz l other q ho (ok d body) hd =
         let i = field-ok 4 number b at e o hi in
         let z = size-goes 4 0 0 b p e o hz in
-        let a = alternate-goes alternate b start (start + elementBits size) pastDeclared ho in
-        let j = field-ok 1 number b q (start + elementBits size) pastDeclared hd in
-        let x : start + elementBits size ≡ endAt at size = omega arith in
+        let a = alternate-goes alternate b start (start + declaredLength size) pastDeclared ho in
+        let j = field-ok 1 number b q (start + declaredLength size) pastDeclared hd in
+        let x : start + declaredLength size ≡ endAt at size = omega arith in
         let y : body ≡ bodyAt at alternate size = omega arith in
         inl (record {
           kind = kind id other;
@@ -119,34 +119,34 @@ frame alternate b at e o = by-id (run (bits 4) b at e o) refl
           fits = omega arith;
           same = λ f.
               bind-is _ _ b at e o hi ∙ bind-is _ _ b p e o hz ∙ within-is _ _ _ b start e o l
-              ∙ ap (λ (r : _). andThen r (λ a mid. ok a (start + elementBits size)))
-              (bind-is _ _ b start (start + elementBits size) pastDeclared ho ∙ bind-is _ _ b q (start + elementBits size) pastDeclared hd)
+              ∙ ap (λ (r : _). andThen r (λ a mid. ok a (start + declaredLength size)))
+              (bind-is _ _ b start (start + declaredLength size) pastDeclared ho ∙ bind-is _ _ b q (start + declaredLength size) pastDeclared hd)
               ∙ ap₂ (λ (n m : ℕ). andThen (run (f (kind id other) size) b n m pastDeclared) (λ a mid. ok a m)) y x;
         })
 
     by-other : (id p : ℕ) → run (bits 4) b at e o ≡ ok id p → (size : Size) (start : ℕ) → run variable-bits-max b p e o ≡ ok size start
-        → start + elementBits size ≤ e → (x : Res ℕ) → run (bitsIf (set? alternate) 4) b start (start + elementBits size) pastDeclared ≡ x
+        → start + declaredLength size ≤ e → (x : Res ℕ) → run (bitsIf (set? alternate) 4) b start (start + declaredLength size) pastDeclared ≡ x
         → Frame alternate b at e o ⊎ Broken alternate b at e o
     by-other id p hi size start hz l (no r pl m) ho = inr (record {
       r = r;
       pl = pl;
       m = m;
-      why = ends _ b start (start + elementBits size) pastDeclared o (search (saying, tt)) (inr refl) ho;
+      why = ends _ b start (start + declaredLength size) pastDeclared o (search (saying, tt)) (inr refl) ho;
       same = λ f.
           bind-is _ _ b at e o hi ∙ bind-is _ _ b p e o hz
-          ∙ within-stops _ _ _ b start e o l (bind-stops _ _ b start (start + elementBits size) pastDeclared ho);
+          ∙ within-stops _ _ _ b start e o l (bind-stops _ _ b start (start + declaredLength size) pastDeclared ho);
     })
     by-other id p hi size start hz l (ok other q) ho =
-        by-flag id p hi size start hz l other q ho (run (bits 1) b q (start + elementBits size) pastDeclared) refl
+        by-flag id p hi size start hz l other q ho (run (bits 1) b q (start + declaredLength size) pastDeclared) refl
 
     by-end : (id p : ℕ) → run (bits 4) b at e o ≡ ok id p → (size : Size) (start : ℕ) → run variable-bits-max b p e o ≡ ok size start
-        → (start + elementBits size ≤ e) ⊎ (e < start + elementBits size) → Frame alternate b at e o ⊎ Broken alternate b at e o
+        → (start + declaredLength size ≤ e) ⊎ (e < start + declaredLength size) → Frame alternate b at e o ⊎ Broken alternate b at e o
     by-end id p hi size start hz (inl l) =
-        by-other id p hi size start hz l (run (bitsIf (set? alternate) 4) b start (start + elementBits size) pastDeclared) refl
+        by-other id p hi size start hz l (run (bitsIf (set? alternate) 4) b start (start + declaredLength size) pastDeclared) refl
     by-end id p hi size start hz (inr l) = inr (record {
       r = o;
-      pl = start - sizeBits size;
-      m = start + elementBits size - e;
+      pl = start - sizeLength size;
+      m = start + declaredLength size - e;
       why = inl refl;
       same = λ f. bind-is _ _ b at e o hi ∙ bind-is _ _ b p e o hz ∙ within-past _ _ _ b start e o l;
     })
@@ -160,7 +160,7 @@ frame alternate b at e o = by-id (run (bits 4) b at e o) refl
       why = ends _ b p e o o (size-says _ 4 0 0) (inl refl) hz;
       same = λ f. bind-is _ _ b at e o hi ∙ bind-stops _ _ b p e o hz;
     })
-    by-size id p hi (ok size start) hz = by-end id p hi size start hz (by-order (start + elementBits size) e inl inr)
+    by-size id p hi (ok size start) hz = by-end id p hi size start hz (by-order (start + declaredLength size) e inl inr)
 
     by-id : (x : Res ℕ) → run (bits 4) b at e o ≡ x → Frame alternate b at e o ⊎ Broken alternate b at e o
     by-id (no r pl m) hi = inr (record {

@@ -16,7 +16,7 @@ use Rattle.oamd.specs.declared.Kind.the-variants.{Unknown, Object, Trim, Extend
 use Rattle.oamd.specs.declared.Programme.{Programme}
 use Rattle.oamd.specs.Programme.{set?}
 use Rattle.oamd.specs.Reserved.{Field, widthOf, isReserved, unreserved}
-use Rattle.oamd.specs.Element.{elementBits, sizeBits, State, kind, isSecond, isEarly, fields, framed, passOver, readKnown, oa-element}
+use Rattle.oamd.specs.Element.{declaredLength, sizeLength, State, kind, isSecond, isEarly, fields, framed, passOver, readKnown, oa-element}
 use Rattle.demands.specs.Skeleton.{isKnown}
 use Rattle.demands.specs.Lemmas.Plain.{size-plain}
 use Rattle.demands.specs.Lemmas.Frame.{size-goes, alternate-goes}
@@ -83,11 +83,11 @@ limited-refuses f b at e o fits reserved =
 
 pub data InElement {A : Type 0} (alternate : ℕ) (f : Kind → Size → P A) (b : Bits) (id e o r pl m : ℕ) : Type 1 where
   in-field : Passes (framed alternate f) b id e o r pl → InElement alternate f b id e o r pl m
-  by-end : (size : Size) (to : ℕ) → run variable-bits-max b (id + 4) e o ≡ ok size to → e < to + elementBits size → r ≡ o → pl ≡ id + 4
+  by-end : (size : Size) (to : ℕ) → run variable-bits-max b (id + 4) e o ≡ ok size to → e < to + declaredLength size → r ≡ o → pl ≡ id + 4
       → InElement alternate f b id e o r pl m
   in-body : (size : Size) (to : ℕ) (k : Kind) (at : ℕ) → run variable-bits-max b (id + 4) e o ≡ ok size to
-      → Comes (framed alternate f) b id e o (f k size) at (to + elementBits size) pastDeclared
-      → run (f k size) b at (to + elementBits size) pastDeclared ≡ no r pl m → InElement alternate f b id e o r pl m
+      → Comes (framed alternate f) b id e o (f k size) at (to + declaredLength size) pastDeclared
+      → run (f k size) b at (to + declaredLength size) pastDeclared ≡ no r pl m → InElement alternate f b id e o r pl m
 
 -- the alternate id and the discard flag fit into every element
 alternate-fits : (t : Bool) (b : Bits) (at e o : ℕ) {r pl m : ℕ} → at + 4 ≤ e → run (bitsIf t 4) b at e o ≡ no r pl m → ⊥
@@ -106,10 +106,10 @@ element-refused alternate f b id e o {r} {pl} {m} h =
     bind-no _ _ b p e o h (λ x. in-field (field-in (behind hi (first here)) (halts b p e o (size-plain _ _ 4 0 0) x))) λ size to hz h.
     let at-size : p ≡ id + 4 = field-ok 4 number b id e o hi .2 in
     let sized = subst (λ (n : ℕ). run variable-bits-max b n e o ≡ ok size to) at-size hz in
-    let end : ℕ = to + elementBits size in
+    let end : ℕ = to + declaredLength size in
     let goes = size-goes 4 0 0 b p e o hz in
     let small = head-small (set? alternate) in
-    element-no (elementBits size) (sizeBits size) _ b to e o h
+    element-no (declaredLength size) (sizeLength size) _ b to e o h
     (λ l h.
     bind-no _ _ b to end pastDeclared h (λ x. absurd (alternate-fits (set? alternate) b to end pastDeclared (omega arith) x)) λ other q ho h.
     let flag-at = alternate-goes alternate b to end pastDeclared ho in

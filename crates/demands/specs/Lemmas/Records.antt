@@ -25,8 +25,8 @@ use Rattle.oamd.specs.Tables.{recordStride, trimConfigs}
 use Rattle.oamd.specs.Timing.{timingOf}
 use Rattle.oamd.specs.ObjectElement.{object-data, ObjectElement, object-element}
 use Rattle.oamd.specs.Extended.{obj-div-block, ext-prec-pos-block, noDivergence, noPrecise, Extension, extended-object-element}
-use Rattle.oamd.specs.Trim.{trim-config, noConfig, Trim as TrimTable, trim-element, noTrim, trimOf}
-use Rattle.oamd.specs.Meaning.{idle, resolve, firstGain, behindFirst, scenesFrom, scenesOf, allScenes}
+use Rattle.oamd.specs.Trim.{trim-config, noConfig, TrimTable, trim-element, noTrim, trimOf}
+use Rattle.oamd.specs.Meaning.{resolve, firstGain, behindFirst, nothingBefore, scenesFrom, scenesOf, allScenes}
 use Rattle.oamd.specs.Record.{allCarry, plainRecords, extendedRecords, bytesOf}
 use Rattle.oamd.specs.Lengths.{length-bytes}
 use Rattle.oamd.specs.Element.{backToId, Known, there, scenes, isSecond, isEarly, fields, State, passOver, oa-element, oa-element-md, elements}
@@ -64,7 +64,7 @@ length-all : (k : ℕ) (above : List Scene) (os : List (List Block)) → Every (
 unfolding allScenes scenesOf
 length-all k above [] h = sym (zero-mul k)
 length-all k above (o ∷ os) h =
-    let mine = length-scenes (idle 0) above o in
+    let mine = length-scenes nothingBefore above o in
     let rest = length-all k (scenesOf above o) os (h .1) in
     let both = length-append (scenesOf above o) (allScenes (scenesOf above o) os) in
     omega (arith, suc-mul (length os) k, h .0)

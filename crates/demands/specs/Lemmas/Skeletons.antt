@@ -13,7 +13,7 @@ use Rattle.bits.specs.Writes.{listed}
 use Rattle.oamd.specs.declared.Kind.{Kind}
 use Rattle.oamd.specs.declared.Kind.the-variants.{Unknown}
 use Rattle.oamd.specs.declared.Programme.{Programme}
-use Rattle.oamd.specs.Element.{elementBits, headBits, backToId, Known, nothing, isSecond, isEarly, fields, State, passOver, readKnown, oa-element, oa-element-md, elements}
+use Rattle.oamd.specs.Element.{declaredLength, headLength, backToId, Known, nothing, isSecond, isEarly, fields, State, passOver, readKnown, oa-element, oa-element-md, elements}
 use Rattle.oamd.specs.Payload.{header, Payload, object-audio-metadata-payload}
 use Rattle.demands.specs.Terms.{runs, parsed}
 use Rattle.demands.specs.Skeleton.{Body, body, bodies, Outline, outline-payload, isKnown, known, unknowns, given, takenOut}
@@ -135,7 +135,7 @@ record Element (p : Programme) (alternate : ℕ) (st st' : State) (b : Bits) (at
 
 -- its bits behind the discard flag
 inner : {alternate : ℕ} {b : Bits} {at e o : ℕ} → Frame alternate b at e o → List ℕ
-inner {alternate} {b} {at} f = slice b (bodyAt at alternate (f .size)) (elementBits (f .size) - headBits alternate)
+inner {alternate} {b} {at} f = slice b (bodyAt at alternate (f .size)) (declaredLength (f .size) - headLength alternate)
 
 body-is : (alternate : ℕ) (b : Bits) (at e o : ℕ) (f : Frame alternate b at e o)
     → run (body alternate) b at e o ≡ ok (record { kind = f .kind; bits = inner f }) (endAt at (f .size))
@@ -143,14 +143,14 @@ unfolding body inner
 body-is alternate b at e o f =
     f .same _
     ∙ ap (λ (r : Res Body). andThen r (λ a mid. ok a (endAt at (f .size))))
-    (field-is (elementBits (f .size) - headBits alternate) _ b (bodyAt at alternate (f .size)) (endAt at (f .size)) pastDeclared (omega (arith, f .room)))
+    (field-is (declaredLength (f .size) - headLength alternate) _ b (bodyAt at alternate (f .size)) (endAt at (f .size)) pastDeclared (omega (arith, f .room)))
 
 element-took : (p : Programme) (alternate : ℕ) (st : State) (b : Bits) (at e o : ℕ) {st' : State} {to : ℕ} → Frame alternate b at e o
     → run (oa-element-md p alternate st) b at e o ≡ ok st' to → Element p alternate st st' b at e o to
 unfolding oa-element-md inner
 element-took p alternate st b at e o {st'} {to} f h =
     let t = andThen-ok _ _ (sym (f .same _) ∙ h) in
-    let w = took p (backToId alternate (f .size)) st (f .kind) b (bodyAt at alternate (f .size)) (endAt at (f .size)) (elementBits (f .size) - headBits alternate)
+    let w = took p (backToId alternate (f .size)) st (f .kind) b (bodyAt at alternate (f .size)) (endAt at (f .size)) (declaredLength (f .size) - headLength alternate)
     (omega (arith, f .room)) (t .2) in
     record {
       x = record { kind = f .kind; bits = inner f };
@@ -166,7 +166,7 @@ unfolding oa-element-md inner
 element-takes p alternate st b at e o {x} {after} {to} f h s =
     let h' = sym (body-is alternate b at e o f) ∙ h in
     let is : record { kind = f .kind; bits = inner f } ≡ x = value h' in
-    let w = takes p (backToId alternate (f .size)) st (f .kind) b (bodyAt at alternate (f .size)) (endAt at (f .size)) (elementBits (f .size) - headBits alternate)
+    let w = takes p (backToId alternate (f .size)) st (f .kind) b (bodyAt at alternate (f .size)) (endAt at (f .size)) (declaredLength (f .size) - headLength alternate)
     (omega (arith, f .room)) (subst (λ (y : Body). Step p (y .kind) (y .bits) (st .known) after) (sym is) s) in
     f .same _ ∙ ap (λ (r : Res State). andThen r (λ a mid. ok a (endAt at (f .size)))) (w .1)
     ∙ λ i. ok (record { known = after; unknown = pick (isKnown (is i .kind)) (st .unknown) (suc (st .unknown)) }) (next h' i)

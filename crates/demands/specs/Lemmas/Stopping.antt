@@ -15,7 +15,7 @@ use Rattle.bits.specs.ReachedLaws.{comes-on, refused-there, stop-refuses, Halts
 use Rattle.oamd.specs.declared.Kind.{Kind}
 use Rattle.oamd.specs.declared.Programme.{Programme}
 use Rattle.oamd.specs.Reserved.{Field, unreserved}
-use Rattle.oamd.specs.Element.{elementBits, backToId, framed, State, fields, oa-element, oa-element-md}
+use Rattle.oamd.specs.Element.{declaredLength, backToId, framed, State, fields, oa-element, oa-element-md}
 use Rattle.oamd.specs.Payload.{object-audio-metadata-payload}
 use Rattle.demands.specs.Terms.{runs, parsed}
 use Rattle.demands.specs.Stops.{ComesTo, Sized, declaredEnd, PassesPayload, by-field, by-size, PassesElement, bitsIn, CarriesReserved}
@@ -102,9 +102,9 @@ element-where s p alternate st id c {r} {place} {m} h = go (element-refused alte
     sized size to z = record { programme = p; alternate = alternate; state = st; comes = c; size = size; behind = to; sized = z }
 
     body : (size : Size) (to : ℕ) (z : runs variable-bits-max s (id + 4) ≡ ok size to) (k : Kind) (at : ℕ)
-        → Comes (oa-element-md p alternate st) (bit s) id (8 * length s) pastPayload (oa-element p (backToId alternate size) st k) at (to + elementBits size)
+        → Comes (oa-element-md p alternate st) (bit s) id (8 * length s) pastPayload (oa-element p (backToId alternate size) st k) at (to + declaredLength size)
         pastDeclared
-        → InKnown p st k (oa-element p (backToId alternate size) st k) (bit s) at (to + elementBits size) pastDeclared r place m → Where s r place
+        → InKnown p st k (oa-element p (backToId alternate size) st k) (bit s) at (to + declaredLength size) pastDeclared r place m → Where s r place
     body size to z k at d (of-order (inl x)) = other (omega arith)
     body size to z k at d (of-order (inr x)) = other (omega arith)
     body size to z k at d (in-fields known at' d' x) = fields-refused s id (sized size to z) k known at' (comes-on d d') x
@@ -113,7 +113,7 @@ element-where s p alternate st id c {r} {place} {m} h = go (element-refused alte
     go (in-field x) = early (x .over) (by-field (x .width) (x .value) (comes-on c (x .comes)) (x .passes))
     go (by-end size to z l i j) = early i (by-size id (sized size to z) j l)
     go (in-body size to k at z d x) =
-        body size to z k at d (body-refused p (backToId alternate size) st k (bit s) at (to + elementBits size) pastDeclared x)
+        body size to z k at d (body-refused p (backToId alternate size) st k (bit s) at (to + declaredLength size) pastDeclared x)
 
 -- in the payload
 where-refused : (s : List ℕ) {r place m : ℕ} → parsed s ≡ no r place m → Where s r place

@@ -14,11 +14,10 @@ use Rattle.oamd.specs.declared.Block.{Block}
 use Rattle.oamd.specs.Programme.{set?, clear?, dynamicClass}
 use Rattle.oamd.specs.Reserved.{ZoneConstraintsIdx}
 use Rattle.oamd.specs.Block.{status-idx, object-basic-info, position, distance, zone, extent, screen, object-render-info, object-info-block, hasZone, hasSize, hasScreen, hasPriority, sends}
-use Rattle.oamd.specs.Meaning.{idle}
-use Rattle.written.specs.Valid.{zoneValid, screenValid}
-use Rattle.written.specs.Lemmas.Facts.{whole, by-test, by-flag}
+use Rattle.written.specs.Valid.{betweenIf, zoneValid, screenValid}
+use Rattle.written.specs.Lemmas.Facts.{whole, by-test, by-flag, always}
 use Rattle.written.specs.Lemmas.Unreserved.{under, e-unreserved}
-use Rattle.written.specs.Lemmas.AcceptedProgramme.{read-ranged, always}
+use Rattle.written.specs.Lemmas.AcceptedProgramme.{read-ranged}
 
 -- ---- what is read
 
@@ -41,17 +40,17 @@ basic-ensures status =
     e-bind _ _ _ (e-any _ _ λ parts.
     e-bind _ _ _ (e-any _ _ λ index.
     e-bind _ _ _ (e-any _ _ λ gain.
-    e-bind _ _ _ (e-any _ _ λ standard.
-    e-bind _ _ _ (e-if (both (hasPriority parts) (clear? standard)) 5 _ λ n b b'.
+    e-bind _ _ _ (e-any _ _ λ bydefault.
+    e-bind _ _ _ (e-if (both (hasPriority parts) (clear? bydefault)) 5 _ λ n b b'.
     e-give _ _ (record { same = refl; priority = small _ n 31 b b' }))))))
 
 zone-ensures : (on : Bool) → Ensures (zone on) (λ z. zoneValid true z ≡ true)
-unfolding zone zoneValid
+unfolding zone zoneValid betweenIf
 zone-ensures on =
     e-bind _ _ _ (e-unreserved on ZoneConstraintsIdx _ λ index i i'.
     e-bind _ _ _ (e-if on 1 _ λ elevation e e'.
     let l = small on index 5 (λ q. under ZoneConstraintsIdx index (omega arith) (i q)) i' in
-    e-give _ _ (whole _ _ (always 0 5 0 index (omega arith) l) (always 0 1 1 elevation (omega arith) (small on elevation 1 e e')))))
+    e-give _ _ (whole _ _ (always 0 5 index (omega arith) l) (always 0 1 elevation (omega arith) (small on elevation 1 e e')))))
 
 extent-ensures : (on : Bool) → Ensures (extent on) (λ e. (e .all ≤ 31) × (e .width ≤ 31) × (e .depth ≤ 31) × (e .height ≤ 31))
 unfolding extent
@@ -64,12 +63,12 @@ extent-ensures on =
     e-give _ _ (small _ n 31 a a', small _ w 31 b b', small _ d 31 c c', small _ h 31 e e'))))))
 
 screen-ensures : (on : Bool) → Ensures (screen on) (λ s. screenValid true s ≡ true)
-unfolding screen screenValid
+unfolding screen screenValid betweenIf
 screen-ensures on =
     e-bind _ _ _ (e-if on 1 _ λ used u u'.
     e-bind _ _ _ (e-if (set? used) 3 _ λ factor f f'.
     e-bind _ _ _ (e-if (set? used) 2 _ λ depth d d'.
-    e-give _ _ (whole _ _ (always 0 1 0 used (omega arith) (small on used 1 u u')) (whole _ _ (read-ranged (set? used) 7 factor f f')
+    e-give _ _ (whole _ _ (always 0 1 used (omega arith) (small on used 1 u u')) (whole _ _ (read-ranged (set? used) 7 factor f f')
     (read-ranged (set? used) 3 depth d d'))))))
 
 record RenderRead (status : Status) (r : Render) : Type 0 where

@@ -1,6 +1,6 @@
 -- 5.5.2 and 5.5.3: the programme of every accepted payload is valid, if its reserved content flag is clear.
 use mathlib.Core.Path.{_≡_, refl, sym, ap, _∙_, subst}
-use mathlib.Core.Bool.{Bool, true, false, not, false≢true}
+use mathlib.Core.Bool.{Bool, true, false, not}
 use mathlib.Core.List.{List, [], _∷_, _++_}
 use Prim.Native.Nat.{ℕ, zero, suc, _+_, _-_, _≤_, _<_}
 use native.Mathlib.Omega.{arith}
@@ -15,17 +15,14 @@ use Rattle.oamd.specs.Tables.{mostObjects, mostBeds}
 use Rattle.oamd.specs.Programme.{set?, clear?, hasBeds, hasIsf, hasDynamic, hasReserved, bedInstances, bedOf, bed-assignment, filled, noBed, Beds, bed-instances, intermediate-spatial-format, num-dynamic-objects, program-assignment, agrees}
 use Rattle.oamd.specs.Reserved.{IntermediateSpatialFormatIdx}
 use Rattle.oamd.specs.Payload.{oa-md-version, object-count, header}
-use Rattle.written.specs.Valid.{_and_, ranged, bedValid, entriesValid, programmeValid}
-use Rattle.written.specs.Lemmas.Facts.{whole, by-test, in-range, is-ranged}
+use Rattle.written.specs.Valid.{betweenIf, bedValid, entriesValid, programmeValid}
+use Rattle.written.specs.Lemmas.Facts.{whole, by-test, in-range, always, is-ranged}
 use Rattle.written.specs.Lemmas.Unreserved.{under, e-unreserved}
 use Rattle.written.specs.Lemmas.ProgrammeBack.{instances-le}
 
 -- a field as it was read: in its range where it is carried, else 0
-pub read-ranged : (carried : Bool) (high v : ℕ) → (carried ≡ true → v < suc high) → (carried ≡ false → 0 ≡ v) → ranged carried 0 high 0 v ≡ true
-read-ranged carried high v f g = is-ranged carried 0 high 0 v (λ q. omega arith) (λ q. let x = f q in omega arith) (λ q. sym (g q))
-
-pub always : (low high default v : ℕ) → low ≤ v → v ≤ high → ranged true low high default v ≡ true
-always low high default v l h = is-ranged true low high default v (λ q. l) (λ q. h) (λ q. absurd (false≢true (sym q)))
+pub read-ranged : (carried : Bool) (high v : ℕ) → (carried ≡ true → v < suc high) → (carried ≡ false → 0 ≡ v) → betweenIf carried 0 high v ≡ true
+read-ranged carried high v f g = is-ranged carried 0 high v (λ q. omega arith) (λ q. let x = f q in omega arith) (λ q. sym (g q))
 
 -- what holds of all values of a loop holds of every one, and there are as many as entries
 pub all-every : {X A : Type 0} (R : X → A → Type 0) (Q : A → Type 0) → ((x : X) (a : A) → R x a → Q a) → (xs : List X) (vs : List A) → All R xs vs
@@ -53,11 +50,11 @@ bed-read : (lfe standard a b : ℕ) → lfe < 2 → (clear? lfe ≡ true → sta
     → (set? standard ≡ true → a < 1024) → (set? standard ≡ false → 0 ≡ a)
     → (both (clear? lfe) (clear? standard) ≡ true → b < 131072) → (both (clear? lfe) (clear? standard) ≡ false → 0 ≡ b)
     → bedValid true (bedOf lfe standard (a + b)) ≡ true
-unfolding bedValid
+unfolding bedValid betweenIf
 bed-read lfe standard a b l s s' c c' d d' =
-    whole _ _ (always 0 1 0 lfe (omega arith) (omega arith))
+    whole _ _ (always 0 1 lfe (omega arith) (omega arith))
     (whole _ _ (read-ranged (clear? lfe) 1 standard s s')
-    (is-ranged (clear? lfe) 0 (pick (set? standard) 1023 131071) 0 (a + b) (λ q. omega arith)
+    (is-ranged (clear? lfe) 0 (pick (set? standard) 1023 131071) (a + b) (λ q. omega arith)
     (λ q. by-test (set? standard)
     (λ e.
     let one : standard ≡ 1 = eqb-true standard 1 e in
@@ -83,9 +80,9 @@ bed-ensures =
     e-give _ _ (bed-read lfe standard a b l s s' c c' d d')))))
 
 record BedsRead (content : ℕ) (b : Beds) : Type 0 where
-  distribute : ranged (hasBeds content) 0 1 0 (b .distribute) ≡ true
-  multiple : ranged (hasBeds content) 0 1 0 (b .multiple) ≡ true
-  instances : ranged (set? (b .multiple)) 0 7 0 (b .instances) ≡ true
+  distribute : betweenIf (hasBeds content) 0 1 (b .distribute) ≡ true
+  multiple : betweenIf (hasBeds content) 0 1 (b .multiple) ≡ true
+  instances : betweenIf (set? (b .multiple)) 0 7 (b .instances) ≡ true
   count : length (b .beds) ≡ bedInstances content (b .multiple) (b .instances)
   beds : Every (λ b. bedValid true b ≡ true) (b .beds)
 
@@ -109,13 +106,13 @@ beds-ensure content =
 
 -- ---- the rest
 
-isf-ensures : (content : ℕ) → Ensures (intermediate-spatial-format content) (λ isf. ranged (hasIsf content) 0 5 0 isf ≡ true)
+isf-ensures : (content : ℕ) → Ensures (intermediate-spatial-format content) (λ isf. betweenIf (hasIsf content) 0 5 isf ≡ true)
 unfolding intermediate-spatial-format
 isf-ensures content =
     e-unreserved (hasIsf content) IntermediateSpatialFormatIdx _ λ isf i i'.
     read-ranged (hasIsf content) 5 isf (λ q. under IntermediateSpatialFormatIdx isf (omega arith) (i q)) i'
 
-dynamics-ensure : (content : ℕ) → Ensures (num-dynamic-objects content) (λ n. ranged (hasDynamic content) 0 158 0 n ≡ true)
+dynamics-ensure : (content : ℕ) → Ensures (num-dynamic-objects content) (λ n. betweenIf (hasDynamic content) 0 158 n ≡ true)
 unfolding num-dynamic-objects
 dynamics-ensure content =
     e-bind _ _ _ (e-if (hasDynamic content) 5 _ λ n a a'.
@@ -125,7 +122,7 @@ dynamics-ensure content =
     (λ q. let x = a' q in let y : 0 ≡ m = b' (rw (← x) refl) in omega arith))))
 
 no-bed-valid : bedValid false noBed ≡ true
-unfolding bedValid ranged
+unfolding bedValid betweenIf
 no-bed-valid = refl
 
 -- the programme that was read, but for its counts and its reserved content flag
@@ -146,12 +143,12 @@ programme-ensures n low high =
     e-give _ _ (record {
       objects = refl;
       valid = λ clear counts.
-          let few = instances-le content (b .multiple) (b .instances) (in-range _ _ _ _ _ (r .instances)) in
+          let few = instances-le content (b .multiple) (b .instances) (in-range _ _ _ _ (r .instances)) in
           let k = r .count in
           let a = length-append (b .beds) (replicate (mostBeds - length (b .beds)) noBed) in
           let z = length-replicate (mostBeds - length (b .beds)) noBed in
-          whole _ _ (always 1 mostObjects 0 n low high)
-          (whole _ _ (always 0 1 0 dynonly (omega arith) (omega arith))
+          whole _ _ (always 1 mostObjects n low high)
+          (whole _ _ (always 0 1 dynonly (omega arith) (omega arith))
           (whole _ _ (read-ranged (set? dynonly) 1 lfe l l')
           (whole _ _ (read-ranged (clear? dynonly) 15 content c c')
           (whole (not (hasReserved content)) _ (rw clear refl)

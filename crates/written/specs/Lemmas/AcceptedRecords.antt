@@ -19,12 +19,12 @@ use Rattle.oamd.specs.Programme.{set?}
 use Rattle.oamd.specs.Reserved.{ObjectDivMode, ObjectDivCode}
 use Rattle.oamd.specs.Extended.{obj-div-block, ext-prec-pos-block, hasX, hasY, hasZ, noDivergence, noPrecise, Extension, extended-object-element}
 use Rattle.oamd.specs.Record.{Record, carries, allCarry, plainRecords, extendedRecords}
-use Rattle.written.specs.Valid.{ranged, leastDivergence, mostDivergence, divergenceValid, preciseValid, recordValid, firstBad}
+use Rattle.written.specs.Valid.{betweenIf, leastDivergence, mostDivergence, divergenceValid, preciseValid, recordValid, firstBad}
 use Rattle.written.specs.Form.{divergenceBits}
-use Rattle.written.specs.Lemmas.Facts.{whole, by-test, by-eq, is-ranged}
+use Rattle.written.specs.Lemmas.Facts.{whole, by-test, by-eq, always, is-ranged}
 use Rattle.written.specs.Lemmas.Unreserved.{Free, under, over, s-unreserved}
 use Rattle.written.specs.Lemmas.ObjectsBack.{ValidFrom}
-use Rattle.written.specs.Lemmas.AcceptedProgramme.{read-ranged, always}
+use Rattle.written.specs.Lemmas.AcceptedProgramme.{read-ranged}
 use Rattle.written.specs.Lemmas.AcceptedScenes.{ScenesValid}
 
 -- ---- what is read
@@ -33,30 +33,31 @@ use Rattle.written.specs.Lemmas.AcceptedScenes.{ScenesValid}
 value-read : (used : Bool) (mode table code : ℕ) → (used ≡ true → mode < 3) → (used ≡ false → 0 ≡ mode)
     → (both used (eqb mode 0) ≡ true → table < 4) → (both used (eqb mode 0) ≡ false → 0 ≡ table)
     → (eqb mode 2 ≡ true → Free ObjectDivCode code) → (eqb mode 2 ≡ false → 0 ≡ code)
-    → ranged used (leastDivergence mode) (mostDivergence mode) 0 (table + code) ≡ true
+    → betweenIf used (leastDivergence mode) (mostDivergence mode) (table + code) ≡ true
+unfolding betweenIf
 value-read true mode table code m m' t t' c c' =
     let l = m refl in
     by-eq mode 0
     (λ e.
     let a : table < 4 = t (rw e refl) in
     let b : 0 ≡ code = c' (rw e refl) in
-    rw e (always 0 3 0 (table + code) (omega arith) (omega arith)))
+    rw e (always 0 3 (table + code) (omega arith) (omega arith)))
     (λ x. by-eq mode 1
     (λ e.
     let a : 0 ≡ table = t' (rw e refl) in
     let b : 0 ≡ code = c' (rw e refl) in
-    rw e (always 0 0 0 (table + code) (omega arith) (omega arith)))
+    rw e (always 0 0 (table + code) (omega arith) (omega arith)))
     (λ y.
     let e : mode ≡ 2 = omega arith in
     let a : 0 ≡ table = t' (rw e refl) in
     let b : Free ObjectDivCode code = c (rw e refl) in
     let d = over ObjectDivCode code (omega arith) b in
-    rw e (always 1 63 0 (table + code) (omega arith) (omega arith))))
+    rw e (always 1 63 (table + code) (omega arith) (omega arith))))
 value-read false mode table code m m' t t' c c' =
     let e : 0 ≡ mode = m' refl in
     let a : 0 ≡ table = t' refl in
     let b : 0 ≡ code = c' (rw (← e) refl) in
-    is-ranged false _ _ 0 (table + code) (λ q. absurd (false≢true q)) (λ q. absurd (false≢true q)) (λ q. omega arith)
+    is-ranged false 0 0 (table + code) (λ q. absurd (false≢true q)) (λ q. absurd (false≢true q)) (λ q. omega arith)
 
 -- a divergence is valid, and leaves no choice of its bits
 pub divergence-spells : (sent : Bool) → Spells (obj-div-block sent) (λ l d. (divergenceBits sent d ≡ l) × (divergenceValid sent d ≡ true))
@@ -113,12 +114,12 @@ none-carried valid none u [] = tt
 none-carried valid none u (c ∷ cs) = (u c, none-carried valid none u cs)
 
 no-divergence-valid : (c : Bool) → divergenceValid c noDivergence ≡ true
-unfolding divergenceValid ranged
+unfolding divergenceValid betweenIf
 no-divergence-valid true = refl
 no-divergence-valid false = refl
 
 no-precise-valid : (c : Bool) → preciseValid c noPrecise ≡ true
-unfolding preciseValid ranged
+unfolding preciseValid betweenIf
 no-precise-valid true = refl
 no-precise-valid false = refl
 

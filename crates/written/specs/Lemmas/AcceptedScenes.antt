@@ -8,8 +8,8 @@ use native.Mathlib.Nat.{suc-mul, zero-mul}
 use lib.Arith.{digits-div}
 use lib.ListN.{length, length-append}
 use lib.Dec.{ltb, eqb}
-use borrow.Author.Tests.{eq-eqb, ltb-true, ltb-false}
-use Rattle.bits.specs.Language.{from}
+use borrow.Author.Tests.{eq-eqb, ltb-false}
+use Rattle.bits.specs.Language.{from, between}
 use Rattle.bits.specs.Ensures.{All, Every}
 use Rattle.oamd.specs.declared.Status.{Status}
 use Rattle.oamd.specs.declared.Status.the-variants.{Default, Full, Reuse, Mixed}
@@ -20,17 +20,17 @@ use Rattle.oamd.specs.declared.Priority.{Priority}
 use Rattle.oamd.specs.declared.Distance.{Distance}
 use Rattle.oamd.specs.declared.Extent.{Extent}
 use Rattle.oamd.specs.declared.Block.{Block}
-use Rattle.oamd.specs.declared.Place.{Place}
+use Rattle.oamd.specs.declared.Location.{Location}
 use Rattle.oamd.specs.declared.Shares.{Shares}
 use Rattle.oamd.specs.declared.Scene.{Scene}
+use Rattle.oamd.specs.Tables.{distanceCodes}
 use Rattle.oamd.specs.Programme.{set?, classOf}
-use Rattle.oamd.specs.Meaning.{valueOf, gainOf, priorityOf, clamp, movedBy, across, upright, heightOf, distanceOf, placeOf, volumeOf, defaultPlace, defaultVolume, defaultZone, defaultScreen, idle, resolve, firstGain, behindFirst, scenesFrom, scenesOf, allScenes}
+use Rattle.oamd.specs.Meaning.{valueOf, gainOf, priorityOf, clamp, movedBy, across, upright, heightOf, distanceOf, locationOf, volumeOf, defaultLocation, defaultVolume, defaultZone, defaultScreen, idle, resolve, firstGain, behindFirst, nothingBefore, scenesFrom, scenesOf, allScenes}
 use Rattle.oamd.specs.Record.{carries}
-use Rattle.written.specs.Valid.{_and_, ranged, placeValid, volumeValid, zoneValid, screenValid, sceneValid}
-use Rattle.written.specs.Lemmas.Facts.{whole, by-test, is-ranged}
+use Rattle.written.specs.Valid.{_and_, betweenIf, locationValid, volumeValid, zoneValid, screenValid, sceneValid}
+use Rattle.written.specs.Lemmas.Facts.{whole, by-test, always, is-ranged}
 use Rattle.written.specs.Lemmas.Entries.{ByClass}
-use Rattle.written.specs.Lemmas.AcceptedProgramme.{always}
-use Rattle.written.specs.Lemmas.AcceptedTiming.{picked-le}
+use Rattle.written.specs.Lemmas.AcceptedTiming.{entry-le, picked-le}
 use Rattle.written.specs.Lemmas.AcceptedBlock.{BlockRead}
 
 -- ---- the meaning of each group is in its range
@@ -44,47 +44,41 @@ gain-le g above l =
 
 priority-le : (p : Priority) → p .bits ≤ 31 → priorityOf p ≤ 32
 unfolding priorityOf
-priority-le p l = picked-le (set? (p .standard)) 32 (p .bits) 32 (λ q. omega arith) (λ q. omega arith)
+priority-le p l = picked-le (set? (p .bydefault)) 32 (p .bits) 32 (λ q. omega arith) (λ q. omega arith)
 
 distance-le : (d : Distance) → distanceOf d ≤ 17
 unfolding distanceOf
 distance-le d =
-    picked-le (set? (d .given)) _ 0 17 (λ q. picked-le (set? (d .infinite)) 1 _ 17 (λ p. omega arith)
-    (λ p. picked-le (ltb (d .index) 16) (2 + d .index) 0 17 (λ o. let l = ltb-true (d .index) 16 o in omega arith) (λ o. omega arith))) (λ q. omega arith)
+    picked-le (set? (d .given)) _ 0 17
+    (λ q. picked-le (set? (d .infinite)) 1 _ 17 (λ p. omega arith) (λ p. entry-le 17 distanceCodes (d .index) refl)) (λ q. omega arith)
 
-clamped : (low high v : ℕ) → low ≤ high → ranged true low high 0 (clamp low high v) ≡ true
+clamped : (low high v : ℕ) → low ≤ high → between low high (clamp low high v) ≡ true
 clamped low high v h = by-test (ltb v low)
-    (λ q. rw q (always low high 0 low (omega arith) h))
+    (λ q. rw q (always low high low (omega arith) h))
     (λ q. by-test (ltb high v)
-    (λ p. rw (q, p) (always low high 0 high h (omega arith)))
-    (λ p. let a = ltb-false v low q in let b = ltb-false high v p in rw (q, p) (always low high 0 v a b)))
+    (λ p. rw (q, p) (always low high high h (omega arith)))
+    (λ p. let a = ltb-false v low q in let b = ltb-false high v p in rw (q, p) (always low high v a b)))
 
--- the default does not matter of what is carried
-any-default : (low high d e v : ℕ) → ranged true low high d v ≡ true → ranged true low high e v ≡ true
-unfolding ranged
-any-default low high d e v h = h
+clamped-location : (x y z distance : ℕ) → distance ≤ 17 → locationValid true (record { x = across x; y = across y; z = upright z; distance = distance }) ≡ true
+unfolding locationValid betweenIf
+clamped-location x y z distance l =
+    whole _ _ (clamped 0 62 x (omega arith)) (whole _ _ (clamped 0 62 y (omega arith))
+    (whole _ _ (clamped 49 79 z (omega arith)) (always 0 17 distance (omega arith) l)))
 
-clamped-place : (x y z distance : ℕ) → distance ≤ 17 → placeValid true (record { x = across x; y = across y; z = upright z; distance = distance }) ≡ true
-unfolding placeValid
-clamped-place x y z distance l =
-    whole _ _ (any-default 0 62 0 31 (across x) (clamped 0 62 x (omega arith))) (whole _ _
-    (any-default 0 62 0 31 (across y) (clamped 0 62 y (omega arith)))
-    (whole _ _ (any-default 49 79 0 64 (upright z) (clamped 49 79 z (omega arith))) (always 0 17 0 distance (omega arith) l)))
-
-place-valid : (position : Position) (distance : ℕ) (before : Place) → distance ≤ 17 → placeValid true (placeOf position distance before) ≡ true
-unfolding placeOf
-place-valid (Absolute x y sign z) distance before l = clamped-place x y (heightOf sign z) distance l
-place-valid (Moved x y z) distance before l = clamped-place (movedBy (before .x) x) (movedBy (before .y) y) (movedBy (before .z) z) distance l
+location-valid : (position : Position) (distance : ℕ) (before : Location) → distance ≤ 17 → locationValid true (locationOf position distance before) ≡ true
+unfolding locationOf
+location-valid (Absolute x y sign z) distance before l = clamped-location x y (heightOf sign z) distance l
+location-valid (Moved x y z) distance before l = clamped-location (movedBy (before .x) x) (movedBy (before .y) y) (movedBy (before .z) z) distance l
 
 volume-valid : (e : Extent) → e .all ≤ 31 → e .width ≤ 31 → e .depth ≤ 31 → e .height ≤ 31 → volumeValid true (volumeOf e) ≡ true
-unfolding volumeValid volumeOf
+unfolding volumeValid volumeOf betweenIf
 volume-valid e a w d h = by-test (eqb (e .index) 2)
     (λ q. rw q (sizes (e .width) (e .depth) (e .height) w d h))
     (λ q. by-test (eqb (e .index) 1) (λ p. rw (q, p) (sizes (e .all) (e .all) (e .all) a a a))
     (λ p. rw (q, p) (sizes 0 0 0 (omega arith) (omega arith) (omega arith))))
   where
-    sizes : (x y z : ℕ) → x ≤ 31 → y ≤ 31 → z ≤ 31 → (ranged true 0 31 0 x and ranged true 0 31 0 y and ranged true 0 31 0 z) ≡ true
-    sizes x y z i j k = whole _ _ (always 0 31 0 x (omega arith) i) (whole _ _ (always 0 31 0 y (omega arith) j) (always 0 31 0 z (omega arith) k))
+    sizes : (x y z : ℕ) → x ≤ 31 → y ≤ 31 → z ≤ 31 → (between 0 31 x and between 0 31 y and between 0 31 z) ≡ true
+    sizes x y z i j k = whole _ _ (always 0 31 x (omega arith) i) (whole _ _ (always 0 31 y (omega arith) j) (always 0 31 z (omega arith) k))
 
 -- ---- a scene
 
@@ -92,15 +86,15 @@ volume-valid e a w d h = by-test (eqb (e .index) 2)
 pub record Within (s : Scene) : Type 0 where
   pub gain : s .gain ≤ 65
   pub priority : s .priority ≤ 32
-  pub place : placeValid true (s .place) ≡ true
+  pub location : locationValid true (s .location) ≡ true
   pub volume : volumeValid true (s .volume) ≡ true
   pub zone : zoneValid true (s .zone) ≡ true
   pub screen : screenValid true (s .screen) ≡ true
   pub snap : s .snap ≤ 1
 
 idle-within : (class : ℕ) → Within (idle class)
-unfolding placeValid volumeValid zoneValid screenValid ranged
-idle-within class = record { gain = omega arith; priority = omega arith; place = refl; volume = refl; zone = refl; screen = refl; snap = omega arith }
+unfolding locationValid volumeValid zoneValid screenValid betweenIf
+idle-within class = record { gain = omega arith; priority = omega arith; location = refl; volume = refl; zone = refl; screen = refl; snap = omega arith }
 
 by-status : {A : Type 0} (Q : A → Type 0) (status : Status) (sent : Bool) (default before value : A) → Q default → Q before → Q value
     → Q (valueOf status sent default before value)
@@ -119,9 +113,9 @@ resolve-within before above class b w l r =
       gain = by-status (λ n. n ≤ 65) (b .basic .status) _ 0 (before .gain) _ (d .gain) (w .gain) (gain-le (b .basic .gain) above l);
       priority = by-status (λ n. n ≤ 32) (b .basic .status) _ 0 (before .priority) _ (d .priority) (w .priority)
           (priority-le (b .basic .priority) (r .priority));
-      place =
-          by-status (λ p. placeValid true p ≡ true) (b .render .status) _ defaultPlace (before .place) _ (d .place) (w .place)
-          (place-valid (b .render .position) (distanceOf (b .render .distance)) (before .place) (distance-le (b .render .distance)));
+      location =
+          by-status (λ p. locationValid true p ≡ true) (b .render .status) _ defaultLocation (before .location) _ (d .location) (w .location)
+          (location-valid (b .render .position) (distanceOf (b .render .distance)) (before .location) (distance-le (b .render .distance)));
       volume =
           by-status (λ v. volumeValid true v ≡ true) (b .render .status) _ defaultVolume (before .volume) _ (d .volume) (w .volume)
           (volume-valid (b .render .extent) (e .0) (e .1) (e .2) (e .3));
@@ -137,9 +131,9 @@ sent-or-default : {A : Type 0} (valid : Bool → A → Bool) (sent : Bool) (defa
 sent-or-default valid true default v u f g = f refl
 sent-or-default valid false default v u f g = rw (g refl) u
 
-defaults-valid : (placeValid false defaultPlace ≡ true) × (volumeValid false defaultVolume ≡ true) × (zoneValid false defaultZone ≡ true)
+defaults-valid : (locationValid false defaultLocation ≡ true) × (volumeValid false defaultVolume ≡ true) × (zoneValid false defaultZone ≡ true)
     × (screenValid false defaultScreen ≡ true)
-unfolding placeValid volumeValid zoneValid screenValid ranged
+unfolding locationValid volumeValid zoneValid screenValid betweenIf
 defaults-valid = (refl, refl, refl, refl)
 
 resolve-valid : (before : Scene) (above class : ℕ) (b : Block) → Within before → above ≤ 65 → BlockRead class b
@@ -149,15 +143,15 @@ resolve-valid before above class b w l r =
     let s : Scene = resolve before above b in
     let n = resolve-within before above class b w l r in
     let off : carries s ≡ false → b .render .status ≡ Default = λ q. r .unsent (rw (r .kind) at q) in
-    whole _ _ (always 0 1 0 (b .active) (omega arith) (r .active))
+    whole _ _ (always 0 1 (b .active) (omega arith) (r .active))
     (whole _ _ (eq-eqb (b .class) class (r .kind))
-    (whole _ _ (is-ranged (set? (b .active)) 0 65 0 (s .gain) (λ q. omega arith) (λ q. n .gain) (λ q. rw (r .idle q) refl))
-    (whole _ _ (is-ranged (set? (b .active)) 0 32 0 (s .priority) (λ q. omega arith) (λ q. n .priority) (λ q. rw (r .idle q) refl))
-    (whole _ _ (sent-or-default placeValid (carries s) defaultPlace (s .place) (defaults-valid .0) (λ q. n .place) (λ q. rw (off q) refl))
+    (whole _ _ (is-ranged (set? (b .active)) 0 65 (s .gain) (λ q. omega arith) (λ q. n .gain) (λ q. rw (r .idle q) refl))
+    (whole _ _ (is-ranged (set? (b .active)) 0 32 (s .priority) (λ q. omega arith) (λ q. n .priority) (λ q. rw (r .idle q) refl))
+    (whole _ _ (sent-or-default locationValid (carries s) defaultLocation (s .location) (defaults-valid .0) (λ q. n .location) (λ q. rw (off q) refl))
     (whole _ _ (sent-or-default volumeValid (carries s) defaultVolume (s .volume) (defaults-valid .1) (λ q. n .volume) (λ q. rw (off q) refl))
     (whole _ _ (sent-or-default zoneValid (carries s) defaultZone (s .zone) (defaults-valid .2) (λ q. n .zone) (λ q. rw (off q) refl))
     (whole _ _ (sent-or-default screenValid (carries s) defaultScreen (s .screen) (defaults-valid .3) (λ q. n .screen) (λ q. rw (off q) refl))
-    (is-ranged (carries s) 0 1 0 (s .snap) (λ q. omega arith) (λ q. n .snap) (λ q. rw (off q) refl)))))))))
+    (is-ranged (carries s) 0 1 (s .snap) (λ q. omega arith) (λ q. n .snap) (λ q. rw (off q) refl)))))))))
 
 -- ---- the scenes of an object
 
@@ -219,7 +213,7 @@ module _ (s : Shares) (blocks : ℕ) where
   all-valid j (suc n) above [] a h = absurd h
   all-valid j (suc n) above (o ∷ os) a h =
       let mine : List Scene = scenesOf above o in
-      let x = object-sound (classOf s j) (idle 0) above o (idle-within 0) a (h .0 .read) in
+      let x = object-sound (classOf s j) nothingBefore above o (idle-within 0) a (h .0 .read) in
       let l = h .0 .long in
       let m : length mine ≡ blocks = x .1 ∙ l in
       let rest = all-valid (suc j) n mine os (within-all (classOf s j) mine (x .0)) (h .1) in

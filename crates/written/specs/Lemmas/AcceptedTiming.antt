@@ -16,9 +16,9 @@ use Rattle.oamd.specs.declared.Update.{Update}
 use Rattle.oamd.specs.Tables.{mostBlocks, sampleOffsets, rampCodes, rampDurations}
 use Rattle.oamd.specs.Programme.{set?, clear?, filled}
 use Rattle.oamd.specs.Timing.{sample-offset, block-update-info, MdUpdateInfo, md-update-info, offsetOf, rampOf, startOf, updateOf, noUpdate, timingOf}
-use Rattle.written.specs.Valid.{_and_, ranged, entriesValid, sampleOffset, updateValid, timingValid}
-use Rattle.written.specs.Lemmas.Facts.{halves, whole, by-test}
-use Rattle.written.specs.Lemmas.AcceptedProgramme.{always, all-every, entries-make}
+use Rattle.written.specs.Valid.{_and_, betweenIf, entriesValid, sampleOffset, updateValid, timingValid}
+use Rattle.written.specs.Lemmas.Facts.{halves, whole, by-test, always}
+use Rattle.written.specs.Lemmas.AcceptedProgramme.{all-every, entries-make}
 
 -- ---- what is read
 
@@ -91,12 +91,12 @@ timing-ensures =
 -- ---- what it means
 
 update-valid : (offset : ℕ) (u : BlockUpdate) → offset ≤ 31 → UpdateRead u → updateValid offset true (updateOf offset u) ≡ true
-unfolding updateValid startOf
+unfolding updateValid startOf betweenIf
 update-valid offset u l r =
     let f = r .factor in
     let start : ℕ = offset + 32 * u .factor in
-    whole _ _ (always 0 2047 0 start (omega arith) (omega arith))
-    (whole _ _ (eq-eqb (start % 32) offset (omega arith)) (always 0 2048 0 (rampOf u) (omega arith) (r .ramp)))
+    whole _ _ (always 0 2047 start (omega arith) (omega arith))
+    (whole _ _ (eq-eqb (start % 32) offset (omega arith)) (always 0 2048 (rampOf u) (omega arith) (r .ramp)))
 
 updates-valid : (offset : ℕ) (us : List BlockUpdate) → offset ≤ 31 → Every UpdateRead us
     → Every (λ u. updateValid offset true u ≡ true) (map (updateOf offset) us)
@@ -104,7 +104,7 @@ updates-valid offset [] l h = tt
 updates-valid offset (u ∷ us) l h = (update-valid offset u l (h .0), updates-valid offset us l (h .1))
 
 no-update-valid : (offset : ℕ) → updateValid offset false noUpdate ≡ true
-unfolding updateValid ranged
+unfolding updateValid betweenIf
 no-update-valid offset = refl
 
 -- the first start leaves the sample offset
@@ -123,7 +123,7 @@ timing-valid m r =
     let n : length us ≡ length (m .blocks) = length-map (m .blocks) (updateOf offset) in
     let a = length-append us (replicate (mostBlocks - length us) noUpdate) in
     let z = length-replicate (mostBlocks - length us) noUpdate in
-    whole _ _ (always 0 mostBlocks 0 (length (m .blocks)) (omega arith) few)
+    whole _ _ (always 0 mostBlocks (length (m .blocks)) (omega arith) few)
     (whole _ _ (eq-eqb (length (filled mostBlocks noUpdate us)) mostBlocks (omega arith))
     (rw (first-leaves (m .offset) (m .blocks) (r .offset) (r .some))
     (subst (λ (k : ℕ). entriesValid (updateValid offset) k (filled mostBlocks noUpdate us) ≡ true) n

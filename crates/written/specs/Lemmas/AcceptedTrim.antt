@@ -17,21 +17,21 @@ use Rattle.oamd.specs.Tables.{trimConfigs}
 use Rattle.oamd.specs.Programme.{set?, clear?}
 use Rattle.oamd.specs.Reserved.{WarpMode, GlobalTrimMode, TrimSurround, TrimHeight}
 use Rattle.oamd.specs.Trim.{hasCentre, hasSurround, hasHeight, hasTb, hasLis, trim-config, noConfig, trim-element, noTrim}
-use Rattle.written.specs.Valid.{ranged, entriesValid, configValid, trimValid}
+use Rattle.written.specs.Valid.{betweenIf, entriesValid, configValid, trimValid}
 use Rattle.written.specs.Form.{configBits}
-use Rattle.written.specs.Lemmas.Facts.{whole, is-ranged}
+use Rattle.written.specs.Lemmas.Facts.{whole, always, is-ranged}
 use Rattle.written.specs.Lemmas.Unreserved.{under, e-unreserved, s-unreserved}
-use Rattle.written.specs.Lemmas.AcceptedProgramme.{read-ranged, always, all-every, entries-make}
+use Rattle.written.specs.Lemmas.AcceptedProgramme.{read-ranged, all-every, entries-make}
 
 -- ---- a configuration
 
 -- a code of which the first four are reserved
-code-ranged : (sent : Bool) (v : ℕ) → (sent ≡ true → (v < 16) × (between 0 3 v ≡ false)) → (sent ≡ false → 0 ≡ v) → ranged sent 4 15 0 v ≡ true
-code-ranged sent v f g = is-ranged sent 4 15 0 v (λ q. free-above 0 3 v (f q .1) (omega arith)) (λ q. let x = f q .0 in omega arith) (λ q. sym (g q))
+code-ranged : (sent : Bool) (v : ℕ) → (sent ≡ true → (v < 16) × (between 0 3 v ≡ false)) → (sent ≡ false → 0 ≡ v) → betweenIf sent 4 15 v ≡ true
+code-ranged sent v f g = is-ranged sent 4 15 v (λ q. free-above 0 3 v (f q .1) (omega arith)) (λ q. let x = f q .0 in omega arith) (λ q. sym (g q))
 
 -- it is valid, and leaves no choice of its bits
 pub config-spells : Spells trim-config (λ l c. (configBits c ≡ l) × (configValid true c ≡ true))
-unfolding trim-config configValid configBits
+unfolding trim-config configValid configBits betweenIf
 config-spells =
     s-bind _ _ _ (s-bits 1 _ λ bydefault a.
     s-bind _ _ _ (s-if (clear? bydefault) 1 _ λ disabled b b'.
@@ -45,7 +45,7 @@ config-spells =
     s-bind _ _ _ (s-if (hasLis presence) 4 _ λ lisamount j j'.
     s-give _ _ (
       rw (append-nil (only (hasLis presence) (toBits 4 lisamount))) refl,
-      whole _ _ (always 0 1 0 bydefault (omega arith) (omega arith))
+      whole _ _ (always 0 1 bydefault (omega arith) (omega arith))
           (whole _ _ (read-ranged (clear? bydefault) 1 disabled b b')
           (whole _ _ (read-ranged (both (clear? bydefault) (clear? disabled)) 31 presence c c')
           (whole _ _ (read-ranged (hasCentre presence) 15 centre d d')
@@ -57,7 +57,7 @@ config-spells =
     )))))))))))
 
 no-config-valid : configValid false noConfig ≡ true
-unfolding configValid ranged
+unfolding configValid betweenIf
 no-config-valid = refl
 
 -- ---- the element
@@ -83,28 +83,28 @@ array-ensures {A} valid empty p f u on n =
     rw q (record { long = e; entries = rw e at all }))
     (λ q. rw q (none-read valid empty u n))
 
-flag-off : ranged false 0 1 0 0 ≡ true
-unfolding ranged
+flag-off : betweenIf false 0 1 0 ≡ true
+unfolding betweenIf
 flag-off = refl
 
 pub trim-ensures : (objects : ℕ) → Ensures (trim-element objects) (λ t. trimValid objects t ≡ true)
-unfolding trim-element trimValid
+unfolding trim-element trimValid betweenIf
 trim-ensures objects =
     e-bind _ _ _ (e-unreserved true WarpMode _ λ warp w w'.
     e-bind _ _ _ (e-any _ _ λ reserved.
     e-bind _ _ _ (e-unreserved true GlobalTrimMode _ λ mode m m'.
     e-bind _ _ _ (e-then _ _ _ (array-ensures configValid noConfig trim-config (e-spells _ _ _ config-spells λ l c h. h .1) no-config-valid (eqb mode 2) trimConfigs) λ configs c.
     e-bind _ _ _ (e-bits 1 _ λ flag f.
-    e-bind _ _ _ (e-then _ _ _ (array-ensures (λ used x. ranged used 0 1 0 x) 0 (bits 1)
-    (e-bits 1 _ λ x l. always 0 1 0 x (omega arith) (omega arith)) flag-off (set? flag) objects) λ flags d.
+    e-bind _ _ _ (e-then _ _ _ (array-ensures (λ used x. betweenIf used 0 1 x) 0 (bits 1)
+    (e-bits 1 _ λ x l. always 0 1 x (omega arith) (omega arith)) flag-off (set? flag) objects) λ flags d.
     let low = under WarpMode warp (omega arith) (w refl) in
     let other = under GlobalTrimMode mode (omega arith) (m refl) in
-    e-give _ _ (whole _ _ (always 0 1 0 1 (omega arith) (omega arith))
-    (whole _ _ (always 0 1 0 warp (omega arith) (omega arith))
-    (whole _ _ (always 0 2 0 mode (omega arith) (omega arith))
+    e-give _ _ (whole _ _ (always 0 1 1 (omega arith) (omega arith))
+    (whole _ _ (always 0 1 warp (omega arith) (omega arith))
+    (whole _ _ (always 0 2 mode (omega arith) (omega arith))
     (whole _ _ (eq-eqb _ _ (c .long))
     (whole _ _ (c .entries)
-    (whole _ _ (always 0 1 0 flag (omega arith) (omega arith))
+    (whole _ _ (always 0 1 flag (omega arith) (omega arith))
     (whole _ _ (eq-eqb _ _ (d .long)) (d .entries))))))))))))))
 
 -- and so is that of a payload without the element
@@ -112,8 +112,8 @@ pub no-trim-valid : (objects : ℕ) → trimValid objects (noTrim objects) ≡ t
 unfolding trimValid
 no-trim-valid objects =
     let c = none-read configValid noConfig no-config-valid trimConfigs in
-    let d = none-read (λ used x. ranged used 0 1 0 x) 0 flag-off objects in
-    whole _ _ (always 0 1 0 0 (omega arith) (omega arith))
+    let d = none-read (λ used x. betweenIf used 0 1 x) 0 flag-off objects in
+    whole _ _ (always 0 1 0 (omega arith) (omega arith))
     (whole _ _ flag-off
     (whole _ _ (read-ranged false 2 0 (λ q. omega arith) (λ q. refl))
     (whole _ _ (eq-eqb _ _ (c .long)) (whole _ _ (c .entries) (whole _ _ flag-off (whole _ _ (eq-eqb _ _ (d .long)) (d .entries)))))))

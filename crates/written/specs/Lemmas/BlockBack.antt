@@ -6,7 +6,7 @@ use Prim.Native.Nat.{ℕ, _≤_}
 use native.Mathlib.Omega.{arith}
 use lib.Dec.{eqb}
 use borrow.Author.Tests.{eqb-true}
-use Rattle.bits.specs.Language.{pick}
+use Rattle.bits.specs.Language.{pick, between}
 use Rattle.bits.specs.Writes.{toBits, only}
 use Rattle.bits.specs.Back.{Writes, w-give, w-bits, w-bind, w-end}
 use Rattle.oamd.specs.declared.Status.{Status}
@@ -17,12 +17,12 @@ use Rattle.oamd.specs.declared.Block.{Block}
 use Rattle.oamd.specs.declared.Scene.{Scene}
 use Rattle.oamd.specs.Programme.{set?, dynamicClass}
 use Rattle.oamd.specs.Block.{status-idx, object-basic-info, nowhere, position, distance, zone, extent, screen, object-render-info, additional-table-data, object-info-block}
-use Rattle.oamd.specs.Meaning.{placeOf, defaultPlace, defaultVolume, defaultZone, defaultScreen, resolve}
+use Rattle.oamd.specs.Meaning.{locationOf, defaultLocation, defaultVolume, defaultZone, defaultScreen, resolve}
 use Rattle.oamd.specs.Record.{carries}
-use Rattle.written.specs.Valid.{ranged, placeValid, volumeValid, zoneValid, screenValid, sceneValid}
+use Rattle.written.specs.Valid.{betweenIf, locationValid, volumeValid, zoneValid, screenValid, sceneValid}
 use Rattle.written.specs.Coded.{codedGain, codedPriority, zSign, zBits, codedDistance, codedExtent}
 use Rattle.written.specs.Form.{statusBits, positionBits, basicBits, renderBits, blockBits}
-use Rattle.written.specs.Lemmas.Facts.{halves, by-test, by-flag, Ranged, in-range}
+use Rattle.written.specs.Lemmas.Facts.{halves, by-test, by-flag, Ranged, or-default, in-range, always-ranged}
 use Rattle.written.specs.Lemmas.Means.{gain-codable, gain-means, priority-codable, priority-means, z-means, across-means, distance-codable, distance-means, extent-codable, extent-means}
 use Rattle.written.specs.Lemmas.Fields.{fullBasic, basic-writes, noBasic, no-basic-writes, position-writes, distance-writes, zone-writes, extent-writes, screen-writes}
 
@@ -33,10 +33,10 @@ pub record SceneFacts (class : ℕ) (s : Scene) : Type 0 where
   pub kind : s .class ≡ class
   pub gain : Ranged (set? (s .active)) 0 65 0 (s .gain)
   pub priority : Ranged (set? (s .active)) 0 32 0 (s .priority)
-  pub x : Ranged (carries s) 0 62 31 (s .place .x)
-  pub y : Ranged (carries s) 0 62 31 (s .place .y)
-  pub z : Ranged (carries s) 49 79 64 (s .place .z)
-  pub distance : Ranged (carries s) 0 17 0 (s .place .distance)
+  pub x : Ranged (carries s) 0 62 31 (s .location .x)
+  pub y : Ranged (carries s) 0 62 31 (s .location .y)
+  pub z : Ranged (carries s) 49 79 64 (s .location .z)
+  pub distance : Ranged (carries s) 0 17 0 (s .location .distance)
   pub width : Ranged (carries s) 0 31 0 (s .volume .width)
   pub depth : Ranged (carries s) 0 31 0 (s .volume .depth)
   pub height : Ranged (carries s) 0 31 0 (s .volume .height)
@@ -48,42 +48,42 @@ pub record SceneFacts (class : ℕ) (s : Scene) : Type 0 where
   pub snap : Ranged (carries s) 0 1 0 (s .snap)
 
 pub scene-facts : (class : ℕ) (s : Scene) → sceneValid class s ≡ true → SceneFacts class s
-unfolding sceneValid placeValid volumeValid zoneValid screenValid
+unfolding sceneValid locationValid volumeValid zoneValid screenValid
 scene-facts class s h =
-    let a = halves (ranged true 0 1 0 (s .active)) _ h in
+    let a = halves (between 0 1 (s .active)) _ h in
     let b = halves (eqb (s .class) class) _ (a .1) in
-    let c = halves (ranged (set? (s .active)) 0 65 0 (s .gain)) _ (b .1) in
-    let d = halves (ranged (set? (s .active)) 0 32 0 (s .priority)) _ (c .1) in
-    let e = halves (placeValid (carries s) (s .place)) _ (d .1) in
+    let c = halves (betweenIf (set? (s .active)) 0 65 (s .gain)) _ (b .1) in
+    let d = halves (betweenIf (set? (s .active)) 0 32 (s .priority)) _ (c .1) in
+    let e = halves (locationValid (carries s) (s .location)) _ (d .1) in
     let f = halves (volumeValid (carries s) (s .volume)) _ (e .1) in
     let g = halves (zoneValid (carries s) (s .zone)) _ (f .1) in
     let i = halves (screenValid (carries s) (s .screen)) _ (g .1) in
-    let x = halves (ranged (carries s) 0 62 31 (s .place .x)) _ (e .0) in
-    let y = halves (ranged (carries s) 0 62 31 (s .place .y)) _ (x .1) in
-    let z = halves (ranged (carries s) 49 79 64 (s .place .z)) _ (y .1) in
-    let w = halves (ranged (carries s) 0 31 0 (s .volume .width)) _ (f .0) in
-    let u = halves (ranged (carries s) 0 31 0 (s .volume .depth)) _ (w .1) in
-    let o = halves (ranged (carries s) 0 5 0 (s .zone .index)) _ (g .0) in
-    let k = halves (ranged (carries s) 0 1 0 (s .screen .used)) _ (i .0) in
-    let l = halves (ranged (set? (s .screen .used)) 0 7 0 (s .screen .factor)) _ (k .1) in
+    let x = halves (pick (carries s) (between 0 62 (s .location .x)) (eqb (s .location .x) 31)) _ (e .0) in
+    let y = halves (pick (carries s) (between 0 62 (s .location .y)) (eqb (s .location .y) 31)) _ (x .1) in
+    let z = halves (pick (carries s) (between 49 79 (s .location .z)) (eqb (s .location .z) 64)) _ (y .1) in
+    let w = halves (betweenIf (carries s) 0 31 (s .volume .width)) _ (f .0) in
+    let u = halves (betweenIf (carries s) 0 31 (s .volume .depth)) _ (w .1) in
+    let o = halves (betweenIf (carries s) 0 5 (s .zone .index)) _ (g .0) in
+    let k = halves (betweenIf (carries s) 0 1 (s .screen .used)) _ (i .0) in
+    let l = halves (betweenIf (set? (s .screen .used)) 0 7 (s .screen .factor)) _ (k .1) in
     record {
-      active = in-range true 0 1 0 (s .active) (a .0) .on refl .1;
+      active = always-ranged 0 1 (s .active) (a .0) .on refl .1;
       kind = eqb-true _ _ (b .0);
-      gain = in-range _ _ _ _ _ (c .0);
-      priority = in-range _ _ _ _ _ (d .0);
-      x = in-range _ _ _ _ _ (x .0);
-      y = in-range _ _ _ _ _ (y .0);
-      z = in-range _ _ _ _ _ (z .0);
-      distance = in-range _ _ _ _ _ (z .1);
-      width = in-range _ _ _ _ _ (w .0);
-      depth = in-range _ _ _ _ _ (u .0);
-      height = in-range _ _ _ _ _ (u .1);
-      zone = in-range _ _ _ _ _ (o .0);
-      elevation = in-range _ _ _ _ _ (o .1);
-      used = in-range _ _ _ _ _ (k .0);
-      factor = in-range _ _ _ _ _ (l .0);
-      back = in-range _ _ _ _ _ (l .1);
-      snap = in-range _ _ _ _ _ (i .1);
+      gain = in-range _ _ _ _ (c .0);
+      priority = in-range _ _ _ _ (d .0);
+      x = or-default (carries s) 0 62 31 (s .location .x) (x .0);
+      y = or-default (carries s) 0 62 31 (s .location .y) (y .0);
+      z = or-default (carries s) 49 79 64 (s .location .z) (z .0);
+      distance = in-range _ _ _ _ (z .1);
+      width = in-range _ _ _ _ (w .0);
+      depth = in-range _ _ _ _ (u .0);
+      height = in-range _ _ _ _ (u .1);
+      zone = in-range _ _ _ _ (o .0);
+      elevation = or-default (carries s) 0 1 1 (s .zone .elevation) (o .1);
+      used = in-range _ _ _ _ (k .0);
+      factor = in-range _ _ _ _ (l .0);
+      back = in-range _ _ _ _ (l .1);
+      snap = in-range _ _ _ _ (i .1);
     }
 
 -- ---- what is read
@@ -92,8 +92,8 @@ abbrev pub fullRender : Scene → Render
 fullRender s = record {
   status = Full;
   parts = 15;
-  position = Absolute (s .place .x) (s .place .y) (zSign (s .place .z)) (zBits (s .place .z));
-  distance = codedDistance (s .place .distance);
+  position = Absolute (s .location .x) (s .location .y) (zSign (s .location .z)) (zBits (s .location .z));
+  distance = codedDistance (s .location .distance);
   zone = s .zone;
   extent = codedExtent (s .volume);
   screen = s .screen;
@@ -144,12 +144,12 @@ render-writes first class s f q =
     let x = f .x .on q in
     let y = f .y .on q in
     let z = f .z .on q in
-    let m = z-means (s .place .z) (z .0) (z .1) in
+    let m = z-means (s .location .z) (z .0) (z .1) in
     let used : Ranged true 0 1 0 (s .screen .used) = record { on = λ p. f .used .on q; off = λ p. absurd (false≢true (sym p)) } in
     let snap = f .snap .on q in
     w-bind (w-give 15)
-    (w-bind (position-writes first (s .place .x) (s .place .y) (zSign (s .place .z)) (zBits (s .place .z)) (omega arith) (omega arith) (m .0) (m .1))
-    (w-bind (distance-writes (codedDistance (s .place .distance)) (distance-codable (s .place .distance) (f .distance .on q .1)))
+    (w-bind (position-writes first (s .location .x) (s .location .y) (zSign (s .location .z)) (zBits (s .location .z)) (omega arith) (omega arith) (m .0) (m .1))
+    (w-bind (distance-writes (codedDistance (s .location .distance)) (distance-codable (s .location .distance) (f .distance .on q .1)))
     (w-bind (zone-writes (s .zone) (f .zone .on q .1) (f .elevation .on q .1))
     (w-bind (extent-writes (codedExtent (s .volume)) (extent-codable (s .volume) (f .width .on q .1) (f .depth .on q .1) (f .height .on q .1)))
     (w-bind (screen-writes (s .screen) used (f .factor) (f .back)) (w-end (w-bits 1 (s .snap) (omega arith)) (w-give _)))))))
@@ -192,7 +192,7 @@ block-writes blk class s f =
 
 -- where nothing of a position, a size, a zone, a screen reference or a snap is sent, they are the defaults
 pub record Plain (s : Scene) : Type 0 where
-  pub place : defaultPlace ≡ s .place
+  pub location : defaultLocation ≡ s .location
   pub volume : defaultVolume ≡ s .volume
   pub zone : defaultZone ≡ s .zone
   pub screen : defaultScreen ≡ s .screen
@@ -203,7 +203,7 @@ plain {s = s} f c =
     let used = sym (f .used .off c) in
     let off : set? (s .screen .used) ≡ false = rw (← used) refl in
     record {
-      place = λ i. record { x = sym (f .x .off c) i; y = sym (f .y .off c) i; z = sym (f .z .off c) i; distance = sym (f .distance .off c) i };
+      location = λ i. record { x = sym (f .x .off c) i; y = sym (f .y .off c) i; z = sym (f .z .off c) i; distance = sym (f .distance .off c) i };
       volume = λ i. record { width = sym (f .width .off c) i; depth = sym (f .depth .off c) i; height = sym (f .height .off c) i };
       zone = λ i. record { index = sym (f .zone .off c) i; elevation = sym (f .elevation .off c) i };
       screen = λ i. record { used = used i; factor = sym (f .factor .off off) i; depth = sym (f .back .off off) i };
@@ -212,7 +212,7 @@ plain {s = s} f c =
 
 -- a block that is written takes nothing from the block before nor from the object before
 pub block-means : (before : Scene) (above class : ℕ) (s : Scene) → SceneFacts class s → resolve before above (codedBlock s) ≡ s
-unfolding resolve codedBlock placeOf
+unfolding resolve codedBlock locationOf
 block-means before above class s f = by-test (set? (s .active))
     (λ a.
     let gain = gain-means (s .gain) above (f .gain .on a .1) in
@@ -220,17 +220,17 @@ block-means before above class s f = by-test (set? (s .active))
     by-test (carries s)
     (λ c.
     let z = f .z .on c in
-    let px = across-means (s .place .x) (f .x .on c .1) in
-    let py = across-means (s .place .y) (f .y .on c .1) in
-    let pz = z-means (s .place .z) (z .0) (z .1) .2 in
-    let pd = distance-means (s .place .distance) (f .distance .on c .1) in
+    let px = across-means (s .location .x) (f .x .on c .1) in
+    let py = across-means (s .location .y) (f .y .on c .1) in
+    let pz = z-means (s .location .z) (z .0) (z .1) .2 in
+    let pd = distance-means (s .location .distance) (f .distance .on c .1) in
     let volume = extent-means (s .volume) in
     rw (c, a) (λ i. record {
       active = s .active;
       class = s .class;
       gain = gain i;
       priority = priority i;
-      place = record { x = px i; y = py i; z = pz i; distance = pd i };
+      location = record { x = px i; y = py i; z = pz i; distance = pd i };
       volume = volume i;
       zone = s .zone;
       screen = s .screen;
@@ -243,7 +243,7 @@ block-means before above class s f = by-test (set? (s .active))
       class = s .class;
       gain = gain i;
       priority = priority i;
-      place = d .place i;
+      location = d .location i;
       volume = d .volume i;
       zone = d .zone i;
       screen = d .screen i;
@@ -257,7 +257,7 @@ block-means before above class s f = by-test (set? (s .active))
       class = s .class;
       gain = sym (f .gain .off a) i;
       priority = sym (f .priority .off a) i;
-      place = d .place i;
+      location = d .location i;
       volume = d .volume i;
       zone = d .zone i;
       screen = d .screen i;

@@ -20,7 +20,7 @@ use Rattle.oamd.specs.Programme.{set?, classOf}
 use Rattle.oamd.specs.Reserved.{ObjectDivMode, ObjectDivCode, unreservedIf}
 use Rattle.oamd.specs.Extended.{obj-div-block, ext-prec-pos-block, hasX, hasY, hasZ, noDivergence, noPrecise, Extension, extended-object-element}
 use Rattle.oamd.specs.Record.{Record, recordOf, carries, allCarry, plainRecords, extendedRecords}
-use Rattle.written.specs.Valid.{ranged, leastDivergence, mostDivergence, sceneValid, divergenceValid, preciseValid, recordValid}
+use Rattle.written.specs.Valid.{betweenIf, leastDivergence, mostDivergence, sceneValid, divergenceValid, preciseValid, recordValid}
 use Rattle.written.specs.Coded.{asFlag}
 use Rattle.written.specs.Form.{divergenceBits, preciseBits, any, diverges, refines, hasExtended, extendedElementBits}
 use Rattle.written.specs.Lemmas.Facts.{halves, by-test, by-flag, by-eq, Ranged, in-range, w-ranged, w-picked}
@@ -37,9 +37,9 @@ pub record DivergenceFacts (sent : Bool) (d : Divergence) : Type 0 where
 pub divergence-facts : (sent : Bool) (d : Divergence) → divergenceValid sent d ≡ true → DivergenceFacts sent d
 unfolding divergenceValid
 divergence-facts sent d h =
-    let a = halves (ranged sent 0 1 0 (d .used)) _ h in
-    let b = halves (ranged (set? (d .used)) 0 2 0 (d .mode)) _ (a .1) in
-    record { used = in-range _ _ _ _ _ (a .0); mode = in-range _ _ _ _ _ (b .0); value = in-range _ _ _ _ _ (b .1) }
+    let a = halves (betweenIf sent 0 1 (d .used)) _ h in
+    let b = halves (betweenIf (set? (d .used)) 0 2 (d .mode)) _ (a .1) in
+    record { used = in-range _ _ _ _ (a .0); mode = in-range _ _ _ _ (b .0); value = in-range _ _ _ _ (b .1) }
 
 -- the value of a mode that is known: one of two fields carries it
 record ByMode (used : Bool) (mode value : ℕ) : Type 0 where
@@ -100,10 +100,10 @@ pub record PreciseFacts (sent : Bool) (p : Precise) : Type 0 where
 pub precise-facts : (sent : Bool) (p : Precise) → preciseValid sent p ≡ true → PreciseFacts sent p
 unfolding preciseValid
 precise-facts sent p h =
-    let a = halves (ranged sent 0 7 0 (p .presence)) _ h in
-    let b = halves (ranged (hasX (p .presence)) 0 3 0 (p .x)) _ (a .1) in
-    let c = halves (ranged (hasY (p .presence)) 0 3 0 (p .y)) _ (b .1) in
-    record { presence = in-range _ _ _ _ _ (a .0); x = in-range _ _ _ _ _ (b .0); y = in-range _ _ _ _ _ (c .0); z = in-range _ _ _ _ _ (c .1) }
+    let a = halves (betweenIf sent 0 7 (p .presence)) _ h in
+    let b = halves (betweenIf (hasX (p .presence)) 0 3 (p .x)) _ (a .1) in
+    let c = halves (betweenIf (hasY (p .presence)) 0 3 (p .y)) _ (b .1) in
+    record { presence = in-range _ _ _ _ (a .0); x = in-range _ _ _ _ (b .0); y = in-range _ _ _ _ (c .0); z = in-range _ _ _ _ (c .1) }
 
 set-flag : (t : Bool) → set? (asFlag t) ≡ t
 set-flag true = refl

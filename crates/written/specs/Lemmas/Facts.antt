@@ -3,13 +3,13 @@ use mathlib.Core.Path.{_≡_, refl, sym}
 use mathlib.Core.Bool.{Bool, true, false, false≢true}
 use Prim.Native.Nat.{ℕ, zero, suc, _^_, _≤_, _<_}
 use native.Mathlib.Omega.{arith}
-use lib.Dec.{leb}
+use lib.Dec.{leb, eqb}
 use borrow.Author.Tests.{leb-true, eqb-true, le-leb, eq-eqb}
-use Rattle.bits.specs.Language.{pick, bitsIf}
+use Rattle.bits.specs.Language.{pick, between, bitsIf}
 use Rattle.bits.specs.Steps.{by-order}
 use Rattle.bits.specs.Writes.{toBits, only}
 use Rattle.bits.specs.Back.{Writes, w-give, w-bits, w-if}
-use Rattle.written.specs.Valid.{_and_, ranged}
+use Rattle.written.specs.Valid.{_and_, betweenIf}
 
 -- both halves of a test, and both together
 pub halves : (a b : Bool) → (a and b) ≡ true → (a ≡ true) × (b ≡ true)
@@ -38,18 +38,27 @@ pub record Ranged (carried : Bool) (low high default v : ℕ) : Type 0 where
   pub on : carried ≡ true → (low ≤ v) × (v ≤ high)
   pub off : carried ≡ false → v ≡ default
 
-pub in-range : (carried : Bool) (low high default v : ℕ) → ranged carried low high default v ≡ true → Ranged carried low high default v
-unfolding ranged
-in-range true low high default v h =
+pub or-default : (carried : Bool) (low high default v : ℕ) → pick carried (between low high v) (eqb v default) ≡ true → Ranged carried low high default v
+or-default true low high default v h =
     let x = halves (leb low v) (leb v high) h in
     record { on = λ q. (leb-true low v (x .0), leb-true v high (x .1)); off = λ q. absurd (false≢true (sym q)) }
-in-range false low high default v h = record { on = λ q. absurd (false≢true q); off = λ q. eqb-true v default h }
+or-default false low high default v h = record { on = λ q. absurd (false≢true q); off = λ q. eqb-true v default h }
 
-pub is-ranged : (carried : Bool) (low high default v : ℕ) → (carried ≡ true → low ≤ v) → (carried ≡ true → v ≤ high) → (carried ≡ false → v ≡ default)
-    → ranged carried low high default v ≡ true
-unfolding ranged
-is-ranged true low high default v f g h = whole (leb low v) (leb v high) (le-leb low v (f refl)) (le-leb v high (g refl))
-is-ranged false low high default v f g h = eq-eqb v default (h refl)
+pub in-range : (carried : Bool) (low high v : ℕ) → betweenIf carried low high v ≡ true → Ranged carried low high 0 v
+unfolding betweenIf
+in-range carried low high v h = or-default carried low high 0 v h
+
+pub always-ranged : (low high v : ℕ) → between low high v ≡ true → Ranged true low high 0 v
+always-ranged low high v h = or-default true low high 0 v h
+
+pub always : (low high v : ℕ) → low ≤ v → v ≤ high → between low high v ≡ true
+always low high v l h = whole (leb low v) (leb v high) (le-leb low v l) (le-leb v high h)
+
+pub is-ranged : (carried : Bool) (low high v : ℕ) → (carried ≡ true → low ≤ v) → (carried ≡ true → v ≤ high) → (carried ≡ false → v ≡ 0)
+    → betweenIf carried low high v ≡ true
+unfolding betweenIf
+is-ranged true low high v f g h = always low high v (f refl) (g refl)
+is-ranged false low high v f g h = eq-eqb v 0 (h refl)
 
 -- a test that is computed for every number below n
 abbrev pub allBelow : ℕ → (ℕ → Bool) → Bool

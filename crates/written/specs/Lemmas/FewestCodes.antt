@@ -6,7 +6,7 @@ use Prim.Native.Nat.{ℕ, suc, _+_, _*_, _/_, _≤_, _<_}
 use native.Mathlib.Omega.{arith}
 use lib.Dec.{eqb}
 use borrow.Author.Tests.{ne-eqb, eq-eqb}
-use Rattle.bits.specs.Language.{pick, number}
+use Rattle.bits.specs.Language.{pick, number, between}
 use Rattle.bits.specs.Writes.{toBits, First}
 use Rattle.bits.specs.First.{first?, first-of, first-same, first-append, first-cancel}
 use Rattle.oamd.specs.declared.Offset.{Offset}
@@ -18,11 +18,11 @@ use Rattle.oamd.specs.declared.Extent.{Extent}
 use Rattle.oamd.specs.Programme.{set?, clear?}
 use Rattle.oamd.specs.Timing.{offsetOf, rampOf, startOf, updateOf}
 use Rattle.oamd.specs.Meaning.{gainOf, priorityOf, across, upright, heightOf, distanceOf, volumeOf}
-use Rattle.written.specs.Valid.{_and_, ranged}
+use Rattle.written.specs.Valid.{betweenIf, _and_}
 use Rattle.written.specs.Coded.{codedOffset, rampCode, codedUpdate, gainIndex, codedGain, codedPriority, zSign, zBits, codedDistance, sizeIndex, codedExtent}
 use Rattle.written.specs.Lemmas.Codable.{offsetCodable, updateCodable, gainCodable, priorityCodable, distanceCodable, extentCodable}
 use Rattle.written.specs.Form.{offsetBits, updateBits, gainBits, priorityBits, distanceBits, extentBits}
-use Rattle.written.specs.Lemmas.Facts.{halves, by-test, by-eq, by-flag, in-range, allBelow, below}
+use Rattle.written.specs.Lemmas.Facts.{halves, by-test, by-eq, by-flag, in-range, always-ranged, allBelow, below}
 use Rattle.written.specs.Lemmas.Means.{updateAt}
 
 -- the second test holds where the first does
@@ -34,10 +34,13 @@ implied true b h q = h
 implied false b h q = absurd (false≢true q)
 
 -- a field that is carried or 0 is in its range
-most : (carried : Bool) (high v : ℕ) → ranged carried 0 high 0 v ≡ true → v < suc high
+most : (carried : Bool) (high v : ℕ) → betweenIf carried 0 high v ≡ true → v < suc high
 most carried high v h =
-    let r = in-range carried 0 high 0 v h in
+    let r = in-range carried 0 high v h in
     by-test carried (λ q. let x = r .on q in omega arith) (λ q. let x = r .off q in omega arith)
+
+most-always : (high v : ℕ) → between 0 high v ≡ true → v < suc high
+most-always high v h = let x = always-ranged 0 high v h .on refl in omega arith
 
 -- a test of two or three numbers
 abbrev allBelow2 : ℕ → ℕ → (ℕ → ℕ → Bool) → Bool
@@ -62,7 +65,7 @@ gainTest index bits = implies (gainCodable (gainCode index bits)) (first? (gainB
     (gainBits (gainCode index bits)))
 
 gains : allBelow2 3 64 gainTest ≡ true
-unfolding gainTest gainCodable ranged gainBits codedGain gainIndex gainOf toBits number
+unfolding gainTest gainCodable gainBits codedGain gainIndex gainOf toBits number betweenIf
 gains = refl
 
 -- what index 3 does not give is not the object before's
@@ -75,29 +78,29 @@ own-gain g above h = by-eq (g .index) 0
 pub gain-least : (g : Gain) (above : ℕ) → gainCodable g ≡ true → g .index ≤ 2 → First (gainBits (codedGain (gainOf g above))) (gainBits g)
 unfolding gainTest gainCodable
 gain-least g above h low =
-    let bits = most _ 63 (g .bits) (halves (ranged true 0 3 0 (g .index)) _ h .1) in
+    let bits = most _ 63 (g .bits) (halves (between 0 3 (g .index)) _ h .1) in
     rw (own-gain g above low)
     (first-of _ _ (implied (gainCodable g) _ (below2 3 64 gainTest gains (g .index) (g .bits) (omega arith) bits) h))
 
 -- ---- the priority (5.6.1.3)
 
 abbrev priorityCode : ℕ → ℕ → Priority
-priorityCode standard bits = record { standard = standard; bits = bits }
+priorityCode bydefault bits = record { bydefault = bydefault; bits = bits }
 
 priorityTest : ℕ → ℕ → Bool
-priorityTest standard bits =
-    implies (priorityCodable (priorityCode standard bits))
-    (first? (priorityBits (codedPriority (priorityOf (priorityCode standard bits)))) (priorityBits (priorityCode standard bits)))
+priorityTest bydefault bits =
+    implies (priorityCodable (priorityCode bydefault bits))
+    (first? (priorityBits (codedPriority (priorityOf (priorityCode bydefault bits)))) (priorityBits (priorityCode bydefault bits)))
 
 priorities : allBelow2 2 32 priorityTest ≡ true
-unfolding priorityTest priorityCodable ranged priorityBits codedPriority priorityOf toBits number
+unfolding priorityTest priorityCodable priorityBits codedPriority priorityOf toBits number betweenIf
 priorities = refl
 
 pub priority-least : (p : Priority) → priorityCodable p ≡ true → First (priorityBits (codedPriority (priorityOf p))) (priorityBits p)
 unfolding priorityTest priorityCodable
 priority-least p h =
-    let x = halves (ranged true 0 1 0 (p .standard)) _ h in
-    first-of _ _ (implied (priorityCodable p) _ (below2 2 32 priorityTest priorities (p .standard) (p .bits) (most true 1 _ (x .0))
+    let x = halves (between 0 1 (p .bydefault)) _ h in
+    first-of _ _ (implied (priorityCodable p) _ (below2 2 32 priorityTest priorities (p .bydefault) (p .bits) (most-always 1 _ (x .0))
     (most _ 31 (p .bits) (x .1))) h)
 
 -- ---- the distance (5.6.1.1.15 to 5.6.1.1.17)
@@ -111,16 +114,16 @@ distanceTest given infinite index =
     (first? (distanceBits (codedDistance (distanceOf (distanceCode given infinite index)))) (distanceBits (distanceCode given infinite index)))
 
 distances : allBelow3 2 2 16 distanceTest ≡ true
-unfolding distanceTest distanceCodable ranged distanceBits codedDistance distanceOf toBits number
+unfolding distanceTest distanceCodable distanceBits codedDistance distanceOf toBits number betweenIf
 distances = refl
 
 pub distance-least : (d : Distance) → distanceCodable d ≡ true → First (distanceBits (codedDistance (distanceOf d))) (distanceBits d)
 unfolding distanceTest distanceCodable
 distance-least d h =
-    let x = halves (ranged true 0 1 0 (d .given)) _ h in
-    let y = halves (ranged (set? (d .given)) 0 1 0 (d .infinite)) _ (x .1) in
+    let x = halves (between 0 1 (d .given)) _ h in
+    let y = halves (betweenIf (set? (d .given)) 0 1 (d .infinite)) _ (x .1) in
     first-of _ _ (implied (distanceCodable d) _
-    (below3 2 2 16 distanceTest distances (d .given) (d .infinite) (d .index) (most true 1 _ (x .0)) (most _ 1 (d .infinite) (y .0))
+    (below3 2 2 16 distanceTest distances (d .given) (d .infinite) (d .index) (most-always 1 _ (x .0)) (most _ 1 (d .infinite) (y .0))
     (most _ 15 (d .index) (y .1))) h)
 
 -- ---- the sample offset, but for code 1 (Table 22)
@@ -134,15 +137,15 @@ offsetTest code index bits =
     (first? (offsetBits (codedOffset (offsetOf (offsetCode code index bits)))) (offsetBits (offsetCode code index bits))))
 
 offsets : allBelow3 3 4 32 offsetTest ≡ true
-unfolding offsetTest offsetCodable ranged offsetBits codedOffset offsetOf toBits number
+unfolding offsetTest offsetCodable offsetBits codedOffset offsetOf toBits number betweenIf
 offsets = refl
 
 pub offset-least : (o : Offset) → offsetCodable o ≡ true → (o .code ≡ 1 → ⊥) → First (offsetBits (codedOffset (offsetOf o))) (offsetBits o)
 unfolding offsetTest offsetCodable
 offset-least o h n =
-    let x = halves (ranged true 0 2 0 (o .code)) _ h in
-    let y = halves (ranged (eqb (o .code) 1) 0 3 0 (o .index)) _ (x .1) in
-    let test = below3 3 4 32 offsetTest offsets (o .code) (o .index) (o .bits) (most true 2 _ (x .0)) (most _ 3 (o .index) (y .0))
+    let x = halves (between 0 2 (o .code)) _ h in
+    let y = halves (betweenIf (eqb (o .code) 1) 0 3 (o .index)) _ (x .1) in
+    let test = below3 3 4 32 offsetTest offsets (o .code) (o .index) (o .bits) (most-always 2 _ (x .0)) (most _ 3 (o .index) (y .0))
     (most _ 31 (o .bits) (y .1)) in
     first-of _ _ (implied (not (eqb (o .code) 1)) _ (implied (offsetCodable o) _ test h) (rw (ne-eqb (o .code) 1 n) refl))
 
@@ -159,14 +162,14 @@ ramps : (allBelow 3 (λ code. rampTest code 0 0 0) and rampTest 3 1 15 0 and all
 unfolding rampTest updateBits codedUpdate rampCode rampOf toBits number
 ramps = refl
 
-ramp-least : (code indexed index bits : ℕ) → code < 4 → ranged (eqb code 3) 0 1 0 indexed ≡ true → ranged (set? indexed) 0 15 0 index ≡ true
-    → ranged (eqb code 3 and clear? indexed) 0 2047 0 bits ≡ true → (indexed ≡ 1 → index ≡ 15) → rampTest code indexed index bits ≡ true
+ramp-least : (code indexed index bits : ℕ) → code < 4 → betweenIf (eqb code 3) 0 1 indexed ≡ true → betweenIf (set? indexed) 0 15 index ≡ true
+    → betweenIf (eqb code 3 and clear? indexed) 0 2047 bits ≡ true → (indexed ≡ 1 → index ≡ 15) → rampTest code indexed index bits ≡ true
 ramp-least code indexed index bits c i x b only-15 =
     let t = halves (allBelow 3 (λ code. rampTest code 0 0 0)) _ ramps in
     let u = halves (rampTest 3 1 15 0) _ (t .1) in
-    let ri = in-range (eqb code 3) 0 1 0 indexed i in
-    let rx = in-range (set? indexed) 0 15 0 index x in
-    let rb = in-range (eqb code 3 and clear? indexed) 0 2047 0 bits b in
+    let ri = in-range (eqb code 3) 0 1 indexed i in
+    let rx = in-range (set? indexed) 0 15 index x in
+    let rb = in-range (eqb code 3 and clear? indexed) 0 2047 bits b in
     by-eq code 3
     (λ e. by-flag indexed (ri .on (eq-eqb code 3 e) .1)
     (λ f.
@@ -185,14 +188,14 @@ ramp-least code indexed index bits c i x b only-15 =
 
 pub update-least : (offset : ℕ) (u : BlockUpdate) → offset < 32 → updateCodable u ≡ true → (u .indexed ≡ 1 → u .index ≡ 15)
     → First (updateBits (codedUpdate (updateOf offset u))) (updateBits u)
-unfolding updateCodable rampTest updateBits codedUpdate rampOf startOf
+unfolding updateCodable rampTest updateBits codedUpdate rampOf startOf betweenIf
 update-least offset u l h only-15 =
-    let a = halves (ranged true 0 63 0 (u .factor)) _ h in
-    let b = halves (ranged true 0 3 0 (u .code)) _ (a .1) in
-    let c = halves (ranged (eqb (u .code) 3) 0 1 0 (u .indexed)) _ (b .1) in
-    let d = halves (ranged (set? (u .indexed)) 0 15 0 (u .index)) _ (c .1) in
+    let a = halves (between 0 63 (u .factor)) _ h in
+    let b = halves (between 0 3 (u .code)) _ (a .1) in
+    let c = halves (betweenIf (eqb (u .code) 3) 0 1 (u .indexed)) _ (b .1) in
+    let d = halves (betweenIf (set? (u .indexed)) 0 15 (u .index)) _ (c .1) in
     let same : (offset + 32 * u .factor) / 32 ≡ u .factor = omega arith in
-    let test = ramp-least (u .code) (u .indexed) (u .index) (u .bits) (most true 3 _ (b .0)) (c .0) (d .0) (d .1) only-15 in
+    let test = ramp-least (u .code) (u .indexed) (u .index) (u .bits) (most-always 3 _ (b .0)) (c .0) (d .0) (d .1) only-15 in
     rw same (first-append (first-same (toBits 6 (u .factor))) (first-cancel (toBits 6 0) _ _ (first-of _ _ test)))
 
 -- ---- x and y, and z (5.6.1.1.8 to 5.6.1.1.11)
@@ -239,18 +242,18 @@ three-least w d h = by-test (eqb w d and eqb w h)
     (λ q. rw q (first-same _))
 
 pub extent-least : (e : Extent) → extentCodable e ≡ true → First (extentBits (codedExtent (volumeOf e))) (extentBits e)
-unfolding extentCodable volumeOf
+unfolding extentCodable volumeOf betweenIf
 extent-least e h =
-    let a = halves (ranged true 0 2 0 (e .index)) _ h in
-    let b = halves (ranged (eqb (e .index) 1) 0 31 0 (e .all)) _ (a .1) in
-    let c = halves (ranged (eqb (e .index) 2) 0 31 0 (e .width)) _ (b .1) in
-    let d = halves (ranged (eqb (e .index) 2) 0 31 0 (e .depth)) _ (c .1) in
+    let a = halves (between 0 2 (e .index)) _ h in
+    let b = halves (betweenIf (eqb (e .index) 1) 0 31 (e .all)) _ (a .1) in
+    let c = halves (betweenIf (eqb (e .index) 2) 0 31 (e .width)) _ (b .1) in
+    let d = halves (betweenIf (eqb (e .index) 2) 0 31 (e .depth)) _ (c .1) in
     let low = most true 2 (e .index) (a .0) in
     let t = halves (sizeTest 0 0) _ sizes in
-    let one = in-range (eqb (e .index) 1) 0 31 0 (e .all) (b .0) in
-    let width = in-range (eqb (e .index) 2) 0 31 0 (e .width) (c .0) in
-    let depth = in-range (eqb (e .index) 2) 0 31 0 (e .depth) (d .0) in
-    let height = in-range (eqb (e .index) 2) 0 31 0 (e .height) (d .1) in
+    let one = in-range (eqb (e .index) 1) 0 31 (e .all) (b .0) in
+    let width = in-range (eqb (e .index) 2) 0 31 (e .width) (c .0) in
+    let depth = in-range (eqb (e .index) 2) 0 31 (e .depth) (d .0) in
+    let height = in-range (eqb (e .index) 2) 0 31 (e .height) (d .1) in
     by-eq (e .index) 2
     (λ q.
     let n : e .all ≡ 0 = one .off (rw q refl) in

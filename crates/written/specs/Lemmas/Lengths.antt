@@ -19,14 +19,14 @@ use Rattle.oamd.specs.declared.Timing.{Timing}
 use Rattle.oamd.specs.declared.Scene.{Scene}
 use Rattle.oamd.specs.declared.Divergence.{Divergence}
 use Rattle.oamd.specs.declared.Precise.{Precise}
-use Rattle.oamd.specs.declared.Place.{Place}
+use Rattle.oamd.specs.declared.Location.{Location}
 use Rattle.oamd.specs.declared.Distance.{Distance}
 use Rattle.oamd.specs.declared.Extent.{Extent}
 use Rattle.oamd.specs.declared.Screen.{Screen}
 use Rattle.oamd.specs.declared.TrimConfig.{TrimConfig}
 use Rattle.oamd.specs.Programme.{set?, clear?, hasBeds, hasIsf, hasDynamic}
 use Rattle.oamd.specs.Extended.{hasX, hasY, hasZ}
-use Rattle.oamd.specs.Trim.{hasCentre, hasSurround, hasHeight, hasTb, hasLis, Trim}
+use Rattle.oamd.specs.Trim.{hasCentre, hasSurround, hasHeight, hasTb, hasLis, TrimTable}
 use Rattle.oamd.specs.Record.{Record, carries}
 use Rattle.oamd.specs.Payload.{Tables}
 use Rattle.written.specs.Coded.{codedUpdate, codedGain, codedPriority, codedDistance, codedExtent}
@@ -109,9 +109,9 @@ pub basic-short : (s : Scene) → Short (basicBits s) 14
 unfolding basicBits gainBits priorityBits
 basic-short s =
     also (also (bits-short 2 _) (maybe (eqb (codedGain (s .gain) .index) 2) 6 _)) (also (bits-short 1 _)
-    (maybe (clear? (codedPriority (s .priority) .standard)) 5 _))
+    (maybe (clear? (codedPriority (s .priority) .bydefault)) 5 _))
 
-position-short : (first : Bool) (p : Place) → Short (positionBits first p) 18
+position-short : (first : Bool) (p : Location) → Short (positionBits first p) 18
 unfolding positionBits
 position-short first p = also (maybe (not first) 1 0) (also (bits-short 6 _) (also (bits-short 6 _) (also (bits-short 1 _) (bits-short 4 _))))
 
@@ -133,7 +133,7 @@ screen-short s = also (bits-short 1 _) (also (maybe (set? (s .used)) 3 (s .facto
 render-short : (first : Bool) (s : Scene) → Short (renderBits first s) 57
 unfolding renderBits zoneBits
 render-short first s =
-    also (position-short first (s .place)) (also (distance-short (codedDistance (s .place .distance))) (also (also (bits-short 3 _) (bits-short 1 _))
+    also (position-short first (s .location)) (also (distance-short (codedDistance (s .location .distance))) (also (also (bits-short 3 _) (bits-short 1 _))
     (also (extent-short (codedExtent (s .volume))) (also (screen-short (s .screen)) (bits-short 1 _)))))
 
 status-short : (sent first : Bool) → Short (statusBits sent first) 2
@@ -226,7 +226,7 @@ config-short c =
     (also (maybe (hasTb (c .presence)) 4 (c .tbamount)) (also (maybe (hasLis (c .presence)) 1 (c .lissign))
     (maybe (hasLis (c .presence)) 4 (c .lisamount))))))))))
 
-pub trim-element-short : (t : Trim) → Short (trimElementBits t) (7 + 29 * length (t .configs) + length (t .disabled))
+pub trim-element-short : (t : TrimTable) → Short (trimElementBits t) (7 + 29 * length (t .configs) + length (t .disabled))
 unfolding trimElementBits
 trim-element-short t =
     at-most _ (also (bits-short 2 _) (also (bits-short 2 0) (also (bits-short 2 _)

@@ -17,7 +17,7 @@ use Rattle.oamd.specs.declared.Offset.{Offset}
 use Rattle.oamd.specs.declared.BlockUpdate.{BlockUpdate}
 use Rattle.oamd.specs.declared.Timing.{Timing}
 use Rattle.oamd.specs.declared.Scene.{Scene}
-use Rattle.oamd.specs.declared.Place.{Place}
+use Rattle.oamd.specs.declared.Location.{Location}
 use Rattle.oamd.specs.declared.Extent.{Extent}
 use Rattle.oamd.specs.declared.Divergence.{Divergence}
 use Rattle.oamd.specs.Programme.{set?, clear?, hasBeds, hasIsf, hasDynamic}
@@ -96,7 +96,7 @@ timing-longest t =
 
 -- ---- a block: the first of an object has no status and says nothing of its position
 
-position-longest : (first : Bool) (p : Place) → Short (positionBits first p) (pick first 17 18)
+position-longest : (first : Bool) (p : Location) → Short (positionBits first p) (pick first 17 18)
 unfolding positionBits
 position-longest true p = also nothing (also (bits-short 6 _) (also (bits-short 6 _) (also (bits-short 1 _) (bits-short 4 _))))
 position-longest false p = also (bits-short 1 0) (also (bits-short 6 _) (also (bits-short 6 _) (also (bits-short 1 _) (bits-short 4 _))))
@@ -111,7 +111,7 @@ extent-longest e =
 render-longest : (first : Bool) (s : Scene) → Short (renderBits first s) (pick first 17 18 + 34)
 unfolding renderBits zoneBits
 render-longest first s =
-    at-most _ (also (position-longest first (s .place)) (also (distance-short (codedDistance (s .place .distance)))
+    at-most _ (also (position-longest first (s .location)) (also (distance-short (codedDistance (s .location .distance)))
     (also (also (bits-short 3 _) (bits-short 1 _)) (also (extent-longest (codedExtent (s .volume))) (also (screen-short (s .screen)) (bits-short 1 _)))))) (omega arith)
 
 status-longest : (sent first : Bool) → Short (statusBits sent first) (pick first 0 2)

@@ -1,6 +1,6 @@
 -- The coded fields of a valid value are codable, and they mean that value.
 use mathlib.Core.Path.{_≡_, refl, sym, _∙_}
-use mathlib.Core.Bool.{Bool, true, false, false≢true}
+use mathlib.Core.Bool.{Bool, true, false}
 use Prim.Native.Nat.{ℕ, _/_, _%_, _≤_, _<_}
 use native.Mathlib.Omega.{arith}
 use lib.Dec.{leb, ltb, eqb}
@@ -10,15 +10,15 @@ use Rattle.oamd.specs.declared.Update.{Update}
 use Rattle.oamd.specs.declared.Volume.{Volume}
 use Rattle.oamd.specs.Timing.{samples, offsetOf, rampOf, startOf}
 use Rattle.oamd.specs.Meaning.{gainOf, priorityOf, heightOf, upright, across, distanceOf, volumeOf}
-use Rattle.written.specs.Valid.{_and_, ranged}
+use Rattle.written.specs.Valid.{betweenIf, _and_}
 use Rattle.written.specs.Coded.{codedOffset, rampCode, codedUpdate, gainIndex, codedGain, codedPriority, zSign, zBits, codedDistance, sizeIndex, codedExtent}
 use Rattle.written.specs.Lemmas.Codable.{offsetCodable, updateCodable, gainCodable, priorityCodable, distanceCodable, extentCodable}
-use Rattle.written.specs.Lemmas.Facts.{halves, whole, by-eq, by-test, is-ranged, below}
+use Rattle.written.specs.Lemmas.Facts.{halves, whole, by-eq, by-test, always, is-ranged, below}
 
 -- ---- one test of all values, where there are few
 
 offsets : (offset : ℕ) → offset < 32 → (offsetCodable (codedOffset offset) and eqb (offsetOf (codedOffset offset)) offset) ≡ true
-unfolding offsetCodable codedOffset offsetOf ranged
+unfolding offsetCodable codedOffset offsetOf betweenIf
 offsets = below 32 (λ offset. offsetCodable (codedOffset offset) and eqb (offsetOf (codedOffset offset)) offset) refl
 
 -- the update of a start and a ramp
@@ -26,15 +26,15 @@ abbrev pub updateAt : ℕ → ℕ → Update
 updateAt start ramp = record { start = samples start; ramp = samples ramp }
 
 ramps : (ramp : ℕ) → ramp < 2049 → (updateCodable (codedUpdate (updateAt 0 ramp)) and eqb (rampOf (codedUpdate (updateAt 0 ramp))) ramp) ≡ true
-unfolding updateCodable codedUpdate rampCode rampOf ranged
+unfolding updateCodable codedUpdate rampCode rampOf betweenIf
 ramps = below 2049 (λ ramp. updateCodable (codedUpdate (updateAt 0 ramp)) and eqb (rampOf (codedUpdate (updateAt 0 ramp))) ramp) refl
 
 priorities : (priority : ℕ) → priority < 33 → (priorityCodable (codedPriority priority) and eqb (priorityOf (codedPriority priority)) priority) ≡ true
-unfolding priorityCodable codedPriority priorityOf ranged
+unfolding priorityCodable codedPriority priorityOf betweenIf
 priorities = below 33 (λ priority. priorityCodable (codedPriority priority) and eqb (priorityOf (codedPriority priority)) priority) refl
 
 distances : (distance : ℕ) → distance < 18 → (distanceCodable (codedDistance distance) and eqb (distanceOf (codedDistance distance)) distance) ≡ true
-unfolding distanceCodable codedDistance distanceOf ranged
+unfolding distanceCodable codedDistance distanceOf betweenIf
 distances = below 18 (λ distance. distanceCodable (codedDistance distance) and eqb (distanceOf (codedDistance distance)) distance) refl
 
 heights : (z : ℕ) → z < 80 → (pick (ltb z 49) true (leb (zSign z) 1 and leb (zBits z) 15 and eqb (upright (heightOf (zSign z) (zBits z))) z)) ≡ true
@@ -42,7 +42,7 @@ unfolding zSign zBits
 heights = below 80 (λ z. pick (ltb z 49) true (leb (zSign z) 1 and leb (zBits z) 15 and eqb (upright (heightOf (zSign z) (zBits z))) z)) refl
 
 gains : (gain : ℕ) → gain < 66 → (gainCodable (codedGain gain) and leb (gainIndex gain) 2 and eqb (gainOf (codedGain gain) 0) gain) ≡ true
-unfolding gainCodable codedGain gainIndex gainOf ranged
+unfolding gainCodable codedGain gainIndex gainOf betweenIf
 gains = below 66 (λ gain. gainCodable (codedGain gain) and leb (gainIndex gain) 2 and eqb (gainOf (codedGain gain) 0) gain) refl
 
 -- ---- what the tests say
@@ -119,14 +119,14 @@ picked-off t n e = rw e
 pub extent-codable : (v : Volume) → v .width ≤ 31 → v .depth ≤ 31 → v .height ≤ 31 → extentCodable (codedExtent v) ≡ true
 unfolding extentCodable codedExtent
 extent-codable v a b c =
-    whole _ _ (is-ranged true 0 2 0 (sizeIndex v) (λ q. omega arith) (λ q. size-index v) (λ q. absurd (false≢true (sym q))))
+    whole _ _ (always 0 2 (sizeIndex v) (omega arith) (size-index v))
     (whole _ _ (part (eqb (sizeIndex v) 1) (v .width) a)
     (whole _ _ (part (eqb (sizeIndex v) 2) (v .width) a)
     (whole _ _ (part (eqb (sizeIndex v) 2) (v .depth) b)
     (part (eqb (sizeIndex v) 2) (v .height) c))))
   where
-    part : (t : Bool) (n : ℕ) → n ≤ 31 → ranged t 0 31 0 (pick t n 0) ≡ true
-    part t n l = is-ranged t 0 31 0 (pick t n 0) (λ q. omega arith) (λ q. picked-le t n 31 l) (λ q. picked-off t n q)
+    part : (t : Bool) (n : ℕ) → n ≤ 31 → betweenIf t 0 31 (pick t n 0) ≡ true
+    part t n l = is-ranged t 0 31 (pick t n 0) (λ q. omega arith) (λ q. picked-le t n 31 l) (λ q. picked-off t n q)
 
 pub extent-means : (v : Volume) → volumeOf (codedExtent v) ≡ v
 unfolding volumeOf codedExtent sizeIndex

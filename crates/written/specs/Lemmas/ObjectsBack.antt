@@ -18,7 +18,7 @@ use Rattle.oamd.specs.declared.Scene.{Scene}
 use Rattle.oamd.specs.Programme.{classOf}
 use Rattle.oamd.specs.Block.{object-info-block}
 use Rattle.oamd.specs.ObjectElement.{object-data}
-use Rattle.oamd.specs.Meaning.{firstGain, behindFirst, idle, scenesFrom, scenesOf, allScenes}
+use Rattle.oamd.specs.Meaning.{firstGain, behindFirst, nothingBefore, scenesFrom, scenesOf, allScenes}
 use Rattle.oamd.specs.Record.{Record}
 use Rattle.written.specs.Valid.{sceneValid, recordValid, firstBad}
 use Rattle.written.specs.Form.{blockBits, byObject, objectDataBits}
@@ -124,6 +124,6 @@ module _ (s : Shares) (blocks : ℕ) where
       let first : ValidFrom s blocks (j * blocks + 0) rs = (let e : j * blocks + 0 ≡ j * blocks = omega arith in rw e h) in
       let rest : ValidFrom s blocks (suc j * blocks) (drop blocks rs) = rw (suc-mul j blocks) (behind s blocks (j * blocks) blocks rs h) in
       let o : List Record = take blocks rs in
-      let mine = scenes-back (classOf s j) (idle 0) above o (object-good s blocks j 0 blocks rs first (omega arith)) in
+      let mine = scenes-back (classOf s j) nothingBefore above o (object-good s blocks j 0 blocks rs first (omega arith)) in
       let others = objects-mean (suc j) n (scenesOf above (codedObject o)) (drop blocks rs) rest (length-drop blocks rs ∙ omega arith) in
       parted blocks rs mine others

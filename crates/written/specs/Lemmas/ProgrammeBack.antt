@@ -9,7 +9,7 @@ use lib.ListN.{length, take}
 use lib.Seq.{length-take-le}
 use lib.Dec.{eqb}
 use borrow.Author.Tests.{eqb-true, eq-eqb, ne-eqb, lt-ltb, le-ltb, not-true}
-use Rattle.bits.specs.Language.{pick, both, give, _>>=_, bits, bitsIf, from, for}
+use Rattle.bits.specs.Language.{pick, both, give, _>>=_, bits, bitsIf, from, for, between}
 use Rattle.bits.specs.Steps.{by-order}
 use Rattle.bits.specs.Writes.{toBits, only, eachBits}
 use Rattle.bits.specs.Back.{Writes, w-give, w-bits, w-bind, w-end, w-is, w-pass, w-each}
@@ -19,9 +19,9 @@ use Rattle.oamd.specs.Tables.{mostObjects, mostBeds}
 use Rattle.oamd.specs.Programme.{set?, clear?, hasBeds, hasIsf, hasDynamic, hasReserved, bedInstances, bedOf, bed-assignment, filled, noBed, Beds, bed-instances, intermediate-spatial-format, num-dynamic-objects, reserved-data, program-assignment, agrees}
 use Rattle.oamd.specs.Reserved.{IntermediateSpatialFormatIdx}
 use Rattle.oamd.specs.Payload.{oa-md-version, object-count, header}
-use Rattle.written.specs.Valid.{_and_, ranged, bedValid, entriesValid, programmeValid}
+use Rattle.written.specs.Valid.{betweenIf, bedValid, entriesValid, programmeValid}
 use Rattle.written.specs.Form.{countBits, bedBits, bedsBits, assignmentBits, headerBits}
-use Rattle.written.specs.Lemmas.Facts.{halves, by-test, by-flag, Ranged, in-range, w-ranged, w-picked}
+use Rattle.written.specs.Lemmas.Facts.{halves, by-test, by-flag, Ranged, in-range, always-ranged, w-ranged, w-picked}
 use Rattle.written.specs.Lemmas.Unreserved.{w-within}
 use Rattle.written.specs.Lemmas.Entries.{entries-used, entries-filled, along}
 
@@ -56,13 +56,13 @@ either-le true = omega arith
 either-le false = omega arith
 
 pub bed-writes : (b : Bed) → bedValid true b ≡ true → Writes bed-assignment (bedBits b) b
-unfolding bed-assignment bedBits bedValid
+unfolding bed-assignment bedBits bedValid betweenIf
 bed-writes b h =
-    let x = halves (ranged true 0 1 0 (b .lfeonly)) _ h in
-    let y = halves (ranged (clear? (b .lfeonly)) 0 1 0 (b .standard)) _ (x .1) in
-    let l = in-range true 0 1 0 (b .lfeonly) (x .0) in
-    let s = in-range (clear? (b .lfeonly)) 0 1 0 (b .standard) (y .0) in
-    let a = in-range (clear? (b .lfeonly)) 0 (pick (set? (b .standard)) 1023 131071) 0 (b .assignment) (y .1) in
+    let x = halves (between 0 1 (b .lfeonly)) _ h in
+    let y = halves (betweenIf (clear? (b .lfeonly)) 0 1 (b .standard)) _ (x .1) in
+    let l = always-ranged 0 1 (b .lfeonly) (x .0) in
+    let s = in-range (clear? (b .lfeonly)) 0 1 (b .standard) (y .0) in
+    let a = in-range (clear? (b .lfeonly)) 0 (pick (set? (b .standard)) 1023 131071) (b .assignment) (y .1) in
     let most = by-test (clear? (b .lfeonly)) (λ q. a .on q .1) (λ q. let z = a .off q in omega arith) in
     let sum = carried-once (b .lfeonly) (b .standard) (b .assignment) (l .on refl .1) s a in
     w-is (λ i. bedOf (b .lfeonly) (b .standard) (sum i))
@@ -92,44 +92,44 @@ pub record ProgrammeFacts (p : Programme) : Type 0 where
 pub programme-facts : (p : Programme) → programmeValid p ≡ true → ProgrammeFacts p
 unfolding programmeValid
 programme-facts p h =
-    let a = halves (ranged true 1 mostObjects 0 (p .objects)) _ h in
-    let b = halves (ranged true 0 1 0 (p .dynonly)) _ (a .1) in
-    let c = halves (ranged (set? (p .dynonly)) 0 1 0 (p .lfe)) _ (b .1) in
-    let d = halves (ranged (clear? (p .dynonly)) 0 15 0 (p .content)) _ (c .1) in
+    let a = halves (between 1 mostObjects (p .objects)) _ h in
+    let b = halves (between 0 1 (p .dynonly)) _ (a .1) in
+    let c = halves (betweenIf (set? (p .dynonly)) 0 1 (p .lfe)) _ (b .1) in
+    let d = halves (betweenIf (clear? (p .dynonly)) 0 15 (p .content)) _ (c .1) in
     let e = halves (not (hasReserved (p .content))) _ (d .1) in
-    let f = halves (ranged (hasBeds (p .content)) 0 1 0 (p .distribute)) _ (e .1) in
-    let g = halves (ranged (hasBeds (p .content)) 0 1 0 (p .multiple)) _ (f .1) in
-    let i = halves (ranged (set? (p .multiple)) 0 7 0 (p .instances)) _ (g .1) in
+    let f = halves (betweenIf (hasBeds (p .content)) 0 1 (p .distribute)) _ (e .1) in
+    let g = halves (betweenIf (hasBeds (p .content)) 0 1 (p .multiple)) _ (f .1) in
+    let i = halves (betweenIf (set? (p .multiple)) 0 7 (p .instances)) _ (g .1) in
     let j = halves (eqb (p .bedcount) (bedInstances (p .content) (p .multiple) (p .instances))) _ (i .1) in
     let k = halves (eqb (length (p .beds)) mostBeds) _ (j .1) in
     let l = halves (entriesValid bedValid (p .bedcount) (p .beds)) _ (k .1) in
-    let m = halves (ranged (hasIsf (p .content)) 0 5 0 (p .isf)) _ (l .1) in
-    let n = halves (ranged (hasDynamic (p .content)) 0 158 0 (p .dynamics)) _ (m .1) in
+    let m = halves (betweenIf (hasIsf (p .content)) 0 5 (p .isf)) _ (l .1) in
+    let n = halves (betweenIf (hasDynamic (p .content)) 0 158 (p .dynamics)) _ (m .1) in
     record {
-      objects = in-range _ _ _ _ _ (a .0);
-      dynonly = in-range _ _ _ _ _ (b .0);
-      lfe = in-range _ _ _ _ _ (c .0);
-      content = in-range _ _ _ _ _ (d .0);
+      objects = always-ranged _ _ _ (a .0);
+      dynonly = always-ranged _ _ _ (b .0);
+      lfe = in-range _ _ _ _ (c .0);
+      content = in-range _ _ _ _ (d .0);
       reserved = not-true _ (e .0);
-      distribute = in-range _ _ _ _ _ (f .0);
-      multiple = in-range _ _ _ _ _ (g .0);
-      instances = in-range _ _ _ _ _ (i .0);
+      distribute = in-range _ _ _ _ (f .0);
+      multiple = in-range _ _ _ _ (g .0);
+      instances = in-range _ _ _ _ (i .0);
       bedcount = eqb-true _ _ (j .0);
       nine = eqb-true _ _ (k .0);
       beds = l .0;
-      isf = in-range _ _ _ _ _ (m .0);
-      dynamics = in-range _ _ _ _ _ (n .0);
+      isf = in-range _ _ _ _ (m .0);
+      dynamics = in-range _ _ _ _ (n .0);
       counts = n .1;
     }
 
 no-bed : (b : Bed) → bedValid false b ≡ true → b ≡ noBed
 unfolding bedValid
 no-bed b h =
-    let x = halves (ranged false 0 1 0 (b .lfeonly)) _ h in
-    let y = halves (ranged false 0 1 0 (b .standard)) _ (x .1) in
-    let l = in-range false 0 1 0 (b .lfeonly) (x .0) .off refl in
-    let s = in-range false 0 1 0 (b .standard) (y .0) .off refl in
-    let a = in-range false 0 (pick (set? (b .standard)) 1023 131071) 0 (b .assignment) (y .1) .off refl in
+    let x = halves (betweenIf false 0 1 (b .lfeonly)) _ h in
+    let y = halves (betweenIf false 0 1 (b .standard)) _ (x .1) in
+    let l = in-range false 0 1 (b .lfeonly) (x .0) .off refl in
+    let s = in-range false 0 1 (b .standard) (y .0) .off refl in
+    let a = in-range false 0 (pick (set? (b .standard)) 1023 131071) (b .assignment) (y .1) .off refl in
     λ i. bedOf (l i) (s i) (a i)
 
 pub instances-le : (content multiple instances : ℕ) → Ranged (set? multiple) 0 7 0 instances → bedInstances content multiple instances ≤ mostBeds

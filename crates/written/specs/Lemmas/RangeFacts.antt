@@ -10,8 +10,8 @@ use borrow.Author.Tests.{le-leb, lt-leb}
 use Rattle.oamd.specs.declared.Shares.{Shares}
 use Rattle.oamd.specs.declared.TrimConfig.{TrimConfig}
 use Rattle.oamd.specs.Programme.{classOf}
-use Rattle.oamd.specs.Trim.{Trim, configBytesOf, configsBytesOf, trimBytesOf}
-use Rattle.written.specs.Valid.{ranged, entriesValid, configValid, trimValid}
+use Rattle.oamd.specs.Trim.{TrimTable, configBytesOf, configsBytesOf, trimBytesOf}
+use Rattle.written.specs.Valid.{betweenIf, entriesValid, configValid, trimValid}
 use Rattle.written.specs.Lemmas.Facts.{halves, by-test, Ranged, in-range}
 use Rattle.written.specs.Lemmas.TrimBack.{config-facts, trim-facts}
 use Rattle.written.specs.Lemmas.AcceptedTiming.{picked-le}
@@ -74,14 +74,14 @@ configs-small n (c ∷ cs) h =
     let x = halves (configValid (leb 1 n) c) _ h in
     joined (config-small (leb 1 n) c (x .0)) (configs-small (n - 1) cs (x .1))
 
-flags-small : (n : ℕ) (xs : List ℕ) → entriesValid (λ used x. ranged used 0 1 0 x) n xs ≡ true → Small xs
+flags-small : (n : ℕ) (xs : List ℕ) → entriesValid (λ used x. betweenIf used 0 1 x) n xs ≡ true → Small xs
 unfolding entriesValid
 flags-small n [] h = none
 flags-small n (b ∷ bs) h =
-    let x = halves (ranged (leb 1 n) 0 1 0 b) _ h in
-    small (in-range (leb 1 n) 0 1 0 b (x .0)) (omega arith) (flags-small (n - 1) bs (x .1))
+    let x = halves (betweenIf (leb 1 n) 0 1 b) _ h in
+    small (in-range (leb 1 n) 0 1 b (x .0)) (omega arith) (flags-small (n - 1) bs (x .1))
 
-pub trim-small : (objects : ℕ) (t : Trim) → trimValid objects t ≡ true → Small (trimBytesOf t)
+pub trim-small : (objects : ℕ) (t : TrimTable) → trimValid objects t ≡ true → Small (trimBytesOf t)
 unfolding trimBytesOf
 trim-small objects t v =
     let f = trim-facts objects t v in

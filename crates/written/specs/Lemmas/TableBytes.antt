@@ -8,7 +8,7 @@ use lib.ListN.{length, getD, take, drop, length-append}
 use lib.Seq.{drop-cons, drop-drop, take-add, getD-drop, take-at, drop-at, getD-at}
 use Rattle.oamd.specs.declared.TrimConfig.{TrimConfig}
 use Rattle.oamd.specs.Tables.{recordStride, trimConfigs, configBytes, trimFixed}
-use Rattle.oamd.specs.Trim.{Trim, configBytesOf, configsBytesOf, trimBytesOf, trimNeeded}
+use Rattle.oamd.specs.Trim.{TrimTable, configBytesOf, configsBytesOf, trimBytesOf, trimNeeded}
 use Rattle.oamd.specs.Record.{Record, recordBytesOf, bytesOf}
 use Rattle.oamd.specs.Lengths.{length-configs}
 use Rattle.written.specs.Answer.{sceneAt, divergenceAt, preciseAt, recordAt, recordsAt, configAt, configsAt, bytesAt, trimAt}
@@ -141,7 +141,7 @@ trim-bytes objects s h =
     (joined s 3 90 (suc objects) _ _ (configs-bytes s 9 3 (omega arith)) (bytes-are s (suc objects) 93 (omega arith))))
 
 -- a trim table of nine configurations and so many objects
-module _ (objects : ℕ) (t : Trim) (nine : length (t .configs) ≡ trimConfigs) (flags : length (t .disabled) ≡ objects) where
+module _ (objects : ℕ) (t : TrimTable) (nine : length (t .configs) ≡ trimConfigs) (flags : length (t .disabled) ≡ objects) where
   pub trim-again : (tail : List ℕ) → trimAt objects (trimBytesOf t ++ tail) ≡ t
   unfolding trimAt trimBytesOf
   trim-again tail =

@@ -1,6 +1,6 @@
 -- 5.5.6 and 5.5.7: a valid timing is read back as it was written.
 use mathlib.Core.Path.{_≡_, refl, sym, ap, ap₂, _∙_, subst}
-use mathlib.Core.Bool.{Bool, true, false, false≢true}
+use mathlib.Core.Bool.{Bool, true, false}
 use mathlib.Core.List.{List, [], _∷_, map}
 use Prim.Native.Nat.{ℕ, _+_, _-_, _/_, _%_, _≤_, _<_}
 use native.Mathlib.Omega.{arith}
@@ -8,7 +8,7 @@ use lib.ListN.{length, take, length-map}
 use lib.Seq.{length-take-le}
 use lib.Dec.{eqb}
 use borrow.Author.Tests.{eqb-true}
-use Rattle.bits.specs.Language.{pick, from, for}
+use Rattle.bits.specs.Language.{pick, from, for, between}
 use Rattle.bits.specs.Writes.{eachBits}
 use Rattle.bits.specs.Back.{Writes, w-give, w-bits, w-bind, w-end, w-each}
 use Rattle.bits.specs.Ensures.{Every}
@@ -18,11 +18,11 @@ use Rattle.oamd.specs.Tables.{mostBlocks}
 use Rattle.oamd.specs.Programme.{filled}
 use Rattle.oamd.specs.Timing.{block-update-info, MdUpdateInfo, md-update-info, samples, offsetOf, updateOf, noUpdate, timingOf}
 use Rattle.oamd.specs.Payload.{noTiming}
-use Rattle.written.specs.Valid.{ranged, entriesValid, sampleOffset, updateValid, timingValid}
+use Rattle.written.specs.Valid.{betweenIf, entriesValid, sampleOffset, updateValid, timingValid}
 use Rattle.written.specs.Coded.{codedOffset, codedUpdate}
 use Rattle.written.specs.Lemmas.Codable.{updateCodable}
 use Rattle.written.specs.Form.{updateBits, timingBits}
-use Rattle.written.specs.Lemmas.Facts.{halves, whole, Ranged, in-range, is-ranged}
+use Rattle.written.specs.Lemmas.Facts.{halves, whole, Ranged, in-range, always-ranged, always}
 use Rattle.written.specs.Lemmas.Entries.{entries-used, entries-filled, along}
 use Rattle.written.specs.Lemmas.Means.{offset-codable, offset-means, ramp-codable, ramp-means, start-means}
 use Rattle.written.specs.Lemmas.Fields.{offset-writes, update-writes}
@@ -37,15 +37,15 @@ pub record UpdateFacts (offset : ℕ) (used : Bool) (u : Update) : Type 0 where
 pub update-facts : (offset : ℕ) (used : Bool) (u : Update) → updateValid offset used u ≡ true → UpdateFacts offset used u
 unfolding updateValid
 update-facts offset used u h =
-    let a = halves (ranged used 0 2047 0 (u .start .0)) _ h in
+    let a = halves (betweenIf used 0 2047 (u .start .0)) _ h in
     let b = halves (eqb (u .start .0 % 32) (pick used offset 0)) _ (a .1) in
-    record { start = in-range _ _ _ _ _ (a .0); left = eqb-true _ _ (b .0); ramp = in-range _ _ _ _ _ (b .1) }
+    record { start = in-range _ _ _ _ (a .0); left = eqb-true _ _ (b .0); ramp = in-range _ _ _ _ (b .1) }
 
 update-codable : (u : Update) → u .start .0 ≤ 2047 → u .ramp .0 ≤ 2048 → updateCodable (codedUpdate u) ≡ true
 unfolding updateCodable codedUpdate
 update-codable u s r =
-    whole _ _ (is-ranged true 0 63 0 (u .start .0 / 32) (λ q. omega arith) (λ q. omega arith) (λ q. absurd (false≢true (sym q))))
-    (halves (ranged true 0 63 0 (0 / 32)) _ (ramp-codable (u .ramp .0) r) .1)
+    whole _ _ (always 0 63 (u .start .0 / 32) (omega arith) (omega arith))
+    (halves (between 0 63 (0 / 32)) _ (ramp-codable (u .ramp .0) r) .1)
 
 update-back : (offset : ℕ) (u : Update) → updateValid offset true u ≡ true → updateOf offset (codedUpdate u) ≡ u
 unfolding codedUpdate
@@ -76,9 +76,9 @@ pub record TimingFacts (t : Timing) : Type 0 where
 pub timing-facts : (t : Timing) → timingValid t ≡ true → TimingFacts t
 unfolding timingValid
 timing-facts t h =
-    let a = halves (ranged true 0 mostBlocks 0 (t .blocks)) _ h in
+    let a = halves (between 0 mostBlocks (t .blocks)) _ h in
     let b = halves (eqb (length (t .updates)) mostBlocks) _ (a .1) in
-    record { blocks = in-range true 0 mostBlocks 0 (t .blocks) (a .0) .on refl .1; eight = eqb-true _ _ (b .0); updates = b .1 }
+    record { blocks = always-ranged 0 mostBlocks (t .blocks) (a .0) .on refl .1; eight = eqb-true _ _ (b .0); updates = b .1 }
 
 -- what is read
 abbrev pub codedTiming : Timing → MdUpdateInfo

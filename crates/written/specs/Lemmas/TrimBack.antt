@@ -10,7 +10,7 @@ use lib.ListN.{length, replicate}
 use lib.Seq.{take-length}
 use lib.Dec.{eqb}
 use borrow.Author.Tests.{eqb-true, eqb-false}
-use Rattle.bits.specs.Language.{pick, P, bits, when, from, for}
+use Rattle.bits.specs.Language.{pick, P, bits, when, from, for, between}
 use Rattle.bits.specs.Writes.{toBits, only, eachBits}
 use Rattle.bits.specs.Back.{Writes, w-give, w-bits, w-bind, w-end, w-is, w-when, w-each}
 use Rattle.bits.specs.Ensures.{Every}
@@ -18,10 +18,10 @@ use Rattle.oamd.specs.declared.TrimConfig.{TrimConfig}
 use Rattle.oamd.specs.Tables.{trimConfigs}
 use Rattle.oamd.specs.Programme.{set?, clear?}
 use Rattle.oamd.specs.Reserved.{WarpMode, GlobalTrimMode, TrimSurround, TrimHeight}
-use Rattle.oamd.specs.Trim.{hasCentre, hasSurround, hasHeight, hasTb, hasLis, trim-config, noConfig, Trim, trim-element, noTrim, trimOf}
-use Rattle.written.specs.Valid.{_and_, ranged, entriesValid, configValid, trimValid}
+use Rattle.oamd.specs.Trim.{hasCentre, hasSurround, hasHeight, hasTb, hasLis, trim-config, noConfig, TrimTable, trim-element, noTrim, trimOf}
+use Rattle.written.specs.Valid.{_and_, betweenIf, entriesValid, configValid, trimValid}
 use Rattle.written.specs.Form.{configBits, trimElementBits, hasTrim}
-use Rattle.written.specs.Lemmas.Facts.{halves, by-test, by-flag, Ranged, in-range, w-ranged}
+use Rattle.written.specs.Lemmas.Facts.{halves, by-test, by-flag, Ranged, in-range, always-ranged, w-ranged}
 use Rattle.written.specs.Lemmas.Unreserved.{w-under, w-within}
 use Rattle.written.specs.Lemmas.Entries.{entries-used, entries-unused, along}
 
@@ -42,26 +42,26 @@ pub record ConfigFacts (sent : Bool) (c : TrimConfig) : Type 0 where
 pub config-facts : (sent : Bool) (c : TrimConfig) → configValid sent c ≡ true → ConfigFacts sent c
 unfolding configValid
 config-facts sent c h =
-    let a = halves (ranged sent 0 1 0 (c .bydefault)) _ h in
-    let b = halves (ranged (sent and clear? (c .bydefault)) 0 1 0 (c .disabled)) _ (a .1) in
-    let d = halves (ranged (sent and clear? (c .bydefault) and clear? (c .disabled)) 0 31 0 (c .presence)) _ (b .1) in
-    let e = halves (ranged (hasCentre (c .presence)) 0 15 0 (c .centre)) _ (d .1) in
-    let f = halves (ranged (hasSurround (c .presence)) 4 15 0 (c .surround)) _ (e .1) in
-    let g = halves (ranged (hasHeight (c .presence)) 4 15 0 (c .height)) _ (f .1) in
-    let i = halves (ranged (hasTb (c .presence)) 0 1 0 (c .tbsign)) _ (g .1) in
-    let j = halves (ranged (hasTb (c .presence)) 0 15 0 (c .tbamount)) _ (i .1) in
-    let k = halves (ranged (hasLis (c .presence)) 0 1 0 (c .lissign)) _ (j .1) in
+    let a = halves (betweenIf sent 0 1 (c .bydefault)) _ h in
+    let b = halves (betweenIf (sent and clear? (c .bydefault)) 0 1 (c .disabled)) _ (a .1) in
+    let d = halves (betweenIf (sent and clear? (c .bydefault) and clear? (c .disabled)) 0 31 (c .presence)) _ (b .1) in
+    let e = halves (betweenIf (hasCentre (c .presence)) 0 15 (c .centre)) _ (d .1) in
+    let f = halves (betweenIf (hasSurround (c .presence)) 4 15 (c .surround)) _ (e .1) in
+    let g = halves (betweenIf (hasHeight (c .presence)) 4 15 (c .height)) _ (f .1) in
+    let i = halves (betweenIf (hasTb (c .presence)) 0 1 (c .tbsign)) _ (g .1) in
+    let j = halves (betweenIf (hasTb (c .presence)) 0 15 (c .tbamount)) _ (i .1) in
+    let k = halves (betweenIf (hasLis (c .presence)) 0 1 (c .lissign)) _ (j .1) in
     record {
-      bydefault = in-range _ _ _ _ _ (a .0);
-      disabled = in-range _ _ _ _ _ (b .0);
-      presence = in-range _ _ _ _ _ (d .0);
-      centre = in-range _ _ _ _ _ (e .0);
-      surround = in-range _ _ _ _ _ (f .0);
-      height = in-range _ _ _ _ _ (g .0);
-      tbsign = in-range _ _ _ _ _ (i .0);
-      tbamount = in-range _ _ _ _ _ (j .0);
-      lissign = in-range _ _ _ _ _ (k .0);
-      lisamount = in-range _ _ _ _ _ (k .1);
+      bydefault = in-range _ _ _ _ (a .0);
+      disabled = in-range _ _ _ _ (b .0);
+      presence = in-range _ _ _ _ (d .0);
+      centre = in-range _ _ _ _ (e .0);
+      surround = in-range _ _ _ _ (f .0);
+      height = in-range _ _ _ _ (g .0);
+      tbsign = in-range _ _ _ _ (i .0);
+      tbamount = in-range _ _ _ _ (j .0);
+      lissign = in-range _ _ _ _ (k .0);
+      lisamount = in-range _ _ _ _ (k .1);
     }
 
 config-writes : (c : TrimConfig) → configValid true c ≡ true → Writes trim-config (configBits c) c
@@ -117,7 +117,7 @@ array-writes valid empty p l f g on n xs e h =
     (λ q. subst (λ (k : ℕ). replicate k empty ≡ xs) e (entries-unused valid empty g xs (rw q at h)))
 
 -- the trim table of so many objects, its tests as facts
-pub record TrimFacts (objects : ℕ) (t : Trim) : Type 0 where
+pub record TrimFacts (objects : ℕ) (t : TrimTable) : Type 0 where
   pub present : Ranged true 0 1 0 (t .present)
   pub warp : Ranged (set? (t .present)) 0 1 0 (t .warp)
   pub mode : Ranged (set? (t .present)) 0 2 0 (t .mode)
@@ -125,34 +125,34 @@ pub record TrimFacts (objects : ℕ) (t : Trim) : Type 0 where
   pub configs : entriesValid configValid (pick (eqb (t .mode) 2) trimConfigs 0) (t .configs) ≡ true
   pub per-object : Ranged (set? (t .present)) 0 1 0 (t .per-object)
   pub flags : length (t .disabled) ≡ objects
-  pub disabled : entriesValid (λ used x. ranged used 0 1 0 x) (pick (set? (t .per-object)) objects 0) (t .disabled) ≡ true
+  pub disabled : entriesValid (λ used x. betweenIf used 0 1 x) (pick (set? (t .per-object)) objects 0) (t .disabled) ≡ true
 
-pub trim-facts : (objects : ℕ) (t : Trim) → trimValid objects t ≡ true → TrimFacts objects t
+pub trim-facts : (objects : ℕ) (t : TrimTable) → trimValid objects t ≡ true → TrimFacts objects t
 unfolding trimValid
 trim-facts objects t h =
-    let a = halves (ranged true 0 1 0 (t .present)) _ h in
-    let b = halves (ranged (set? (t .present)) 0 1 0 (t .warp)) _ (a .1) in
-    let c = halves (ranged (set? (t .present)) 0 2 0 (t .mode)) _ (b .1) in
+    let a = halves (between 0 1 (t .present)) _ h in
+    let b = halves (betweenIf (set? (t .present)) 0 1 (t .warp)) _ (a .1) in
+    let c = halves (betweenIf (set? (t .present)) 0 2 (t .mode)) _ (b .1) in
     let d = halves (eqb (length (t .configs)) trimConfigs) _ (c .1) in
     let e = halves (entriesValid configValid (pick (eqb (t .mode) 2) trimConfigs 0) (t .configs)) _ (d .1) in
-    let f = halves (ranged (set? (t .present)) 0 1 0 (t .per-object)) _ (e .1) in
+    let f = halves (betweenIf (set? (t .present)) 0 1 (t .per-object)) _ (e .1) in
     let g = halves (eqb (length (t .disabled)) objects) _ (f .1) in
     record {
-      present = in-range _ _ _ _ _ (a .0);
-      warp = in-range _ _ _ _ _ (b .0);
-      mode = in-range _ _ _ _ _ (c .0);
+      present = always-ranged _ _ _ (a .0);
+      warp = in-range _ _ _ _ (b .0);
+      mode = in-range _ _ _ _ (c .0);
       nine = eqb-true _ _ (d .0);
       configs = e .0;
-      per-object = in-range _ _ _ _ _ (f .0);
+      per-object = in-range _ _ _ _ (f .0);
       flags = eqb-true _ _ (g .0);
       disabled = g .1;
     }
 
 -- the trim element that is read, if there is one
-abbrev pub carriedTrim : Trim → Option Trim
+abbrev pub carriedTrim : TrimTable → Option TrimTable
 carriedTrim t = pick (hasTrim t) (some t) none
 
-module _ (objects : ℕ) (t : Trim) (v : TrimFacts objects t) where
+module _ (objects : ℕ) (t : TrimTable) (v : TrimFacts objects t) where
   configs-written : Writes (when (eqb (t .mode) 2) (for trimConfigs (λ cfg. trim-config)) (replicate trimConfigs noConfig))
       (only (eqb (t .mode) 2) (eachBits (λ cfg c. configBits c) 0 (t .configs))) (t .configs)
   configs-written = array-writes configValid noConfig trim-config configBits config-writes no-config (eqb (t .mode) 2) trimConfigs (t .configs)
@@ -161,9 +161,9 @@ module _ (objects : ℕ) (t : Trim) (v : TrimFacts objects t) where
   flags-written : Writes (when (set? (t .per-object)) (for objects (λ obj. bits 1)) (replicate objects 0))
       (only (set? (t .per-object)) (eachBits (λ obj x. toBits 1 x) 0 (t .disabled))) (t .disabled)
   flags-written =
-      array-writes (λ used x. ranged used 0 1 0 x) 0 (bits 1) (λ x. toBits 1 x)
-      (λ x h. w-bits 1 x (let l = in-range true 0 1 0 x h .on refl .1 in omega arith))
-      (λ x h. in-range false 0 1 0 x h .off refl) (set? (t .per-object)) objects (t .disabled) (v .flags) (v .disabled)
+      array-writes (λ used x. betweenIf used 0 1 x) 0 (bits 1) (λ x. toBits 1 x)
+      (λ x h. w-bits 1 x (let l = in-range true 0 1 x h .on refl .1 in omega arith))
+      (λ x h. in-range false 0 1 x h .off refl) (set? (t .per-object)) objects (t .disabled) (v .flags) (v .disabled)
 
   pub trim-writes : hasTrim t ≡ true → Writes (trim-element objects) (trimElementBits t) t
   unfolding trim-element trimElementBits
@@ -196,7 +196,7 @@ module _ (objects : ℕ) (t : Trim) (v : TrimFacts objects t) where
       let configs = subst (λ (n : ℕ). replicate n noConfig ≡ t .configs) (v .nine)
       (entries-unused configValid noConfig no-config (t .configs) (rw mode at (v .configs))) in
       let disabled = subst (λ (n : ℕ). replicate n 0 ≡ t .disabled) (v .flags)
-      (entries-unused (λ used x. ranged used 0 1 0 x) 0 (λ x h. in-range false 0 1 0 x h .off refl) (t .disabled) (rw flag at (v .disabled))) in
+      (entries-unused (λ used x. betweenIf used 0 1 x) 0 (λ x h. in-range false 0 1 x h .off refl) (t .disabled) (rw flag at (v .disabled))) in
       λ i. record {
         present = sym p i;
         warp = sym warp i;

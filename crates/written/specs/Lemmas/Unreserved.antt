@@ -39,7 +39,7 @@ pub w-unreserved : (on : Bool) (f : Field) (v : ℕ) → (on ≡ true → Free f
     → Writes (unreservedIf on f) (only on (toBits (widthOf f) v)) v
 w-unreserved on f v h g = w-unless on (numberOf Reserved) (widthOf f) (isReserved f) v h g
 
--- a field that is always there, below its reserved values
+-- a field that is always there, below reserved values
 pub w-under : (f : Field) (v : ℕ) → v < firstReserved f → v < 2 ^ widthOf f → Writes (unreserved f) (toBits (widthOf f) v) v
 w-under f v a b = w-unreserved true f v (λ q. (b, below-free (firstReserved f) (lastReserved f) v a)) (λ q. absurd (true≢false q))
 

@@ -7,7 +7,7 @@ returns : tie.Need-returns
 unfolding sceneAt
 returns c =
     let parts = c .before .before .before .before .before in
-    rw (parts .screen-at .ensures, parts .before .zone-at .ensures, parts .before .before .volume-at .ensures, parts .before .before .before .place-at .ensures)
+    rw (parts .screen-at .ensures, parts .before .zone-at .ensures, parts .before .before .volume-at .ensures, parts .before .before .before .location-at .ensures)
 
 pub scene-of-spec : {M : Type 1} → statement M
 scene-of-spec =

@@ -11,7 +11,10 @@ returns c =
     let beds = values .before .beds-valid .ensures in
     let counted = values .before .before .before in
     let flags = counted .before .before .before .before .before in
-    rw (eq-eqb _ _ (beds .1), c .both5 .ensures, c .before .both4 .ensures, c .before .before .both3 .ensures, c .before .before .before .both2 .ensures, c .before .before .before .before .both .ensures, values .others-valid .ensures, beds .0, counted .ranged3 .ensures, counted .before .before .ranged2 .ensures, counted .before .before .before .ranged .ensures, flags .bed-instances .ensures, flags .before .flag .ensures)
+    rw (eq-eqb _ _ (beds .1), c .both5 .ensures, c .before .both4 .ensures, c .before .before .both3 .ensures, c .before .before .before .both2 .ensures)
+    (rw (c .before .before .before .before .both .ensures, values .others-valid .ensures, beds .0, counted .between-if3 .ensures)
+    (rw (counted .before .before .between-if2 .ensures, counted .before .before .before .between-if .ensures, flags .bed-instances .ensures)
+    (rw (flags .before .flag .ensures))))
 
 pub assignment-valid-spec : {M : Type 1} → statement M
 assignment-valid-spec =

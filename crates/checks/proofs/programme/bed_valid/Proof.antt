@@ -7,7 +7,9 @@ returns : tie.Need-returns
 unfolding bedValid
 returns c =
     let values = c .before .before in
-    rw (c .both3 .ensures, c .before .both2 .ensures, values .wide-ranged .ensures, values .before .ranged2 .ensures, values .before .before .ranged .ensures, values .before .before .before .most-assignment .ensures, values .before .before .before .before .both .ensures)
+    rw (c .both3 .ensures, c .before .both2 .ensures, values .wide-between-if .ensures, values .before .between-if2 .ensures)
+    (rw (values .before .before .between-if .ensures, values .before .before .before .most-assignment .ensures)
+    (rw (values .before .before .before .before .both .ensures)))
 
 pub bed-valid-spec : {M : Type 1} → statement M
 bed-valid-spec =

@@ -8,7 +8,8 @@ unfolding othersValid
 returns c =
     let values = c .before .before in
     let flags = values .before .before .before in
-    rw (c .both2 .ensures, c .before .both .ensures, values .agrees .ensures, values .before .ranged2 .ensures, values .before .before .ranged .ensures, flags .flag2 .ensures, flags .before .before .flag .ensures)
+    rw (c .both2 .ensures, c .before .both .ensures, values .agrees .ensures, values .before .between-if2 .ensures)
+    (rw (values .before .before .between-if .ensures, flags .flag2 .ensures, flags .before .before .flag .ensures))
 
 pub others-valid-spec : {M : Type 1} → statement M
 others-valid-spec =

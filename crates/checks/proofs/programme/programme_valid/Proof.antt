@@ -6,7 +6,11 @@ use Rattle.checks.proofs.programme.programme_valid.Tie as tie
 returns : tie.Need-returns
 returns c =
     let values = c .before .before .before .before .before in
-    rw (programme-parts, c .both5 .ensures, c .before .both4 .ensures, c .before .before .both3 .ensures, c .before .before .before .both2 .ensures, c .before .before .before .before .both .ensures, values .assignment-valid .ensures, values .before .ranged4 .ensures, values .before .before .before .ranged3 .ensures, values .before .before .before .before .before .ranged2 .ensures, values .before .before .before .before .before .before .ranged .ensures, values .before .before .before .before .before .before .before .flag .ensures)
+    rw (programme-parts, c .both5 .ensures, c .before .both4 .ensures, c .before .before .both3 .ensures, c .before .before .before .both2 .ensures)
+    (rw (c .before .before .before .before .both .ensures, values .assignment-valid .ensures, values .before .between-if2 .ensures)
+    (rw (values .before .before .before .between-if .ensures, values .before .before .before .before .before .between2 .ensures)
+    (rw (values .before .before .before .before .before .before .between .ensures)
+    (rw (values .before .before .before .before .before .before .before .flag .ensures)))))
 
 pub programme-valid-spec : {M : Type 1} → statement M
 programme-valid-spec =

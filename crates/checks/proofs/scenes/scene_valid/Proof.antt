@@ -9,7 +9,9 @@ unfolding sceneValid renderedValid
 returns c =
     let values = c .before .before .before .before .before in
     let basic = values .before .before in
-    rw (c .both4 .ensures, c .before .both3 .ensures, c .before .before .before .both2 .ensures, c .before .before .before .before .both .ensures, values .rendered-valid .ensures, values .before .carries .ensures, basic .ranged3 .ensures, basic .before .before .ranged2 .ensures, basic .before .before .before .before .ranged .ensures)
+    rw (c .both4 .ensures, c .before .both3 .ensures, c .before .before .before .both2 .ensures, c .before .before .before .before .both .ensures)
+    (rw (values .rendered-valid .ensures, values .before .carries .ensures, basic .between-if2 .ensures, basic .before .before .between-if .ensures)
+    (rw (basic .before .before .before .before .between .ensures)))
 
 pub scene-valid-spec : {M : Type 1} → statement M
 scene-valid-spec =

@@ -8,7 +8,7 @@ returns : tie.Need-returns
 unfolding timingValid sampleOffset
 returns c =
     let updates = c .before .updates-valid .ensures in
-    rw (eq-eqb _ _ (updates .1), c .both .ensures, updates .0, c .before .before .ranged .ensures, c .before .before .before .sample-offset .ensures)
+    rw (eq-eqb _ _ (updates .1), c .both .ensures, updates .0, c .before .before .between .ensures, c .before .before .before .sample-offset .ensures)
 
 pub timing-valid-spec : {M : Type 1} → statement M
 timing-valid-spec =

@@ -9,7 +9,9 @@ unfolding configValid trimsValid balancesValid
 returns c =
     let values = c .before .before .before in
     let sent = values .before .before .before .before in
-    rw (c .both6 .ensures, c .before .both5 .ensures, c .before .before .both4 .ensures, values .trims-valid .ensures, values .before .ranged3 .ensures, values .before .before .ranged2 .ensures, values .before .before .before .ranged .ensures, sent .both3 .ensures, sent .before .both2 .ensures, sent .before .before .before .before .both .ensures)
+    rw (c .both6 .ensures, c .before .both5 .ensures, c .before .before .both4 .ensures, values .trims-valid .ensures, values .before .between-if3 .ensures)
+    (rw (values .before .before .between-if2 .ensures, values .before .before .before .between-if .ensures, sent .both3 .ensures, sent .before .both2 .ensures)
+    (rw (sent .before .before .before .before .both .ensures)))
 
 pub config-valid-spec : {M : Type 1} → statement M
 config-valid-spec =

@@ -2,20 +2,20 @@
 use Prim.Native.Nat.{_-_}
 use native.Mathlib.Omega.{arith}
 use borrow.Author.Needs.{needs}
-use Rattle.written.specs.Valid.{ranged}
+use Rattle.written.specs.Valid.{betweenIf}
 use Rattle.written.specs.Answer.{bytesAt}
 use Rattle.checks.proofs.Sent.{AllOrNone, untested, one-more, all-of-them, bytes-length, byte-entry}
 use Rattle.checks.proofs.trim.flags_valid.Statement.{statement}
 use Rattle.checks.proofs.trim.flags_valid.Tie as tie
 
 abbrev Inv-loop : tie.InvT-loop
-Inv-loop sent trim objects count valid₀ i₀ valid i = AllOrNone (λ used x. ranged used 0 1 0 x) sent count (bytesAt trim count 94) valid i
+Inv-loop sent trim objects count valid₀ i₀ valid i = AllOrNone (λ used x. betweenIf used 0 1 x) sent count (bytesAt trim count 94) valid i
 
 abbrev μ-loop : tie.MeasureT-loop
 μ-loop sent trim objects count valid₀ i₀ valid i = count - i
 
 loop-again : tie.Need-loop-again Inv-loop μ-loop
-loop-again c = one-more 0 _ (c .before .before .before .before .loop .inv) (search needs) (byte-entry _ _ _ _ (search needs)) (c .before .ranged .ensures) (c .both .ensures)
+loop-again c = one-more 0 _ (c .before .before .before .before .loop .inv) (search needs) (byte-entry _ _ _ _ (search needs)) (c .before .between-if .ensures) (c .both .ensures)
 
 returns : tie.Need-returns Inv-loop μ-loop
 returns c = all-of-them (c .before .loop .inv) (omega arith)

@@ -9,8 +9,9 @@ returns c =
     let configs = flags .before .before .before .before in
     let mode = configs .before .before in
     let warp = mode .before .before in
-    table-tested _ _ (warp .before .before .ranged .ensures) (warp .ranged2 .ensures) (mode .ranged3 .ensures) (configs .configs-valid .ensures)
-    (flags .before .before .ranged4 .ensures) (flags .flags-valid .ensures) (c .before .before .before .before .both .ensures) (c .before .before .before .both2 .ensures) (c .before .before .both3 .ensures) (c .before .both4 .ensures) (c .both5 .ensures)
+    table-tested _ _ (warp .before .before .between .ensures) (warp .between-if .ensures) (mode .between-if2 .ensures) (configs .configs-valid .ensures)
+    (flags .before .before .between-if3 .ensures) (flags .flags-valid .ensures)
+    (c .before .before .before .before .both .ensures) (c .before .before .before .both2 .ensures) (c .before .before .both3 .ensures) (c .before .both4 .ensures) (c .both5 .ensures)
 
 pub table-valid-spec : {M : Type 1} → statement M
 table-valid-spec =

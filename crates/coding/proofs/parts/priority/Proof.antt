@@ -10,7 +10,7 @@ use Rattle.coding.proofs.parts.priority.Tie as tie
 returns : tie.Need-returns
 unfolding priorityBits
 returns c = (
-  packs-is (ap priorityBits (c .before .before .before .before .before .before .before .coded-priority .ensures)) (then-packs (c .before .before .before .before .before .field .ensures .0) (if-packs (eqb (c .before .before .before .before .before .before .before .coded-priority .result .standard) 0) (c .before .before .before .field2 .ensures .0) (c .before .kept-if .ensures .0)) (c .joined .ensures .0)),
+  packs-is (ap priorityBits (c .before .before .before .before .before .before .before .coded-priority .ensures)) (then-packs (c .before .before .before .before .before .field .ensures .0) (if-packs (eqb (c .before .before .before .before .before .before .before .coded-priority .result .bydefault) 0) (c .before .before .before .field2 .ensures .0) (c .before .kept-if .ensures .0)) (c .joined .ensures .0)),
   omega (arith, c .joined .ensures .1, c .before .before .before .before .before .field .ensures .1, c .before .kept-if .ensures .1, c .before .before .before .field2 .ensures .1),
 )
 

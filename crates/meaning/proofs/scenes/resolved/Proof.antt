@@ -8,7 +8,7 @@ unfolding resolve
 returns c =
     let b = c .before .before .before in
     let a = b .before .before .before in
-    rw (a .gain-after .ensures, b .before .before .priority-after .ensures, b .before .place-after .ensures, b .volume-after .ensures)
+    rw (a .gain-after .ensures, b .before .before .priority-after .ensures, b .before .location-after .ensures, b .volume-after .ensures)
     (rw (c .before .before .zone-after .ensures, c .before .screen-after .ensures, c .number-by .ensures))
 
 pub resolved-spec : {M : Type 1} → statement M

@@ -28,7 +28,8 @@ loop-again c =
       omega arith,
       omega arith,
       rw (c .before .store-scene .ensures)
-          (turn (g .gain-above .result) (w .inv .2) (omega arith) (omega arith) (omega arith) (r .read-block .ensures .reads) (g .gain-above .ensures) (c .before .before .before .resolved .ensures)),
+          (turn (g .gain-of-object-before .result) (w .inv .2) (omega arith) (omega arith) (omega arith) (r .read-block .ensures .reads)
+          (g .gain-of-object-before .ensures) (c .before .before .before .resolved .ensures)),
     )
 
 returns : tie.Need-returns Inv-loop μ-loop

@@ -12,14 +12,15 @@ returns c =
     let sum = c .before in
     let size = sum .before .before in
     let around = size .before .before in
-    let place = around .before .before in
-    let test = place .before in
+    let position = around .before .before in
+    let test = position .before in
     let a = test .before .args in
-    let total : c .plus2 .result .0 ≡ place .placing .result .width .0 + around .around .result .width .0 + size .sized .result .width .0 =
-    omega (arith, c .plus2 .ensures, sum .plus .ensures, place .placing .ensures .1 .1, around .around .ensures .1 .1, size .sized .ensures .1 .1) in (
+    let total : c .plus2 .result .0 ≡ position .positioning .result .width .0 + around .around .result .width .0 + size .sized .result .width .0 =
+    omega (arith, c .plus2 .ensures, sum .plus .ensures, position .positioning .ensures .1 .1, around .around .ensures .1 .1, size .sized .ensures .1 .1) in (
       total
-          ∙ middle-length (a .on) (a .first) (a .s) _ _ _ (test .if1 .taken) (packs-length (place .placing .ensures .0)) (packs-length (around .around .ensures .0)) (packs-length (size .sized .ensures .0)),
-      omega (arith, total, place .placing .ensures .1 .1, around .around .ensures .1 .1, size .sized .ensures .1 .1),
+          ∙ middle-length (a .on) (a .first) (a .s) _ _ _ (test .if1 .taken) (packs-length (position .positioning .ensures .0))
+          (packs-length (around .around .ensures .0)) (packs-length (size .sized .ensures .0)),
+      omega (arith, total, position .positioning .ensures .1 .1, around .around .ensures .1 .1, size .sized .ensures .1 .1),
     )
 
 returns-2 : tie.Need-returns-2

@@ -6,14 +6,14 @@ use Rattle.writer.proofs.blocks.put_middle.Tie as tie
 
 returns : tie.Need-returns
 returns c =
-    let place = c .before .before .before .before .before .before .before .before .before .before .before .before .before .before .placing .ensures in
+    let position = c .before .before .before .before .before .before .before .before .before .before .before .before .before .before .positioning .ensures in
     let around = c .before .before .before .before .before .before .before .before .before .before .before .before .before .around .ensures in
     let size = c .before .before .before .before .before .before .before .before .before .before .before .before .sized .ensures in
     let a = c .before .before .before .before .before .before .before .before .before .before .put-packed .ensures in
     let b = c .before .before .before .before .before .before .put-packed2 .ensures in
     let d = c .before .before .put-packed3 .ensures in (
-      laid-bind (laid-is (place .0 .same) (a .0)) (laid-bind (laid-is (around .0 .same) (b .0)) (laid-is (size .0 .same) (d .0))),
-      omega (arith, a .1, b .1, d .1, place .1 .1, around .1 .1, size .1 .1),
+      laid-bind (laid-is (position .0 .same) (a .0)) (laid-bind (laid-is (around .0 .same) (b .0)) (laid-is (size .0 .same) (d .0))),
+      omega (arith, a .1, b .1, d .1, position .1 .1, around .1 .1, size .1 .1),
     )
 
 pub put-middle-spec : {M : Type 1} → statement M
