@@ -6,4 +6,4 @@ pub mod Answer
 pub mod Laying
 pub mod Ranges
 pub mod Most
-pub mod Unique
+pub mod Refused

@@ -3,9 +3,9 @@ use mathlib.Core.Path.{_≡_, refl}
 use mathlib.Core.List.{List, [], _∷_, _++_}
 use Prim.Native.Nat.{ℕ, zero, suc, _+_, _-_, _*_, _^_, _≤_, _<_}
 use native.Mathlib.Omega.{arith}
-use borrow.Author.Tests.{eqb-true, le-leb}
+use borrow.Author.Tests.{eqb-true}
 use lib.Dec.{eqb}
-use lib.ListN.{length, getD, drop, length-append, length-take}
+use lib.ListN.{length, getD, drop, length-append, length-take, length-replicate}
 use Rattle.bits.specs.Language.{from}
 use Rattle.bits.specs.Writes.{only}
 use Rattle.oamd.specs.declared.ReadAnswer.{ReadAnswer}
@@ -20,7 +20,6 @@ use Rattle.text.specs.Numerals.{decimal, hexByte}
 use Rattle.text.specs.NumeralLaws.{decimal-length}
 use Rattle.text.specs.Lines.{texts, hex, comma, newline, line, numberLine}
 use Rattle.text.specs.Listing.{blockLine, blockLines, recordAt, recordLine, objectLines, recordLines, shareLines, tableLines, listingOf, zeros, read, listing}
-use Rattle.text.specs.Answer.{texted}
 use Rattle.text.specs.Ranges.{Small, accepted-small, answer-marked}
 
 -- room for the listing of every payload, and to spare
@@ -80,7 +79,10 @@ unfolding blockLines
 blocks-most a h =
     let few = h .blocks in
     let n = counted-most (λ blk. blockLine blk (getD (a .timing .updates) blk noUpdate)) 18 0 (a .timing .blocks)
-    (λ blk l. block-most blk (getD (a .timing .updates) blk noUpdate) (omega arith) (h .updates blk .0) (h .updates blk .1)) in
+    (λ blk l.
+    let start = h .updates .starts blk (omega arith) in
+    let ramp = h .updates .ramps blk (omega arith) in
+    block-most blk (getD (a .timing .updates) blk noUpdate) (omega arith) (omega arith) (omega arith)) in
     omega arith
 
 records-most : (objects blocks : ℕ) (records : List ℕ) → objects ≤ mostObjects → blocks ≤ mostBlocks → length (recordLines objects blocks records) ≤ 78864
@@ -136,17 +138,12 @@ listing-most a records h l small =
     by-test (eqb (a .refusal) 0) (λ e. rw e (tables-most a records (small (eqb-true (a .refusal) 0 e)))) (λ e. rw e (omega arith)) in
     omega (arith, length-append (numberLine refusalKey (a .refusal)) (p ++ t), length-append p t)
 
--- ---- the statements
-
 -- no listing is longer, of a payload that a slice can hold
 pub most-text : (s : List ℕ) → length s < 2 ^ 64 → length (listing s) ≤ mostText
-unfolding listing
+unfolding listing zeros
 most-text s h =
-    let m = answer-marked s (zeros roomBytes) (zeros mostTrim) (omega arith) in
+    let room : length (zeros roomBytes) ≡ roomBytes = length-replicate {A = ℕ} roomBytes 0 in
+    let trim : length (zeros mostTrim) ≡ mostTrim = length-replicate {A = ℕ} mostTrim 0 in
+    let m = answer-marked s (zeros roomBytes) (zeros mostTrim) (omega arith) (omega arith) (omega arith) in
     let n = listing-most (read s .answer) (read s .buffer) (m .refusal) (m .place) (accepted-small s (zeros roomBytes) (zeros mostTrim)) in
     omega arith
-
--- so a buffer of as many bytes is never refused
-pub never-short : (s buffer : List ℕ) → length s < 2 ^ 64 → mostText ≤ length buffer → texted (listing s) buffer .answer .refusal ≡ 0
-unfolding texted
-never-short s buffer h l = let n = most-text s h in rw (le-leb (length (listing s)) (length buffer) (omega arith))

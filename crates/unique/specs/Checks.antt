@@ -1,7 +1,7 @@
 -- The public functions of checks.
-use mathlib.Core.Path.{_≡_, refl}
+use mathlib.Core.Path.{_≡_, refl, ap}
 use mathlib.Core.Bool.{Bool, true, false}
-use Prim.Native.Nat.{ℕ, _+_, _*_, _<_, _≤_}
+use Prim.Native.Nat.{ℕ, _+_, _*_, _%_, _<_, _≤_}
 use lib.Dec.{leb}
 use lib.ListN.{length}
 use denote.Ref.{now}
@@ -24,7 +24,7 @@ use Rattle.oamd.specs.Programme.{shares}
 use Rattle.oamd.specs.Tables.{recordStride, configBytes}
 use Rattle.oamd.specs.Trim.{noConfig, trimNeeded}
 use Rattle.written.specs.Answer.{sceneAt, divergenceAt, preciseAt, configAt, recordsAt, trimAt}
-use Rattle.written.specs.Valid.{_and_, firstBad, recordCount, trimValid}
+use Rattle.written.specs.Valid.{_and_, firstStart, firstBad, recordCount, trimValid}
 use Rattle.unique.specs.OneAnswer.{OneAnswer, by-equation, said, both-said, result-set, _beside_}
 
 pub one-programme-valid : OneAnswer programme-valid.ended (λ M. programme-valid.clauses) (λ M. programme-valid.spec) (λ κs a. a) (λ κs a r z. r)
@@ -40,7 +40,9 @@ pub one-record-count : OneAnswer record-count.ended (λ M. record-count.clauses)
 one-record-count = by-equation (result-set record-count.ended) (λ w. refl) _ (λ w κs a r z p. said (λ h. h .0) (p .holds))
 
 pub one-sample-offset : OneAnswer sample-offset.ended (λ M. sample-offset.clauses) (λ M. sample-offset.spec) (λ κs a. a) (λ κs a r z. r)
-one-sample-offset = by-equation (result-set sample-offset.ended) (λ w. refl) _ (λ w κs a r z p. said (λ h. h) (p .holds))
+one-sample-offset =
+    by-equation (result-set sample-offset.ended) (λ w. refl) (λ a. record { 0 = firstStart (a .0) % 32 })
+    (λ w κs a r z p. said (λ h. ap (λ (n : ℕ). record { 0 = n }) h) (p .holds))
 
 pub one-trim-valid : OneAnswer trim-valid.ended (λ M. trim-valid.clauses) (λ M. trim-valid.spec) (λ κs a. a .0 beside now (a .1 .0)) (λ κs a r z. r)
 one-trim-valid =

@@ -48,7 +48,7 @@ one-ramp-indexed = by-equation (result-set ramp-indexed.ended) (λ w. refl) _ (�
 
 -- Two numbers that pack the same bits are the same, with their widths.
 packed-once : {I : Type 0} (bits : I → List ℕ) (i : I) (p q : Packed) → Packs p (bits i) → Packs q (bits i) → p ≡ q
-packed-once bits i p q h g = let same = one-packed p q (bits i) h g in λ j. record { width = same .0 j; value = same .1 j }
+packed-once bits i p q h g = let same = one-packed p q (bits i) h g in λ j. record { width = record { 0 = same .0 j }; value = same .1 j }
 
 pub one-opening : OneAnswer opening.ended (λ M. opening.clauses) (λ M. opening.spec) (λ κs a. a) (λ κs a r z. r)
 one-opening =

@@ -8,4 +8,5 @@ pub mod Meaning
 pub mod Syntax
 pub mod Checks
 pub mod Coding
+pub mod Text
 pub mod Open

@@ -5,7 +5,6 @@ use Rattle.meaning.proofs.agrees as agrees
 use Rattle.meaning.proofs.class_of as class-of
 use Rattle.meaning.proofs.idle as idle
 use Rattle.meaning.proofs.no_timing as no-timing
-use Rattle.meaning.proofs.offset_of as offset-of
 use Rattle.meaning.proofs.resolved as resolved
 use Rattle.meaning.proofs.shares as shares
 use Rattle.meaning.proofs.update_of as update-of
@@ -25,9 +24,6 @@ one-idle = by-equation (result-set idle.ended) (λ w. refl) _ (λ w κs a r z p.
 
 pub one-resolved : OneAnswer resolved.ended (λ M. resolved.clauses) (λ M. resolved.spec) (λ κs a. a) (λ κs a r z. r)
 one-resolved = by-equation (result-set resolved.ended) (λ w. refl) _ (λ w κs a r z p. said (λ h. h) (p .holds))
-
-pub one-offset-of : OneAnswer offset-of.ended (λ M. offset-of.clauses) (λ M. offset-of.spec) (λ κs a. a) (λ κs a r z. r)
-one-offset-of = by-equation (result-set offset-of.ended) (λ w. refl) _ (λ w κs a r z p. said (λ h. h) (p .holds))
 
 pub one-update-of : OneAnswer update-of.ended (λ M. update-of.clauses) (λ M. update-of.spec) (λ κs a. a) (λ κs a r z. r)
 one-update-of = by-equation (result-set update-of.ended) (λ w. refl) _ (λ w κs a r z p. said (λ h. h) (p .holds))
