@@ -155,6 +155,7 @@ examples =
     ∷ stopped (0x01 ∷ []) 2 8 1
     ∷ stopped (0x01 ∷ 0x07 ∷ []) 2 14 2
     ∷ stopped (0x01 ∷ 0x07 ∷ 0xC1 ∷ []) 2 18 7
+    ∷ stopped (0x01 ∷ 0x3C ∷ 0x01 ∷ 0xFF ∷ 0xFF ∷ 0xFF ∷ []) 2 23 8947840
     ∷ stopped (0x01 ∷ 0x04 ∷ 0x40 ∷ 0x00 ∷ []) 8 29 0
     ∷ trim oneFlag (1 ∷ 1 ∷ 0 ∷ replicate 90 0 ++ (1 ∷ 1 ∷ []))
     ∷ trim nineConfigs
@@ -164,4 +165,4 @@ examples =
 
 pub worked : All examples
 unfolding sizeFrom slice number run bit each from groups gainOf startOf bed-assignment bed-instances intermediate-spatial-format num-dynamic-objects reserved-data program-assignment labels bedObjects allBeds named agrees shares classOf plainRecords extendedRecords recordBytesOf bytesOf onto kind framed scenes fields passOver readKnown oa-element oa-element-md elements oa-md-version object-count oa-element-count header object-audio-metadata-payload timing records tables trim-config trim-element trimOf configsBytesOf trimBytesOf missingOf housed reading sample-offset block-update-info md-update-info offsetOf rampOf timingOf status-idx object-basic-info differences coordinates position distance zone extent screen object-render-info additional-table-data object-info-block object-data object-element obj-div-block ext-prec-pos-block extended-object-element priorityOf distanceOf placeOf volumeOf resolve scenesFrom scenesOf allScenes
-worked = (refl, (refl, (refl, (refl, (refl, (refl, (refl, (refl, (refl, (refl, (refl, (refl, (refl, (refl, (refl, (refl, (refl, (refl, (refl, (refl, ((refl, refl, refl), tt)))))))))))))))))))))
+worked = (refl, (refl, (refl, (refl, (refl, (refl, (refl, (refl, (refl, (refl, (refl, (refl, (refl, (refl, (refl, (refl, (refl, (refl, (refl, (refl, (refl, ((refl, refl, refl), tt))))))))))))))))))))))
