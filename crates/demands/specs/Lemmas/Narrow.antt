@@ -6,7 +6,7 @@ use Prim.Native.Nat.{ℕ, zero, suc, _+_, _-_, _*_, _≤_, _<_}
 use native.Mathlib.Omega.{arith}
 use lib.Dec.{eqb, leb}
 use lib.ListN.{length}
-use borrow.Author.Tests.{leb-true}
+use borrow.Author.Tests.{leb-true, eqb-true, eqb-false}
 use Rattle.bits.specs.Language.{no, pick, Bits, P, give, refuse, field, within, _>>=_, run, bit, skip, each, pastPayload, pastDeclared}
 use Rattle.bits.specs.Bytes.{bit-lt}
 use Rattle.bits.specs.Steps.{give-no, refuse-no, bind-no}
@@ -20,7 +20,7 @@ use Rattle.oamd.specs.Answer.{missingOf}
 use Rattle.oamd.specs.Payload.{oa-md-version, object-count, oa-element-count, header, object-audio-metadata-payload}
 use Rattle.demands.specs.Terms.{parsed}
 use Rattle.demands.specs.Lemmas.Limits.{carried-le}
-use Rattle.demands.specs.Lemmas.Missing.{field-past, element-past, own, parsed-lacks, missing-is}
+use Rattle.demands.specs.Lemmas.Missing.{field-past, element-past, own, parsed-lacks, missing-none, missing-is}
 
 -- the widest is an element whose size is five groups F
 abbrev pub widest : ℕ
@@ -185,9 +185,19 @@ pub parsed-most : (s : List ℕ) {place m : ℕ} → parsed s ≡ no pastPayload
 parsed-most s h =
     few widest object-audio-metadata-payload (bit s) (bit-lt s) 0 (8 * length s) pastPayload payload-narrow own (λ z. omega arith) h (omega arith)
 
--- so the missing bits are answered as they are, and there is one at least
+-- so the missing bits are answered as they are, and there is one at least where the payload ends early
 pub missing-all : (s : List ℕ) {place m : ℕ} → parsed s ≡ no pastPayload place m → missingOf pastPayload m ≡ m
 missing-all s {m = m} h = missing-is m (let most = parsed-most s h in omega arith)
+
+pub missing-few : (s : List ℕ) {r place m : ℕ} → parsed s ≡ no r place m → missingOf r m ≤ widest
+missing-few s {r} {place} {m} h = go (eqb r pastPayload) refl
+  where
+    go : (t : Bool) → eqb r pastPayload ≡ t → missingOf r m ≤ widest
+    go true q =
+        let e = eqb-true r pastPayload q in
+        let early = subst (λ (i : ℕ). parsed s ≡ no i place m) e h in
+        rw (e, missing-all s early) (parsed-most s early)
+    go false q = rw (missing-none r m (eqb-false r pastPayload q)) (omega arith)
 
 pub some-missing : (s : List ℕ) {r place m : ℕ} → parsed s ≡ no r place m → r ≡ pastPayload → 1 ≤ missingOf r m
 some-missing s {place = place} {m = m} h e =
