@@ -1,4 +1,4 @@
--- The key names of the listing and of the vectors, each with its sign of equality, as bytes: the constants of src/lib.rt, for the definitions.
+-- The key names of the listing as bytes, each with its sign of equality, for the definitions: those of the constants in src/lib.rt.
 use Prim.Native.Nat.{ℕ}
 use Prim.Native.Char.{code}
 use Prim.Native.String.{String, [] as empty, _∷_ as _before_}

@@ -4,7 +4,7 @@ use mathlib.Core.Bool.{Bool, true, false}
 use mathlib.Core.List.{List, [], _∷_, _++_, append-nil}
 use Prim.Native.Nat.{ℕ, zero, suc, _+_, _-_, _*_, _^_, _≤_, _<_}
 use native.Mathlib.Omega.{arith}
-use borrow.Author.Tests.{eqb-true}
+use borrow.Author.Tests.{eqb-true, ne-eqb}
 use lib.Dec.{eqb}
 use lib.ListN.{length, getD, drop, length-append, length-take, length-replicate}
 use Rattle.bits.specs.Language.{from}
@@ -147,7 +147,7 @@ listing-most a records h l few small =
     by-test (eqb (a .refusal) 0)
     (λ e.
     let zero = eqb-true (a .refusal) 0 e in
-    rw zero (tables-most a records (small zero)))
+    rw (e, ne-eqb (a .refusal) 2 (λ z. omega arith)) (tables-most a records (small zero)))
     (λ e. rw e (either-most (eqb (a .refusal) 2) m 79068 (omega arith))) in
     omega (arith, length-append (numberLine refusalKey (a .refusal)) (p ++ t), length-append p t)
 

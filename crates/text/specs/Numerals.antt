@@ -11,16 +11,17 @@ use Rattle.keys.specs.Names.{ascii}
 abbrev pub digit : ℕ → ℕ
 digit d = code "0" + d
 
--- the digits of n, the first stands for most: those of n / 10, and behind them that of n % 10; a number below 10 has one. No number has more digits than
--- one and itself, so that the steps counted down here are enough
+-- the digits of n, the first of which stands for most: a number below 10 has one, any other those of n / 10 and behind them that of n % 10; the steps are
+-- counted down
 abbrev pub digitsIn : ℕ → ℕ → List ℕ
 digitsIn zero n = digit (n % 10) ∷ []
 digitsIn (suc steps) n = elim (ltb n 10) [ true ↦ digit n ∷ [] | false ↦ digitsIn steps (n / 10) ++ (digit (n % 10) ∷ []) ]
 
+-- n steps are enough for n
 unfoldable pub decimal : ℕ → List ℕ
 decimal n = digitsIn n n
 
--- ---- what makes them the digits of n (NumeralLaws)
+-- ---- what makes them the digits of n: NumeralLaws says so
 
 -- digits of decimal, and nothing else
 abbrev pub Digit : ℕ → Type 0

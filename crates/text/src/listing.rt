@@ -15,8 +15,11 @@ use oamd::ReadAnswer;
 use oamd::Timing;
 use oamd::Update;
 
-// From one record to the next, and the bytes of a record that are listed.
+// From one record to the next.
 const STRIDE: usize = 24;
+
+// The bytes of a record that are listed.
+const SHOWN: usize = 24;
 
 fn lay_update(text: &mut [u8], at: usize, blk: usize, u: Update) -> usize
     ensures { λ r. ⌜ Laid (now (text .entry)) (now (text .exit)) at r (blockLine blk u) ⌝ }
@@ -57,7 +60,7 @@ fn lay_record(
     requires { ⌜ from + recordBytes ≤ length (now records) ⌝ }
     ensures { λ r. ⌜ Laid (now (text .entry)) (now (text .exit)) at r (recordLine object blk (take recordBytes (drop from (now (records .entry))))) ⌝ }
 {
-    let end = from + STRIDE;
+    let end = from + SHOWN;
     let to = lay_bytes(text, at, &keys::RECORD);
     let to = lay_number(text, to, object as u64, b',');
     let to = lay_number(text, to, blk as u64, b',');

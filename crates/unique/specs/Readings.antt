@@ -1,5 +1,5 @@
 -- What a function that reads has done: the cursor, and what was read, as one value.
-use mathlib.Core.Path.{_≡_, refl, sym, ap, _∙_}
+use mathlib.Core.Path.{_≡_, refl, sym, ap, ap₂, _∙_}
 use mathlib.Core.List.{List}
 use mathlib.Core.Logic.{_⊎_, inl, inr}
 use Prim.Native.Nat.{ℕ}
@@ -33,8 +33,8 @@ module _ {X : Type 0} (p : From X → P ℕ) (n : From X → ℕ) (i : From X) w
 
   pub took-once : (o o' : Cur × Res ℕ) → TookBy o → TookBy o' → o ≡ o'
   took-once o o' t t' =
-      let same : holding (t .0) ≡ holding (t' .0) = λ j. (one-took (t .1) (t' .1) .0 j, (t .1 .reads .same ∙ sym (t' .1 .reads .same)) j) in
-      t .2 ∙ same ∙ sym (t' .2)
+      let value : asRead (t .0 .v) (t .0) ≡ asRead (t' .0 .v) (t' .0) = t .1 .reads .same ∙ sym (t' .1 .reads .same) in
+      t .2 ∙ ap₂ (λ (d : Cur) (x : Res ℕ). (d, x)) (one-took (t .1) (t' .1) .0) value ∙ sym (t' .2)
 
 module _ {A X : Type 0} (p : From X → P A) (i : From X) where
   abbrev pub GaveBy : Cur × Res A → Type 0
@@ -42,8 +42,8 @@ module _ {A X : Type 0} (p : From X → P A) (i : From X) where
 
   pub gave-once : (o o' : Cur × Res A) → GaveBy o → GaveBy o' → o ≡ o'
   gave-once o o' t t' =
-      let same : giving (t .0) (t .1) ≡ giving (t' .0) (t' .1) = λ j. (one-gave (t .2) (t' .2) .0 j, (t .2 .reads .same ∙ sym (t' .2 .reads .same)) j) in
-      t .3 ∙ same ∙ sym (t' .3)
+      let value : asRead (t .0) (t .1) ≡ asRead (t' .0) (t' .1) = t .2 .reads .same ∙ sym (t' .2 .reads .same) in
+      t .3 ∙ ap₂ (λ (d : Cur) (x : Res A). (d, x)) (one-gave (t .2) (t' .2) .0) value ∙ sym (t' .3)
 
 -- ---- what was read is no more than its parts
 abbrev Parts : Type 0 → Type 0

@@ -1,5 +1,5 @@
 -- The public functions of text.
-use mathlib.Core.Path.{_≡_, refl}
+use mathlib.Core.Path.{_≡_, refl, ap₂}
 use mathlib.Core.List.{List}
 use Prim.Native.Nat.{ℕ, _+_}
 use base.Stored.{coded-set, codedVia, codedℕ, coded×, codedList}
@@ -37,7 +37,7 @@ laid-set : IsSet (ℕ × List ℕ)
 laid-set = coded-set (coded× codedℕ (codedList codedℕ))
 
 laid-once : {s t : List ℕ} {at r : ℕ} {l : List ℕ} → Laid s t at r l → (r beside t) ≡ laidFrom s at l
-laid-once h i = (h .next i, h .same i)
+laid-once h = ap₂ (λ (n : ℕ) (b : List ℕ). n beside b) (h .next) (h .same)
 
 pub one-lay-bytes : OneAnswer lay-bytes.ended (λ M. lay-bytes.clauses) (λ M. lay-bytes.spec) (λ κs a. now (a .0) beside a .1 .0 beside now (a .1 .1 .0))
     (λ κs a r z. r beside z .0)

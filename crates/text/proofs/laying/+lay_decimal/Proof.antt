@@ -26,7 +26,7 @@ lay-decimal-below t = and 1 lay-decimal-kinds.ps (falls 1 lay-decimal-kinds.ps _
 
 module _ (t : ℕ) where
   returns : lay-decimal-lts.Need-returns (lay-byte-reads.Asked, lay-byte-reads.Learnt, lay-decimal-below t, lay-decimal.Post) (lay-decimal-at t) lay-decimal.Post
-  returns c = laid-is (sym (decimal-one _ (c .before .before .before .before .if1 .taken))) (c .before .before .lay-byte .ensures)
+  returns c = laid-is (sym (decimal-one _ (omega arith))) (c .before .before .lay-byte .ensures)
 
   falls-on : lay-decimal-lts.Need-lay-decimal-requires (lay-byte-reads.Asked, lay-byte-reads.Learnt, lay-decimal-below t, lay-decimal.Post) (lay-decimal-at t) lay-decimal.Post
   falls-on c κs = (omega (arith, c .before .before .before .pre .0), tt)
@@ -34,7 +34,7 @@ module _ (t : ℕ) where
   laid : lay-decimal-lts.Need-returns-2 (lay-byte-reads.Asked, lay-byte-reads.Learnt, lay-decimal-below t, lay-decimal.Post) (lay-decimal-at t) lay-decimal.Post
   laid c =
       let more = c .before .before .before .before .before .before in
-      laid-is (sym (decimal-more _ (more .before .before .if1 .left))) (laid-bind (more .lay-decimal .ensures) (c .before .before .lay-byte2 .ensures))
+      laid-is (sym (decimal-more _ (omega arith))) (laid-bind (more .lay-decimal .ensures) (c .before .before .lay-byte2 .ensures))
 
 pub +lay-decimal-spec : {M : Type 1} → statement M
 +lay-decimal-spec =

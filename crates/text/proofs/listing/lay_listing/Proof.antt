@@ -49,6 +49,7 @@ lay-listing-spec =
     (λ c. search needs)
     returns
     (λ c. search needs)
+    (λ c. search needs)
     (λ c κs. search needs)
     (λ c. search needs)
     returns-2
