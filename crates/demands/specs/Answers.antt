@@ -97,15 +97,15 @@ answers s buffer trim = go (case s buffer trim)
     go : Case s buffer trim → Accepts buffer trim (reading s buffer trim) ⊎ Refuses buffer trim (reading s buffer trim)
     go (long l e) = inr (record { number = 1; low = omega arith; high = omega arith; place = length s; missing = 0; some = λ z. omega arith; none = λ z. refl; outcome = e })
     go (stopped r pl m l h two eight e) = inr (record {
-          number = r;
-          low = omega arith;
-          high = omega arith;
-          place = pl;
-          missing = missingOf r m;
-          some = some-missing s h;
-          none = missing-none r m;
-          outcome = e;
-        })
+      number = r;
+      low = omega arith;
+      high = omega arith;
+      place = pl;
+      missing = missingOf r m;
+      some = some-missing s h;
+      none = missing-none r m;
+      outcome = e;
+    })
     go (full q to pl l h x e) = inr (record { number = 9; low = omega arith; high = omega arith; place = pl; missing = 0; some = λ z. omega arith; none = λ z. refl; outcome = e })
     go (read q to l h f g e) = inl (subst (Accepts buffer trim) (sym e) (accepts s buffer trim q to h f g))
 
