@@ -4,7 +4,7 @@
  * Numbers have their lowest byte first, lengths and the skew 4 bytes; tables and answers are their fields in the header's order, without padding. What a
  * call looks at is sent as its length and its bytes, a lent buffer as its length, its skew and its bytes.
  *   request v                                                answer: version
- *   request r, payload, record buffer, trim buffer           answer: place, refusal, unknown, programme, timing, the bytes of both buffers
+ *   request r, payload, record buffer, trim buffer           answer: place, refusal, unknown, programme, timing, missing, the bytes of both buffers
  *   request w, programme, timing, records, trim, buffer      answer: place, length, refusal, the bytes of the buffer
  * A buffer is sent as it is lent and answered whole. It is lent at an address that leaves the remainder `skew` by 16, with canaries around it.
  * Exit status: 0 at the end of the input; 1 for a request that is not one, or a call that changed a canary or what it may only look at.
@@ -207,6 +207,7 @@ static void serve_read(void)
     put(a.unknown, 1);
     put_programme(&a.programme);
     put_timing(&a.timing);
+    put(a.missing, 4);
     put_lent(&records);
     put_lent(&trim);
 }

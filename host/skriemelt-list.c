@@ -2,7 +2,7 @@
  * skriemelt-list: reads a file of payloads and prints a line for each.
  *
  * The file: for each payload two bytes of length, the higher first, and its bytes; one payload after the other. `-` or no name is standard input.
- * A line: its number from 0, its length, then `refusal R at P`, or objects, blocks and unknown elements, the starts of the blocks, and how many of the
+ * A line: its number from 0, its length, then `refusal R at P`, with `missing M` for a payload that ends early, or objects, blocks and unknown elements, the starts of the blocks, and how many of the
  * records are active. For long input a progress line goes to standard error, where that is a terminal or -p is given.
  * Exit status: 0; 1 if the file ends within a payload or cannot be read.
  */
@@ -47,7 +47,10 @@ static int list(FILE *in, int progress)
         if (a.refusal == SKRIEMELT_ACCEPTED) {
             print_accepted(&a, records);
         } else {
-            printf("refusal %u at %llu\n", a.refusal, (unsigned long long)a.place);
+            printf("refusal %u at %llu", a.refusal, (unsigned long long)a.place);
+            if (a.refusal == SKRIEMELT_PAST_PAYLOAD)
+                printf(" missing %lu", (unsigned long)a.missing);
+            printf("\n");
             refused++;
         }
         number++;

@@ -16,11 +16,11 @@ static int is_zero(const void *p, size_t n)
     return 1;
 }
 
-/* All fields but refusal and place are 0. */
+/* All fields but refusal and place are 0, and but the missing bits of a payload that ends early. */
 static int bare(const skriemelt_read_answer *a)
 {
     unsigned i;
-    int ok = a->unknown == 0 && a->timing.blocks == 0 && is_zero(&a->programme, offsetof(skriemelt_programme, dynamics) + 1);
+    int ok = (a->missing != 0) == (a->refusal == SKRIEMELT_PAST_PAYLOAD) && a->unknown == 0 && a->timing.blocks == 0 && is_zero(&a->programme, offsetof(skriemelt_programme, dynamics) + 1);
 
     for (i = 0; i < SKRIEMELT_MOST_BEDS; i++)
         ok = ok && a->programme.beds[i].assignment == 0 && a->programme.beds[i].lfeonly == 0 && a->programme.beds[i].standard == 0;
@@ -34,12 +34,12 @@ static void nulls(void)
     uint8_t out[2] = {0x5A, 0x5A}, trim[95];
     skriemelt_read_answer a = skriemelt_read(NULL, 0, NULL, 0, NULL, 0);
 
-    check(a.refusal == SKRIEMELT_PAST_PAYLOAD && a.place == 0 && bare(&a), "no payload, no buffers");
+    check(a.refusal == SKRIEMELT_PAST_PAYLOAD && a.place == 0 && a.missing == 2 && bare(&a), "no payload, no buffers");
     a = skriemelt_read(NULL, 0, out, 1, out + 1, 1);
     check(a.refusal == SKRIEMELT_PAST_PAYLOAD && out[0] == 0x5A && out[1] == 0x5A, "no payload");
     memset(trim, 0x5A, sizeof trim);
     a = skriemelt_read(small, 4, NULL, 0, trim, sizeof trim);
-    check(a.refusal == SKRIEMELT_ACCEPTED && a.programme.objects == 1 && a.unknown == 1, "no record buffer, and none needed");
+    check(a.refusal == SKRIEMELT_ACCEPTED && a.programme.objects == 1 && a.unknown == 1 && a.missing == 0, "no record buffer, and none needed");
     check(is_zero(trim, sizeof trim), "the trim table without a trim element");
     a = skriemelt_read(small, 4, NULL, 0, NULL, 0);
     check(a.refusal == SKRIEMELT_NO_ROOM && a.place == 95 && bare(&a), "no trim buffer, and one is needed");
@@ -53,15 +53,20 @@ static void nulls(void)
 static void worked(void)
 {
     static const uint64_t places[4] = {0, 8, 14, 18};
-    static const uint8_t version[2] = {0x41, 0x00};
+    static const uint32_t missing[4] = {2, 1, 2, 7};
+    static const uint8_t version[2] = {0x41, 0x00}, past_element[4] = {0x01, 0x04, 0x40, 0x00}, widest[6] = {0x01, 0x3C, 0x01, 0xFF, 0xFF, 0xFF};
     skriemelt_read_answer a;
     uint8_t *longest = calloc(1000000, 1), trim[95];
     size_t n;
 
     for (n = 0; n < 4; n++) {
         a = skriemelt_read(small, n, NULL, 0, NULL, 0);
-        check(a.refusal == SKRIEMELT_PAST_PAYLOAD && a.place == places[n] && bare(&a), "cut");
+        check(a.refusal == SKRIEMELT_PAST_PAYLOAD && a.place == places[n] && a.missing == missing[n] && bare(&a), "cut");
     }
+    a = skriemelt_read(past_element, 4, NULL, 0, NULL, 0);
+    check(a.refusal == SKRIEMELT_PAST_ELEMENT && a.place == 29 && bare(&a), "a field past its element's end");
+    a = skriemelt_read(widest, 6, NULL, 0, NULL, 0);
+    check(a.refusal == SKRIEMELT_PAST_PAYLOAD && a.place == 23 && a.missing == 8947840 && bare(&a), "a size of five groups F");
     a = skriemelt_read(version, 2, NULL, 0, NULL, 0);
     check(a.refusal == SKRIEMELT_OTHER_VERSION && a.place == 0 && bare(&a), "version 1");
     if (longest == NULL)

@@ -39,6 +39,7 @@ static void offsets(void)
     AT(skriemelt_read_answer, unknown, 9);
     AT(skriemelt_read_answer, programme, 12);
     AT(skriemelt_read_answer, timing, 96);
+    AT(skriemelt_read_answer, missing, 132);
     AT(skriemelt_write_answer, place, 0);
     AT(skriemelt_write_answer, length, 8);
     AT(skriemelt_write_answer, refusal, 12);

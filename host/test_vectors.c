@@ -240,6 +240,8 @@ static void one_vector(unsigned number, const uint8_t *bytes, size_t n, const ui
     t.answer = skriemelt_read(payload, n, t.records, sizeof t.records, t.trim, sizeof t.trim);
     free(payload);
     say("vector=%u\nrefusal=%u\nplace=%llu\n", number, t.answer.refusal, (unsigned long long)t.answer.place);
+    if (t.answer.refusal == SKRIEMELT_PAST_PAYLOAD)
+        say("missing=%lu\n", (unsigned long)t.answer.missing);
     if (t.answer.refusal == SKRIEMELT_ACCEPTED) {
         accepted(&t.answer, t.records);
         say_trim(t.trim, trim_bytes(&t));

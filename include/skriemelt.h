@@ -11,7 +11,7 @@
  * Tables. The programme and the timing are passed and answered by value. Values of every sort are fine in them.
  *
  * Refusals. A refused call leaves every byte of its lent buffers (read: the records and the trim table, write: the payload) as it came, and all fields of
- * its answer but refusal and place are 0. An accepted read writes the first 24 * objects * blocks bytes of the record buffer, the first 94 + objects bytes
+ * its answer but refusal and place, and with SKRIEMELT_PAST_PAYLOAD the missing bits, are 0. An accepted read writes the first 24 * objects * blocks bytes of the record buffer, the first 94 + objects bytes
  * of the trim buffer, and no others; an accepted write writes the first `length` bytes of its buffer and no others.
  *
  * Threads. Every call works on its arguments and its own stack alone (a read: about 32 kB, a write: about 1 kB). Calls may run at once in several threads,
@@ -31,7 +31,7 @@ extern "C" {
 #endif
 
 /* The version of this interface: a thousand times the major number, plus the minor. */
-#define SKRIEMELT_VERSION 2000
+#define SKRIEMELT_VERSION 2001
 
 /* Limits. */
 #define SKRIEMELT_MOST_PAYLOAD_BYTES 4096 /* a longer payload is refused with 1, a longer written form with 11 */
@@ -45,7 +45,8 @@ extern "C" {
 /* Refusals. Where it says "bit", the place is a bit position counted from 0 at the top bit of the payload's first byte. */
 #define SKRIEMELT_ACCEPTED 0           /* place 0 */
 #define SKRIEMELT_TOO_LONG 1           /* the payload is longer than 4,096 bytes; place: its length in bytes */
-#define SKRIEMELT_PAST_PAYLOAD 2       /* a field, or an element's declared size, passes the payload's end; place: first bit of that field or size */
+#define SKRIEMELT_PAST_PAYLOAD 2       /* a field, or an element's declared size, passes the payload's end; place: first bit of that field or size;
+                                          missing: the bits that it lacks */
 #define SKRIEMELT_OTHER_VERSION 3      /* the version is not 0; place 0 */
 #define SKRIEMELT_COUNTS_DISAGREE 4    /* object counts disagree; place: first bit behind the program assignment */
 #define SKRIEMELT_RESERVED_VALUE 5     /* a value that the standard marks reserved; place: first bit of that field */
@@ -167,13 +168,14 @@ typedef struct skriemelt_timing {
     skriemelt_update updates[SKRIEMELT_MOST_BLOCKS]; /* those from blocks on are 0 */
 } skriemelt_timing;
 
-/* What a read answers, beside the records and the trim table. On a refusal all but refusal and place is 0. */
+/* What a read answers, beside the records and the trim table. On a refusal all but refusal and place is 0, and but missing with SKRIEMELT_PAST_PAYLOAD. */
 typedef struct skriemelt_read_answer {
     uint64_t place;  /* see the refusals above */
     uint8_t refusal; /* SKRIEMELT_ACCEPTED to SKRIEMELT_NO_ROOM */
     uint8_t unknown; /* number of unknown elements, 0 to 46 */
     skriemelt_programme programme;
     skriemelt_timing timing;
+    uint32_t missing; /* SKRIEMELT_PAST_PAYLOAD: bits that were missing for the field or size at the place, 1 to 8,947,840; else 0 */
 } skriemelt_read_answer;
 
 /* What a write answers, beside the payload. On a refusal the length is 0. */

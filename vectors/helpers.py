@@ -450,8 +450,37 @@ def lines(*parts):
     return [word for p in parts for word in (p.split() if isinstance(p, str) else p)]
 
 
-def refused(no, place):
-    return ["refusal=%d" % no, "place=%d" % place]
+class refused(list):
+    """The lines of a refusal, but for the missing bits.  field: of a payload that ends right before a field, the name of that
+    field; a run of data has its width too."""
+
+    def __init__(self, no, place, field=None):
+        super().__init__(["refusal=%d" % no, "place=%d" % place])
+        self.field = (field, WIDTHS[field]) if isinstance(field, str) else field
+
+
+def size_at(fields, i):
+    """The value of the size whose first group is field i, and the number of its bits (5.5.1)."""
+    value, groups_ = fields[i][2], 1
+    while groups_ < 5 and fields[i + 2 * groups_ - 1][2]:
+        value = value * 16 + 16 + fields[i + 2 * groups_][2]
+        groups_ += 1
+    return value, 5 * groups_
+
+
+def missing(fields, place, end, field=None):
+    """How many bits the field at a place lacks; of a size that is there, how many its declared bytes lack, which begin behind it."""
+    if field is not None:
+        return place + field[1] - end
+    fields, pos = [f for f in fields if f[1]], 0
+    for i, (name, w, _) in enumerate(fields):
+        if pos == place:
+            if name == "size read" and place + w <= end:
+                value, used = size_at(fields, i)
+                return place + used + 8 * (value + 1) - end
+            return place + w - end
+        pos += w
+    raise AssertionError(("no field begins there", place))
 
 
 # ---------------------------------------------------------------- the list of vectors
@@ -474,9 +503,10 @@ def pack(fields, padbit):
     return bytes(int(bits[i:i + 8], 2) for i in range(0, len(bits), 8)), n
 
 
-def vector(name, exercises, how, payload, expected, pad=0, extra=b"", cut=None, trim=None):
+def vector(name, exercises, how, payload, expected, pad=0, extra=b"", cut=None, trim=None, whole=None):
     """payload: bytes, or a list of tuples, filled up to a byte with bits of value `pad`, then `extra` bytes,
-    then only the first `cut` bytes of it if cut is given.  trim: the trim table, None if there is no trim element."""
+    then only the first `cut` bytes of it if cut is given.  trim: the trim table, None if there is no trim element.  whole: the
+    fields of the payload from which bytes were cut."""
     v = Vector()
     v.name, v.exercises, v.how, v.expected, v.trim = name, exercises, how, expected, trim
     assert all(name != o.name for o in VECTORS), ("name twice", name)
@@ -491,6 +521,10 @@ def vector(name, exercises, how, payload, expected, pad=0, extra=b"", cut=None, 
         assert cut < len(v.bytes), ("cut", name)
         v.bytes = v.bytes[:cut]
     check(v)
+    if expected[0] == "refusal=2":
+        lacks = missing(v.fields or whole, int(expected[1].removeprefix("place=")), 8 * len(v.bytes), expected.field)
+        assert lacks >= 1, ("missing", name, lacks)
+        v.expected = expected + ["missing=%d" % lacks]
     VECTORS.append(v)
 
 

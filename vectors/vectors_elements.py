@@ -19,12 +19,12 @@ EXT = [NO_DIV_BLOCK, NO_PREC_BLOCK]          # 2 bits, with the discard flag 3: 
 # ISF index 0: 12 + 3 + 5 = 20 bits of header, id 20-23, size at 24.
 ISF_HEADER = [version(), count_(3), content(isf=1), isf_(0), tail(1)]
 vector("size-group-cut", "refusal 2 at the first size group", "header 12+3+5 = 20, id to 24 = the payload's end",
-       [ISF_HEADER, ("oa_element_id_idx", 4, 2), HERE], refused(2, 24))
+       [ISF_HEADER, ("oa_element_id_idx", 4, 2), HERE], refused(2, 24, "size read"))
 # Two beds of LFE only: 12 + 5 + 2 + 5 = 24 bits of header, id 24-27, group 28-31, flag 32.
 vector("size-flag-cut", "refusal 2 at the flag after the first size group",
        "header 12+5+2+5 = 24, id 4, group 4: 32 = the payload's end",
        [version(), count_(1), content(bed=1), many_beds([LFE_ONLY] * 2), tail(1), ("oa_element_id_idx", 4, 2),
-        ("size read", 4, 0), HERE], refused(2, 32))
+        ("size read", 4, 0), HERE], refused(2, 32, "size b_read_more"))
 # 14 + 4 + 5 = 23: second group at 23-26 of 24.
 vector("size-second-group-cut", "refusal 2 at the second size group", "14 + 4 + 5 = 23; 24 bits are there",
        [dyn_header(1, 1), ("oa_element_id_idx", 4, 2), groups((0, 1)), HERE, ("size read", 4, 0)],
@@ -37,7 +37,7 @@ vector("size-fifth-group-cut", "refusal 2 at the fifth size group", "18 + 4 x 5 
 vector("size-fifth-flag-cut", "refusal 2 at the flag after a fifth group",
        "size at 24; 24 + 4 x 5 + 4 = 48 = the payload's end",
        [ISF_HEADER, ("oa_element_id_idx", 4, 2), groups((0, 1), (0, 1), (0, 1), (0, 1)), ("size read", 4, 0), HERE],
-       refused(2, 48))
+       refused(2, 48, "size b_read_more"))
 # Five zeros are 69,904, +1 bytes.  The flag after the fifth (bit 42) is 1 and ignored; padding ones would make a
 # sixth group 43-46, flag 47 and a seventh group that passes the end at 48.
 vector("size-five-groups", "five groups, the flag after the fifth set: ignored; the size does not fit",
@@ -110,7 +110,8 @@ vector("elements-46", "46 elements: count extension 31", "15 + 31 elements: 44 u
        lines("refusal=0 place=0 objects=1 bed=0 isf=0 dynamic=1 blocks=1 unknown=44", OBJ_LINES))
 # One element fewer than announced: 45 x 17 = 765 bits after a header of 19: 784 = 98 bytes; the 46th id at 784.
 vector("elements-46-one-missing", "46 elements announced, 45 there", "19 + 45 x 17 = 784 = the payload's end",
-       [version(), count_(0), dyn_only(), tail(15, ext=31), [unknown(4, 1)] * 45, HERE], refused(2, 784))
+       [version(), count_(0), dyn_only(), tail(15, ext=31), [unknown(4, 1)] * 45, HERE],
+       refused(2, 784, "oa_element_id_idx"))
 
 # ------------------------------------------------------------------------------- alternate ids
 

@@ -7,6 +7,9 @@ program from bit 12 on.  An object count extension (7-13) moves all that by 7.
 from helpers import *
 
 EXAMPLE = bytes.fromhex("0107C100")
+# Its fields: the header, and an unknown element of one byte with the id 15.
+WHOLE = flat([dyn_header(1, 1), unknown(15, discard=1)])
+assert pack(WHOLE, 0)[0] == EXAMPLE
 ONE_DYNAMIC = "refusal=0 place=0 objects=1 bed=0 isf=0 dynamic=1 blocks=0 unknown="
 
 # ------------------------------------------------------------------------------- examples of document 01
@@ -17,12 +20,12 @@ vector("example", "the worked example of document 01", "printed in document 01",
 
 # The element's size group is at 18, its flag at 22, so the element takes bits 23-30 of 24 bits.
 vector("example-3-bytes", "declared size does not fit (refusal 2 at the size)", "printed in document 01",
-       EXAMPLE[:3], refused(2, 18))
+       EXAMPLE[:3], refused(2, 18), whole=WHOLE)
 # The id is at 14-17 of 16 bits.
-vector("example-2-bytes", "element id passes the end", "printed in document 01", EXAMPLE[:2], refused(2, 14))
+vector("example-2-bytes", "element id passes the end", "printed in document 01", EXAMPLE[:2], refused(2, 14), whole=WHOLE)
 # b_lfe_present is at 8 of 8 bits.
-vector("example-1-byte", "b_lfe_present passes the end", "printed in document 01", EXAMPLE[:1], refused(2, 8))
-vector("example-0-bytes", "the empty payload", "printed in document 01", b"", refused(2, 0))
+vector("example-1-byte", "b_lfe_present passes the end", "printed in document 01", EXAMPLE[:1], refused(2, 8), whole=WHOLE)
+vector("example-0-bytes", "the empty payload", "printed in document 01", b"", refused(2, 0), whole=WHOLE)
 
 vector("version-1", "version 1 (41 00)", "printed in document 01", bytes.fromhex("4100"), refused(3, 0))
 
@@ -207,7 +210,8 @@ vector("reserved-run-cut", "refusal 2 in a reserved run, before refusal 4",
 # content 1000: size bits at 12-15, run of 8 x 16 = 128 bits at 16 with nothing there.
 vector("reserved-run-none", "refusal 2 at a reserved run of which no bit is there",
        "the size bits end at 16 = 2 bytes; the run begins there",
-       [version(), count_(2), content(reserved=1), ("reserved_data_size_bits", 4, 15), HERE], refused(2, 16))
+       [version(), count_(2), content(reserved=1), ("reserved_data_size_bits", 4, 15), HERE],
+       refused(2, 16, ("reserved_data", 8 * (15 + 1))))
 # bed LFE only: 15 bits; ISF 3 -> 18; dynamic 5 -> 23; size bits at 23-26 of 24 bits.
 vector("reserved-size-cut", "refusal 2 at reserved_data_size_bits",
        "12 + 3 (bed of LFE) + 3 (ISF) + 5 (dynamic) = 23; 24 bits are there",
@@ -230,12 +234,14 @@ vector("counts-at-end", "refusal 4 where the alternate flag is not there",
        [version(), count_(3), content(bed=1, dynamic=1), many_beds([LFE_ONLY] * 2), dyn_(0), HERE], refused(4, 24))
 vector("alternate-flag-cut", "the same with counts that agree: refusal 2 at the alternate flag",
        "2 + 1 = 3 objects of 3; the flag would be at 24 = the payload's end",
-       [version(), count_(2), content(bed=1, dynamic=1), many_beds([LFE_ONLY] * 2), dyn_(0), HERE], refused(2, 24))
+       [version(), count_(2), content(bed=1, dynamic=1), many_beds([LFE_ONLY] * 2), dyn_(0), HERE],
+       refused(2, 24, "b_alternate_object_data_present"))
 
 # ------------------------------------------------------------------------------- cut inside the header
 
 vector("cut-content", "refusal 2 at content_description", "2+5+1 = 8 = the payload's end",
-       [version(), count_(0), ("b_dyn_object_only_program", 1, 0), HERE], refused(2, 8))
+       [version(), count_(0), ("b_dyn_object_only_program", 1, 0), HERE],
+       refused(2, 8, "content_description[]"))
 # 12 + 1 + 1 = 14: num_bed_instances_bits at 14-16 of 16.
 vector("cut-bed-instances", "refusal 2 at num_bed_instances_bits", "12 + 2 = 14; 16 bits are there",
        [version(), count_(1), content(bed=1), ("b_bed_chan_distribute", 1, 0),
@@ -258,7 +264,8 @@ vector("cut-dynamic-ext", "refusal 2 at num_dynamic_objects_bits_ext", "12 + 3 (
         ("num_dynamic_objects_bits_ext", 7, 0)], refused(2, 20), cut=3)
 # content ISF: 12 + 3 + alternate flag 1 = 16: element count at 16.
 vector("cut-element-count", "refusal 2 at oa_element_count_bits", "12 + 3 + 1 = 16 = the payload's end",
-       [version(), count_(3), content(isf=1), isf_(0), ("b_alternate_object_data_present", 1, 1), HERE], refused(2, 16))
+       [version(), count_(3), content(isf=1), isf_(0), ("b_alternate_object_data_present", 1, 1), HERE],
+       refused(2, 16, "oa_element_count_bits"))
 # dynamic only: count at 10-13, extension at 14-18 of 16.
 vector("cut-element-count-ext", "refusal 2 at oa_element_count_bits_ext", "2+5+1+1+1+4 = 14; 16 bits are there",
        [version(), count_(0), dyn_only(), ("b_alternate_object_data_present", 1, 0), ("oa_element_count_bits", 4, 15),

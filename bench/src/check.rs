@@ -34,11 +34,12 @@ fn left(payload: &[u8], (room, trim_room): (usize, usize), seed: u8) -> Left {
 }
 
 /// Refused with this and nothing else, both buffers as they came.
-fn refused(left: &Left, expect: (u32, u64), seed: u8) -> Result<(), String> {
+fn refused(left: &Left, expect: (u32, u64, u32), seed: u8) -> Result<(), String> {
     let answer = &left.answer;
     let bare = Answer {
         refusal: expect.0,
         place: expect.1,
+        missing: expect.2,
         ..Answer::default()
     };
     ensure!(*answer == bare, "refused, expected {expect:?}: {answer:?}");
@@ -52,11 +53,13 @@ fn refused(left: &Left, expect: (u32, u64), seed: u8) -> Result<(), String> {
 pub fn check_case(case: &Case) -> Result<Answer, String> {
     let left = left(&case.payload, (case.room, case.trim_room), 0xA5);
     let answer = left.answer;
-    let got = (answer.refusal, answer.place);
+    let got = (answer.refusal, answer.place, answer.missing);
     if let Some(expect) = case.expect {
         ensure!(got == expect, "got {got:?}, expected {expect:?}");
     }
     ensure!(answer.refusal <= 9, "refusal {}", answer.refusal);
+    let early = answer.refusal == 2;
+    ensure!(early == (answer.missing > 0), "{answer:?}");
     if answer.refusal != 0 {
         refused(&left, got, 0xA5)?;
         return Ok(answer);
@@ -98,11 +101,11 @@ fn accepted(case: &Case, first: &Left) -> Result<(), String> {
 /// One byte short of either, then of both: the records are named first.
 fn too_short(case: &Case, bytes: usize, trim_bytes: usize) -> Result<(), String> {
     let short = left(&case.payload, (bytes, trim_bytes - 1), 0x3C);
-    refused(&short, (9, trim_bytes as u64), 0x3C)?;
+    refused(&short, (9, trim_bytes as u64, 0), 0x3C)?;
     if bytes > 0 {
         for trim_room in [trim_bytes, trim_bytes - 1, 0] {
             let short = left(&case.payload, (bytes - 1, trim_room), 0x3C);
-            refused(&short, (9, bytes as u64), 0x3C)?;
+            refused(&short, (9, bytes as u64, 0), 0x3C)?;
         }
     }
     Ok(())

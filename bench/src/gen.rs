@@ -32,8 +32,8 @@ pub struct Case {
     pub room: usize,
     /// Length of the trim buffer.
     pub trim_room: usize,
-    /// Refusal and place, where the generator knows them.
-    pub expect: Option<(u32, u64)>,
+    /// Refusal, place and missing bits, where the generator knows them.
+    pub expect: Option<(u32, u64, u32)>,
     /// What is to be read if the payload is accepted, where it is known.
     pub tables: Option<Tables>,
     /// The branches that the payload takes, if nothing in it is damaged.

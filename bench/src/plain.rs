@@ -117,8 +117,8 @@ pub struct Timing {
 
 /// What a read answers. 144 bytes, aligned to 8: refusal at 0, four bytes of
 /// padding, place at 8, programme at 16, timing at 100, two bytes of padding,
-/// unknown at 136, four bytes of tail padding. On a refusal all but refusal and
-/// place are 0.
+/// unknown at 136, missing at 140. On a refusal all but refusal and place are 0,
+/// and but the missing bits of a payload that ends early.
 #[repr(C)]
 #[derive(Clone, Copy, Debug, Default, PartialEq, Eq)]
 pub struct Answer {
@@ -128,6 +128,8 @@ pub struct Answer {
     pub timing: Timing,
     /// Number of unknown elements, 0 to 46.
     pub unknown: u32,
+    /// With refusal 2, the bits that the field or the size at the place lacks.
+    pub missing: u32,
 }
 
 /// What a write answers. 24 bytes, aligned to 8: refusal at 0, four bytes of
@@ -162,11 +164,13 @@ pub fn read(payload: &[u8], records: &mut [u8], trim: &mut [u8]) -> Answer {
                 programme: tables.programme,
                 timing: tables.timing,
                 unknown: tables.unknown,
+                missing: 0,
             }
         }
         Err(why) => Answer {
             refusal: why.number,
             place: why.place,
+            missing: why.missing,
             ..Answer::default()
         },
     }
@@ -218,7 +222,7 @@ const _: () = {
     assert!(size_of::<Timing>() == 34 && offset_of!(Timing, updates) == 2);
     assert!(offset_of!(Answer, place) == 8 && offset_of!(Answer, programme) == 16);
     assert!(offset_of!(Answer, timing) == 100 && offset_of!(Answer, unknown) == 136);
-    assert!(size_of::<Answer>() == 144);
+    assert!(offset_of!(Answer, missing) == 140 && size_of::<Answer>() == 144);
     assert!(offset_of!(WriteAnswer, place) == 8 && offset_of!(WriteAnswer, length) == 16);
     assert!(size_of::<WriteAnswer>() == 24);
     assert!(trim::FIRST_FLAG == 94 && MAX_TRIM_BYTES == 253);

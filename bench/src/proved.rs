@@ -54,6 +54,7 @@ pub struct ReadAnswer {
     pub unknown: u8,
     pub programme: Programme,
     pub timing: Timing,
+    pub missing: u32,
 }
 
 /// skriemelt_write_answer.
@@ -84,7 +85,7 @@ const _: () = {
     assert!(size_of::<ReadAnswer>() == 136 && align_of::<ReadAnswer>() == 8);
     assert!(offset_of!(ReadAnswer, place) == 0 && offset_of!(ReadAnswer, refusal) == 8);
     assert!(offset_of!(ReadAnswer, unknown) == 9 && offset_of!(ReadAnswer, programme) == 12);
-    assert!(offset_of!(ReadAnswer, timing) == 96);
+    assert!(offset_of!(ReadAnswer, timing) == 96 && offset_of!(ReadAnswer, missing) == 132);
     assert!(size_of::<WriteAnswer>() == 16 && align_of::<WriteAnswer>() == 8);
     assert!(offset_of!(WriteAnswer, place) == 0 && offset_of!(WriteAnswer, length) == 8);
     assert!(offset_of!(WriteAnswer, refusal) == 12);
@@ -177,6 +178,7 @@ impl ReadAnswer {
                 }),
             },
             unknown: self.unknown.into(),
+            missing: self.missing,
         }
     }
 }

@@ -232,6 +232,11 @@ fn rooms() {
         let bare = Answer {
             refusal: answer.refusal,
             place: answer.place,
+            missing: if answer.refusal == 2 {
+                answer.missing
+            } else {
+                0
+            },
             ..Answer::default()
         };
         assert!(answer.refusal == 0 || answer == bare);

@@ -24,11 +24,12 @@ fn listing_example() {
 #[test]
 fn listing_example_cut() {
     let payload = [0x01, 0x07, 0xC1, 0x00];
-    for (length, place) in [(3, 18), (2, 14), (1, 8), (0, 0)] {
+    for (length, place, missing) in [(3, 18, 7), (2, 14, 2), (1, 8, 1), (0, 0, 2)] {
         let (answer, _) = read_all(&payload[..length]);
         let expected = Answer {
             refusal: 2,
             place,
+            missing,
             ..Answer::default()
         };
         assert_eq!(answer, expected, "{length} bytes");

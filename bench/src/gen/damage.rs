@@ -28,10 +28,10 @@ const FAULTS: [Fault; 19] = [
 ];
 
 /// What is said of a payload without faults that ends with `bytes`.
-fn cut(draft: &Draft, bytes: &[u8]) -> (u32, usize) {
+fn cut(draft: &Draft, bytes: &[u8]) -> (u32, usize, usize) {
     match draft.first_past(8 * bytes.len()) {
-        Some(place) => (2, place),
-        None => (0, 0),
+        Some((place, missing)) => (2, place, missing),
+        None => (0, 0, 0),
     }
 }
 
@@ -62,14 +62,18 @@ impl Gen {
         let whole = self.whole();
         let bytes = self.bytes(&whole.draft);
         self.marks.set(Group::Trailing, 0);
-        self.finish("valid", bytes, (0, 0), whole.tables)
+        self.finish("valid", bytes, (0, 0, 0), whole.tables)
     }
 
     fn faulty(&mut self) -> Case {
         let fault = self.rng.pick(&FAULTS);
         let whole = self.faulty_whole(fault);
         let mut bytes = self.bytes(&whole.draft);
-        let mut expect = whole.draft.fault.unwrap_or((0, 0));
+        let mut expect = match whole.draft.fault {
+            Some((2, _)) => cut(&whole.draft, &bytes),
+            Some((refusal, place)) => (refusal, place, 0),
+            None => (0, 0, 0),
+        };
         if fault == Fault::LongSize && self.rng.chance(50) {
             // Cut about the size, whose groups and flags are fields as well.
             bytes.truncate(bytes.len().saturating_sub(self.rng.below(14)));
@@ -138,7 +142,7 @@ impl Gen {
             bytes.push(self.rng.byte());
         }
         self.marks.set(Group::Trailing, 1);
-        self.finish("appended", bytes, (0, 0), whole.tables)
+        self.finish("appended", bytes, (0, 0, 0), whole.tables)
     }
 
     /// A good header, then elements of arbitrary content.
@@ -201,7 +205,7 @@ impl Gen {
             bytes.truncate(bytes.len() - 1);
             return self.finish_open("about 4,096", bytes, needed(&whole.tables));
         }
-        self.finish("about 4,096", bytes, (0, 0), whole.tables)
+        self.finish("about 4,096", bytes, (0, 0, 0), whole.tables)
     }
 
     /// A fault, then a flip, a cut, or both.
@@ -237,7 +241,7 @@ impl Gen {
             payload,
             room: self.room(records),
             trim_room: self.trim_room(trim),
-            expect: (length > 4096).then_some((1, length as u64)),
+            expect: (length > 4096).then_some((1, length as u64, 0)),
             tables: None,
             marks: Marks::default(),
         }
@@ -248,15 +252,15 @@ impl Gen {
         &mut self,
         kind: &'static str,
         payload: Vec<u8>,
-        expect: (u32, usize),
+        expect: (u32, usize, usize),
         tables: Tables,
     ) -> Case {
         let (records, trim) = needed(&tables);
         let (room, trim_room) = (self.room(records), self.trim_room(trim));
         let expect = match expect {
-            _ if payload.len() > 4096 => (1, payload.len()),
-            (0, _) if room < records => (9, records),
-            (0, _) if trim_room < trim => (9, trim),
+            _ if payload.len() > 4096 => (1, payload.len(), 0),
+            (0, ..) if room < records => (9, records, 0),
+            (0, ..) if trim_room < trim => (9, trim, 0),
             other => other,
         };
         Case {
@@ -264,7 +268,7 @@ impl Gen {
             payload,
             room,
             trim_room,
-            expect: Some((expect.0, expect.1 as u64)),
+            expect: Some((expect.0, expect.1 as u64, expect.2 as u32)),
             tables: Some(tables),
             marks: self.marks,
         }

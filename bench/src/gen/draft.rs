@@ -88,16 +88,18 @@ impl Draft {
         if let Some((refusal, place)) = content.fault {
             self.fail_at(refusal, base + place);
         }
-        if let Some(place) = content.first_past(width) {
+        if let Some((place, _)) = content.first_past(width) {
             self.fail_at(8, base + place);
         }
         self.bits.extend(content.bits.iter().take(width));
     }
 
-    /// The first field, in reading order, that passes `end`.
-    pub fn first_past(&self, end: usize) -> Option<usize> {
+    /// The first field, in reading order, that passes `end`: its first bit, and
+    /// the bits by which it does.
+    pub fn first_past(&self, end: usize) -> Option<(usize, usize)> {
         let mut fields = self.fields.iter();
-        Some(fields.find(|field| field.1 > end)?.0)
+        let field = fields.find(|field| field.1 > end)?;
+        Some((field.0, field.1 - end))
     }
 
     /// The bits as bytes, the last one filled up with `fill`.

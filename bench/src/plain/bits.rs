@@ -2,17 +2,36 @@
 
 use super::refusal;
 
-/// Why a call is refused, and where.
+/// Why a call is refused, and where; of a payload that ends early, how many bits
+/// were missing.
 #[derive(Clone, Copy, Debug, PartialEq, Eq)]
 pub struct Refusal {
     pub number: u32,
     pub place: u64,
+    pub missing: u32,
 }
 
 impl Refusal {
     pub fn new(number: u32, place: usize) -> Self {
-        let place = place as u64;
-        Self { number, place }
+        Self {
+            number,
+            place: place as u64,
+            missing: 0,
+        }
+    }
+
+    /// A field or a size that passes an end by so many bits: they are missing
+    /// where that is the payload's.
+    fn past(number: u32, place: usize, by: usize) -> Self {
+        let missing = if number == refusal::PAST_PAYLOAD {
+            by as u32
+        } else {
+            0
+        };
+        Self {
+            missing,
+            ..Self::new(number, place)
+        }
     }
 }
 
@@ -44,8 +63,9 @@ impl<'a> Bits<'a> {
     /// Passes over a run of bits, which is one field.
     #[inline]
     pub fn pass(&mut self, width: usize) -> Result<(), Refusal> {
-        if self.end - self.at < width {
-            return Err(Refusal::new(self.short, self.at));
+        let left = self.end - self.at;
+        if left < width {
+            return Err(Refusal::past(self.short, self.at, width - left));
         }
         self.at += width;
         Ok(())
@@ -104,12 +124,15 @@ impl<'a> Bits<'a> {
         Ok(value)
     }
 
-    /// Parts off the next `bytes` bytes as an element and passes over them.
-    /// `None` if they pass the end.
-    pub fn part(&mut self, bytes: usize) -> Option<Bits<'a>> {
+    /// Parts off the next `bytes` bytes as an element and passes over them. If
+    /// they pass the end, the place is that of their size.
+    pub fn part(&mut self, bytes: usize, size_place: usize) -> Result<Bits<'a>, Refusal> {
         let start = self.at;
-        self.pass(8 * bytes).ok()?;
-        Some(Bits {
+        self.pass(8 * bytes).map_err(|why| Refusal {
+            place: size_place as u64,
+            ..why
+        })?;
+        Ok(Bits {
             bytes: self.bytes,
             at: start,
             end: self.at,

@@ -100,9 +100,7 @@ fn element<'a>(bits: &mut Bits<'a>, alternate: bool) -> Result<(Kind, Bits<'a>),
     let id = bits.take(4)?;
     let size_place = bits.place();
     let size = element_size(bits)?;
-    let Some(mut body) = bits.part(size) else {
-        return Err(Refusal::new(refusal::PAST_PAYLOAD, size_place));
-    };
+    let mut body = bits.part(size, size_place)?;
     // The size counts from here (5.6.4.3): one byte holds both fields.
     let alternate_id = if alternate { body.take(4)? } else { 0 };
     body.flag()?;

@@ -5,7 +5,7 @@ use std::cell::RefCell;
 use std::io::{Read, Write};
 use std::process::{ChildStdin, ChildStdout, Command, Stdio};
 
-const READ_ANSWER_BYTES: usize = 8 + 1 + 1 + (10 + 9 * 6) + (1 + 8 * 4);
+const READ_ANSWER_BYTES: usize = 8 + 1 + 1 + (10 + 9 * 6) + (1 + 8 * 4) + 4;
 const WRITE_ANSWER_BYTES: usize = 8 + 4 + 1;
 
 /// The serving process.
@@ -152,6 +152,7 @@ pub fn read(payload: &[u8], records: &mut [u8], trim: &mut [u8]) -> ReadAnswer {
         unknown: answer.u8(),
         programme: answer.programme(),
         timing: answer.timing(),
+        missing: answer.u32(),
     }
 }
 

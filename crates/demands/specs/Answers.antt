@@ -16,10 +16,12 @@ use Rattle.oamd.specs.Record.{Record, bytesOf, onto}
 use Rattle.oamd.specs.Trim.{TrimTable, trimBytesOf, trimNeeded}
 use Rattle.oamd.specs.Lengths.{length-bytes, length-trim}
 use Rattle.oamd.specs.Payload.{Payload, object-audio-metadata-payload, tables}
-use Rattle.oamd.specs.Answer.{Outcome, refused, accepted, needed, reading}
+use Rattle.oamd.specs.Answer.{Outcome, missingOf, refused, accepted, needed, reading}
 use Rattle.demands.specs.Terms.{parsed, tablesOf}
 use Rattle.demands.specs.Conditions.{OtherVersion, CountsDisagree, SecondKnown, EarlyExtended, bytesNeeded, trimBytesNeeded, Short, Lacks}
 use Rattle.demands.specs.Lemmas.Reading.{Case, long, stopped, full, read, case, read-of, reading-ok, reading-no, reading-long, trimRoom, housed-fits, housed-lacks, refusal-of}
+use Rattle.demands.specs.Lemmas.Missing.{missing-none}
+use Rattle.demands.specs.Lemmas.Narrow.{some-missing}
 use Rattle.demands.specs.Lemmas.Records.{length-needed, trim-sized}
 use Rattle.demands.specs.Lemmas.Order.{payload-stops, header-stops, in-header, in-version, version-of, version-is, counts-of, counts-is, second-of, second-is, early-of, early-is}
 
@@ -30,11 +32,12 @@ pub record Fronts (n : ℕ) (these before after : List ℕ) : Type 0 where
   pub front : take n after ≡ these
   pub rest : drop n after ≡ drop n before
 
--- Accepted: refusal 0 and place 0. The first bytes of the buffer are the records, 24 bytes for each object and block. Those of the trim buffer are the trim
+-- Accepted: refusal 0, place 0 and no missing bits. The first bytes of the buffer are the records, 24 bytes for each object and block. Those of the trim buffer are the trim
 -- table, 94 bytes and one for each object: it has nine configurations, and a flag for each object.
 pub record Accepts (buffer trim : List ℕ) (o : Outcome) : Type 0 where
   pub refusal : o .answer .refusal ≡ 0
   pub place : o .answer .place ≡ 0
+  pub missing : o .answer .missing ≡ 0
   pub records : List Record
   pub many : length records ≡ o .answer .programme .objects * o .answer .timing .blocks
   pub recorded : Fronts (recordStride * length records) (bytesOf records) buffer (o .buffer)
@@ -43,13 +46,16 @@ pub record Accepts (buffer trim : List ℕ) (o : Outcome) : Type 0 where
   pub flags : length (table .disabled) ≡ o .answer .programme .objects
   pub trimmed : Fronts (trimNeeded (o .answer .programme .objects)) (trimBytesOf table) trim (o .trim)
 
--- Refused: a number from 1 to 9 and a place, all else 0, and both buffers as they came.
+-- Refused: a number from 1 to 9 and a place, with 2 one missing bit or more, all else 0, and both buffers as they came.
 pub record Refuses (buffer trim : List ℕ) (o : Outcome) : Type 0 where
   pub number : ℕ
   pub low : 1 ≤ number
   pub high : number ≤ 9
   pub place : ℕ
-  pub outcome : o ≡ refused buffer trim number place
+  pub missing : ℕ
+  pub some : number ≡ numberOf EndsEarly → 1 ≤ missing
+  pub none : (number ≡ numberOf EndsEarly → ⊥) → missing ≡ 0
+  pub outcome : o ≡ refused buffer trim number place missing
 
 fronts : (n : ℕ) (these buffer : List ℕ) → length these ≡ n → n ≤ length buffer → Fronts n these buffer (onto these buffer)
 unfolding onto
@@ -74,6 +80,7 @@ accepts s buffer trim q to h f g =
     record {
       refusal = refl;
       place = refl;
+      missing = refl;
       records = rs;
       many = omega arith;
       recorded = fronts (recordStride * length rs) (bytesOf rs) buffer l (omega arith);
@@ -88,15 +95,25 @@ pub answers : (s buffer trim : List ℕ) → Accepts buffer trim (reading s buff
 answers s buffer trim = go (case s buffer trim)
   where
     go : Case s buffer trim → Accepts buffer trim (reading s buffer trim) ⊎ Refuses buffer trim (reading s buffer trim)
-    go (long l e) = inr (record { number = 1; low = omega arith; high = omega arith; place = length s; outcome = e })
-    go (stopped r pl m l h two eight e) = inr (record { number = r; low = omega arith; high = omega arith; place = pl; outcome = e })
-    go (full q to pl l h x e) = inr (record { number = 9; low = omega arith; high = omega arith; place = pl; outcome = e })
+    go (long l e) = inr (record { number = 1; low = omega arith; high = omega arith; place = length s; missing = 0; some = λ z. omega arith; none = λ z. refl; outcome = e })
+    go (stopped r pl m l h two eight e) = inr (record {
+      number = r;
+      low = omega arith;
+      high = omega arith;
+      place = pl;
+      missing = missingOf r m;
+      some = some-missing s h;
+      none = missing-none r m;
+      outcome = e;
+    })
+    go (full q to pl l h x e) = inr (record { number = 9; low = omega arith; high = omega arith; place = pl; missing = 0; some = λ z. omega arith; none = λ z. refl; outcome = e })
     go (read q to l h f g e) = inl (subst (Accepts buffer trim) (sym e) (accepts s buffer trim q to h f g))
 
 -- ---- when each is given
 
-same-refusal : {buffer trim : List ℕ} {r r' pl pl' : ℕ} → refused buffer trim r pl ≡ refused buffer trim r' pl' → (r ≡ r') × (pl ≡ pl')
-same-refusal h = (ap (λ (o : Outcome). o .answer .refusal) h, ap (λ (o : Outcome). o .answer .place) h)
+same-refusal : {buffer trim : List ℕ} {r r' pl pl' m m' : ℕ} → refused buffer trim r pl m ≡ refused buffer trim r' pl' m' → (r ≡ r') × (pl ≡ pl') × (m ≡ m')
+same-refusal h =
+    (ap (λ (o : Outcome). o .answer .refusal) h, ap (λ (o : Outcome). o .answer .place) h, ap (λ (o : Outcome). o .answer .missing) h)
 
 -- 0: the payload is not too long, its reader meets no refusal, its records fit into the buffer, and its trim table into the trim buffer.
 pub accepted-when : (s buffer trim : List ℕ) → (reading s buffer trim .answer .refusal ≡ 0)
@@ -119,95 +136,102 @@ accepted-is s buffer trim q to z h =
 
 -- 1: the payload is longer than 4,096 bytes. The place is its length in bytes.
 pub too-long-when : (s buffer trim : List ℕ) (place : ℕ)
-    → (reading s buffer trim ≡ refused buffer trim (numberOf TooLong) place) ↔ ((mostBytes < length s) × (place ≡ length s))
+    → (reading s buffer trim ≡ refused buffer trim (numberOf TooLong) place 0) ↔ ((mostBytes < length s) × (place ≡ length s))
 too-long-when s buffer trim place =
-    (go (case s buffer trim), λ h. reading-long s buffer trim (h .0) ∙ ap (refused buffer trim (numberOf TooLong)) (sym (h .1)))
+    (go (case s buffer trim), λ h. reading-long s buffer trim (h .0) ∙ ap (λ (pl : ℕ). refused buffer trim (numberOf TooLong) pl 0) (sym (h .1)))
   where
-    go : Case s buffer trim → reading s buffer trim ≡ refused buffer trim (numberOf TooLong) place → (mostBytes < length s) × (place ≡ length s)
+    go : Case s buffer trim → reading s buffer trim ≡ refused buffer trim (numberOf TooLong) place 0 → (mostBytes < length s) × (place ≡ length s)
     go (long l e) h = (l, sym (same-refusal (sym e ∙ h) .1))
     go (stopped r pl m l x two eight e) h = absurd (omega (arith, refusal-of e, refusal-of h))
     go (full q to pl l x y e) h = absurd (omega (arith, refusal-of e, refusal-of h))
     go (read q to l x f g e) h = absurd (omega (arith, ap (λ (o : Outcome). o .answer .refusal) e, refusal-of h))
 
--- 2 to 8: the payload is not too long, and that is the first refusal that its reader meets, in the order of reading. The place is the reader's.
-pub refused-when : (s buffer trim : List ℕ) (r place : ℕ) → numberOf EndsEarly ≤ r → r ≤ numberOf PastElement
-    → (reading s buffer trim ≡ refused buffer trim r place) ↔ ((length s ≤ mostBytes) × (missing : ℕ) × (parsed s ≡ no r place missing))
-refused-when s buffer trim r place low high = (go (case s buffer trim), λ h. reading-no s buffer trim (h .0) (h .2))
+-- 2 to 8: the payload is not too long, and that is the first refusal that its reader meets, in the order of reading. The place is the reader's, and
+-- so are the missing bits, with 2.
+pub refused-when : (s buffer trim : List ℕ) (r place missing : ℕ) → numberOf EndsEarly ≤ r → r ≤ numberOf PastElement
+    → (reading s buffer trim ≡ refused buffer trim r place missing)
+    ↔ ((length s ≤ mostBytes) × (lacked : ℕ) × (parsed s ≡ no r place lacked) × (missing ≡ missingOf r lacked))
+refused-when s buffer trim r place missing low high =
+    (go (case s buffer trim), λ h. reading-no s buffer trim (h .0) (h .2) ∙ ap (refused buffer trim r place) (sym (h .3)))
   where
-    go : Case s buffer trim → reading s buffer trim ≡ refused buffer trim r place
-        → (length s ≤ mostBytes) × (missing : ℕ) × (parsed s ≡ no r place missing)
+    go : Case s buffer trim → reading s buffer trim ≡ refused buffer trim r place missing
+        → (length s ≤ mostBytes) × (lacked : ℕ) × (parsed s ≡ no r place lacked) × (missing ≡ missingOf r lacked)
     go (long l e) h = absurd (omega (arith, refusal-of e, refusal-of h))
     go (stopped r' pl m l x two eight e) h =
         let same = same-refusal (sym e ∙ h) in
-        (l, m, x ∙ ap₂ (λ (i j : ℕ). no i j m) (same .0) (same .1))
+        (l, m, x ∙ ap₂ (λ (i j : ℕ). no i j m) (same .0) (same .1), sym (same .2) ∙ ap (λ (i : ℕ). missingOf i m) (same .0))
     go (full q to pl l x y e) h = absurd (omega (arith, refusal-of e, refusal-of h))
     go (read q to l x f g e) h = absurd (omega (arith, ap (λ (o : Outcome). o .answer .refusal) e, refusal-of h))
 
 -- It lies within the payload, or at its end.
-pub place-within : (s buffer trim : List ℕ) (r place : ℕ) → numberOf EndsEarly ≤ r → r ≤ numberOf PastElement
-    → reading s buffer trim ≡ refused buffer trim r place
+pub place-within : (s buffer trim : List ℕ) (r place missing : ℕ) → numberOf EndsEarly ≤ r → r ≤ numberOf PastElement
+    → reading s buffer trim ≡ refused buffer trim r place missing
     → place ≤ 8 * length s
-place-within s buffer trim r place low high h =
-    let x = refused-when s buffer trim r place low high .0 h in
+place-within s buffer trim r place missing low high h =
+    let x = refused-when s buffer trim r place missing low high .0 h in
     let end = placed object-audio-metadata-payload (bit s) 0 (8 * length s) pastPayload (x .2) (omega arith) in
     omega arith
 
 -- 3: the version, with its extension, is there and is not 0. The place is 0.
 pub version-when : (s buffer trim : List ℕ) (place : ℕ)
-    → (reading s buffer trim ≡ refused buffer trim (numberOf Version) place) ↔ ((length s ≤ mostBytes) × OtherVersion s × (place ≡ 0))
+    → (reading s buffer trim ≡ refused buffer trim (numberOf Version) place 0) ↔ ((length s ≤ mostBytes) × OtherVersion s × (place ≡ 0))
+unfolding missingOf
 version-when s buffer trim place = (
   (λ h.
-      let x = refused-when s buffer trim 3 place (omega arith) (omega arith) .0 h in
+      let x = refused-when s buffer trim 3 place 0 (omega arith) (omega arith) .0 h in
       let v = version-of s (in-version s (in-header s (x .2) (inl refl))) in
       (x .0, v .0, v .1)),
   (λ h.
       let x = payload-stops s (header-stops s (version-is s (h .1))) in
-      reading-no s buffer trim (h .0) x ∙ ap (refused buffer trim 3) (sym (h .2))),
+      reading-no s buffer trim (h .0) x ∙ ap (λ (pl : ℕ). refused buffer trim 3 pl 0) (sym (h .2))),
 )
 
 -- 4: the object counts disagree. The place is the first bit after the program assignment.
 pub counts-when : (s buffer trim : List ℕ) (place : ℕ)
-    → (reading s buffer trim ≡ refused buffer trim (numberOf Counts) place) ↔ ((length s ≤ mostBytes) × CountsDisagree s place)
+    → (reading s buffer trim ≡ refused buffer trim (numberOf Counts) place 0) ↔ ((length s ≤ mostBytes) × CountsDisagree s place)
+unfolding missingOf
 counts-when s buffer trim place = (
   (λ h.
-      let x = refused-when s buffer trim 4 place (omega arith) (omega arith) .0 h in
+      let x = refused-when s buffer trim 4 place 0 (omega arith) (omega arith) .0 h in
       (x .0, counts-of s (in-header s (x .2) (inr refl)))),
   (λ h. reading-no s buffer trim (h .0) (payload-stops s (counts-is s (h .1)))),
 )
 
 -- 6: a second known element of the same kind. The place is the first bit of its id.
 pub second-when : (s buffer trim : List ℕ) (place : ℕ)
-    → (reading s buffer trim ≡ refused buffer trim (numberOf Second) place) ↔ ((length s ≤ mostBytes) × SecondKnown s place)
+    → (reading s buffer trim ≡ refused buffer trim (numberOf Second) place 0) ↔ ((length s ≤ mostBytes) × SecondKnown s place)
+unfolding missingOf
 second-when s buffer trim place = (
   (λ h.
-      let x = refused-when s buffer trim 6 place (omega arith) (omega arith) .0 h in
+      let x = refused-when s buffer trim 6 place 0 (omega arith) (omega arith) .0 h in
       (x .0, second-of s (x .2))),
   (λ h. reading-no s buffer trim (h .0) (second-is s (h .1))),
 )
 
 -- 7: an extended object element before any object element. The place is the first bit of its id.
 pub early-when : (s buffer trim : List ℕ) (place : ℕ)
-    → (reading s buffer trim ≡ refused buffer trim (numberOf Early) place) ↔ ((length s ≤ mostBytes) × EarlyExtended s place)
+    → (reading s buffer trim ≡ refused buffer trim (numberOf Early) place 0) ↔ ((length s ≤ mostBytes) × EarlyExtended s place)
+unfolding missingOf
 early-when s buffer trim place = (
   (λ h.
-      let x = refused-when s buffer trim 7 place (omega arith) (omega arith) .0 h in
+      let x = refused-when s buffer trim 7 place 0 (omega arith) (omega arith) .0 h in
       (x .0, early-of s (x .2))),
   (λ h. reading-no s buffer trim (h .0) (early-is s (h .1))),
 )
 
 -- 9: with some other buffers the payload is accepted, and one of the two lent is too short: the buffer for the records, or, where that is long enough,
 -- the trim buffer. The place is the bytes that it would need.
-pub room-when : (s buffer trim : List ℕ) (place : ℕ) → (reading s buffer trim ≡ refused buffer trim (numberOf Room) place) ↔ Lacks s buffer trim place
+pub room-when : (s buffer trim : List ℕ) (place : ℕ) → (reading s buffer trim ≡ refused buffer trim (numberOf Room) place 0) ↔ Lacks s buffer trim place
 room-when s buffer trim place = (go (case s buffer trim), back)
   where
-    back : Lacks s buffer trim place → reading s buffer trim ≡ refused buffer trim (numberOf Room) place
+    back : Lacks s buffer trim place → reading s buffer trim ≡ refused buffer trim (numberOf Room) place 0
     back h =
         let r = read-of s (h .other) (h .other-trim) (h .accepted) in
         let t = tablesOf (r .payload) in
         let short = subst₂ (λ (m n : ℕ). Short buffer trim m n place) (ap bytesNeeded (r .is)) (ap trimBytesNeeded (r .is)) (h .short) in
         reading-ok s buffer trim (r .short) (r .ran) ∙ housed-lacks buffer trim t (r .payload .unknown) place short
 
-    go : Case s buffer trim → reading s buffer trim ≡ refused buffer trim (numberOf Room) place → Lacks s buffer trim place
+    go : Case s buffer trim → reading s buffer trim ≡ refused buffer trim (numberOf Room) place 0 → Lacks s buffer trim place
     go (long l e) h = absurd (omega (arith, refusal-of e, refusal-of h))
     go (stopped r pl m l x two eight e) h = absurd (omega (arith, refusal-of e, refusal-of h))
     go (read q to l x f g e) h = absurd (omega (arith, ap (λ (o : Outcome). o .answer .refusal) e, refusal-of h))

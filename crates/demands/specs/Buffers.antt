@@ -13,16 +13,17 @@ use Rattle.oamd.specs.Record.{bytesOf, onto}
 use Rattle.oamd.specs.Trim.{trimBytesOf}
 use Rattle.oamd.specs.Lengths.{length-trim}
 use Rattle.oamd.specs.Payload.{Payload, tables}
-use Rattle.oamd.specs.Answer.{Outcome, refused, acceptedWith, needed, reading}
+use Rattle.oamd.specs.Answer.{Outcome, missingOf, refused, acceptedWith, needed, reading}
 use Rattle.demands.specs.Terms.{parsed, tablesOf}
 use Rattle.demands.specs.Conditions.{Short, records-short, trim-short}
 use Rattle.demands.specs.Lemmas.Reading.{Case, long, stopped, full, read, case, reading-ok, reading-no, reading-long, trimRoom, housed-fits, housed-lacks}
 use Rattle.demands.specs.Lemmas.Records.{length-needed, trim-sized}
 
--- Two reads, into a buffer and a trim buffer each: both are refused with the same number and place, and all buffers are as they came; or both have the same
+-- Two reads, into a buffer and a trim buffer each: both are refused with the same number, place and missing bits, and all buffers are as they came; or both have the same
 -- answer, the same record bytes on the fronts of the buffers, the same bytes of a trim table on those of the trim buffers, and the others as they came.
 pub data Alike (buffer trim buffer' trim' : List ℕ) (o o' : Outcome) : Type 0 where
-  both-refused : (number place : ℕ) → o ≡ refused buffer trim number place → o' ≡ refused buffer' trim' number place → Alike buffer trim buffer' trim' o o'
+  both-refused : (number place missing : ℕ) → o ≡ refused buffer trim number place missing → o' ≡ refused buffer' trim' number place missing
+      → Alike buffer trim buffer' trim' o o'
   both-accepted : (answer : ReadAnswer) (records table : List ℕ)
       → o ≡ record { answer = answer; buffer = onto records buffer; trim = onto table trim }
       → o' ≡ record { answer = answer; buffer = onto records buffer'; trim = onto table trim' } → Alike buffer trim buffer' trim' o o'
@@ -37,10 +38,10 @@ module _ (s buffer trim buffer' trim' : List ℕ) (long-as : length buffer' ≡ 
   by-lengths = go (case s buffer trim)
     where
       go : Case s buffer trim → Alike buffer trim buffer' trim' (reading s buffer trim) (reading s buffer' trim')
-      go (long l e) = both-refused (numberOf TooLong) (length s) e (reading-long s buffer' trim' l)
-      go (stopped r pl m l h two eight e) = both-refused r pl e (reading-no s buffer' trim' l h)
+      go (long l e) = both-refused (numberOf TooLong) (length s) 0 e (reading-long s buffer' trim' l)
+      go (stopped r pl m l h two eight e) = both-refused r pl (missingOf r m) e (reading-no s buffer' trim' l h)
       go (full q to pl l h x e) =
-          both-refused (numberOf Room) pl e
+          both-refused (numberOf Room) pl 0 e
           (reading-ok s buffer' trim' l h ∙ housed-lacks buffer' trim' (tablesOf q) (q .unknown) pl (as-short _ _ pl x))
       go (read q to l h f g e) =
           both-accepted (acceptedWith (tablesOf q .programme) (tablesOf q .timing) (q .unknown)) (bytesOf (tablesOf q .records)) (trimBytesOf (tablesOf q .trim)) e
@@ -51,7 +52,7 @@ module _ (s buffer trim buffer' trim' : List ℕ) (long-as : length buffer' ≡ 
   same-answer = go by-lengths
     where
       go : Alike buffer trim buffer' trim' (reading s buffer trim) (reading s buffer' trim') → reading s buffer' trim' .answer ≡ reading s buffer trim .answer
-      go (both-refused number place e e') = ap (λ (o : Outcome). o .answer) e' ∙ sym (ap (λ (o : Outcome). o .answer) e)
+      go (both-refused number place missing e e') = ap (λ (o : Outcome). o .answer) e' ∙ sym (ap (λ (o : Outcome). o .answer) e)
       go (both-accepted answer records table e e') = ap (λ (o : Outcome). o .answer) e' ∙ sym (ap (λ (o : Outcome). o .answer) e)
 
 -- ---- the same buffers once more

@@ -1,5 +1,5 @@
 -- Demand 3, cut payloads: less data never turns one set of tables into another.
-use mathlib.Core.Path.{_≡_, sym, _∙_}
+use mathlib.Core.Path.{_≡_, refl, sym, _∙_}
 use mathlib.Core.List.{List}
 use mathlib.Core.Logic.{_⊎_, inl, inr}
 use Prim.Native.Nat.{ℕ, _*_, _≤_}
@@ -12,12 +12,14 @@ use Rattle.bits.specs.Steps.{by-order}
 use Rattle.bits.specs.Laws.{still, cut}
 use Rattle.oamd.specs.Payload.{object-audio-metadata-payload}
 use Rattle.oamd.specs.Answer.{refused, reading}
+use Rattle.demands.specs.Lemmas.Narrow.{some-missing}
 use Rattle.demands.specs.Lemmas.Reading.{reading-ok, reading-no, read-of, bit-take}
 
--- Cut off behind any byte, an accepted payload has the same answer and the same buffers, or is refused as ending early: nothing else.
+-- Cut off behind any byte, an accepted payload has the same answer and the same buffers, or is refused as ending early, with one missing bit or more:
+-- nothing else.
 pub cut-short : (s buffer trim : List ℕ) (n : ℕ) → reading s buffer trim .answer .refusal ≡ 0
     → (reading (take n s) buffer trim ≡ reading s buffer trim)
-    ⊎ ((place : ℕ) × (reading (take n s) buffer trim ≡ refused buffer trim (numberOf EndsEarly) place))
+    ⊎ ((place missing : ℕ) × (1 ≤ missing) × (reading (take n s) buffer trim ≡ refused buffer trim (numberOf EndsEarly) place missing))
 cut-short s buffer trim n accepted =
     let r = read-of s buffer trim accepted in
     let p = object-audio-metadata-payload in
@@ -31,4 +33,4 @@ cut-short s buffer trim n accepted =
     (λ i below. bit-take n s i (omega arith)) in-it) ∙ sym (reading-ok s buffer trim short (r .ran))))
     (λ past.
     let c = cut p (bit s) 0 (8 * length s) pastPayload (r .ran) end (bit (take n s)) (8 * length (take n s)) pastPayload (bit-take n s) (omega arith) past in
-    inr (c .0, reading-no (take n s) buffer trim (omega arith) (c .2)))
+    inr (c .0, _, some-missing (take n s) (c .2) refl, reading-no (take n s) buffer trim (omega arith) (c .2)))

@@ -42,8 +42,9 @@ pub data Change (s s' : List ℕ) : Type 0 where
 -- is too long; and both buffers are then as they came.
 pub data After (s s' buffer trim : List ℕ) : Type 0 where
   same : SameTables (reading s' buffer trim) (reading s buffer trim) → After s s' buffer trim
-  ends-early : (n place : ℕ) → s' ≡ take n s → reading s' buffer trim ≡ refused buffer trim (numberOf EndsEarly) place → After s s' buffer trim
-  too-long : mostBytes < length s' → reading s' buffer trim ≡ refused buffer trim (numberOf TooLong) (length s') → After s s' buffer trim
+  ends-early : (n place missing : ℕ) → s' ≡ take n s → 1 ≤ missing → reading s' buffer trim ≡ refused buffer trim (numberOf EndsEarly) place missing
+      → After s s' buffer trim
+  too-long : mostBytes < length s' → reading s' buffer trim ≡ refused buffer trim (numberOf TooLong) (length s') 0 → After s s' buffer trim
 
 -- up to the length limit, or beyond it
 up-to-limit : (s s' buffer trim : List ℕ) → (length s' ≤ mostBytes → SameTables (reading s' buffer trim) (reading s buffer trim)) → After s s' buffer trim
@@ -66,9 +67,10 @@ demand-3 s s' buffer trim accepted change = go change
 
     by-cut : (n : ℕ) → s' ≡ take n s
         → (reading (take n s) buffer trim ≡ reading s buffer trim)
-        ⊎ ((place : ℕ) × (reading (take n s) buffer trim ≡ refused buffer trim (numberOf EndsEarly) place)) → After s s' buffer trim
+        ⊎ ((place missing : ℕ) × (1 ≤ missing) × (reading (take n s) buffer trim ≡ refused buffer trim (numberOf EndsEarly) place missing))
+        → After s s' buffer trim
     by-cut n e (inl x) = same (ap tablesIn (is e ∙ x))
-    by-cut n e (inr x) = ends-early n (x .0) e (is e ∙ x .1)
+    by-cut n e (inr x) = ends-early n (x .0) (x .1) e (x .2) (is e ∙ x .3)
 
     go : Change s s' → After s s' buffer trim
     go (append t e) = up-to-limit s s' buffer trim λ short.
@@ -86,7 +88,7 @@ never-another s s' buffer trim accepted change accepted' = go (demand-3 s s' buf
   where
     go : After s s' buffer trim → SameTables (reading s' buffer trim) (reading s buffer trim)
     go (same x) = x
-    go (ends-early n place e x) = absurd (omega (arith, refusal-of x))
+    go (ends-early n place missing e least x) = absurd (omega (arith, refusal-of x))
     go (too-long l x) = absurd (omega (arith, refusal-of x))
 
 -- Any number of changes, one behind the other, what comes of each accepted

@@ -1,5 +1,6 @@
 pub mod Numbers
 pub mod Reading
+pub mod Missing
 pub mod Frame
 pub mod Elements
 pub mod Records
@@ -7,6 +8,7 @@ pub mod Order
 pub mod Skeletons
 pub mod Assembled
 pub mod Limits
+pub mod Narrow
 pub mod Plain
 pub mod Passing
 pub mod Codes

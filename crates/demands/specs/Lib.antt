@@ -14,3 +14,4 @@ pub mod Buffers
 pub mod Answers
 pub mod Numbers
 pub mod ExactlyWhen
+pub mod Missing

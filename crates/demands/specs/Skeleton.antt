@@ -81,6 +81,7 @@ tablesIn o = record {
     unknown = 0;
     programme = o .answer .programme;
     timing = o .answer .timing;
+    missing = o .answer .missing;
   };
   buffer = o .buffer;
   trim = o .trim;

@@ -4,7 +4,7 @@ use mathlib.Core.Bool.{Bool, true}
 use mathlib.Core.List.{List, [], _∷_, _++_}
 use mathlib.Core.Logic.{_⊎_}
 use mathlib.Core.Option.{Option, none, some}
-use Prim.Native.Nat.{ℕ, _+_, _*_, _≤_, _<_}
+use Prim.Native.Nat.{ℕ, _+_, _-_, _*_, _≤_, _<_}
 use lib.Dec.{eqb}
 use lib.ListN.{length}
 use Rattle.bits.specs.declared.Size.{Size}
@@ -48,6 +48,11 @@ declaredEnd x = x .behind + declaredLength (x .size)
 pub data PassesPayload (s : List ℕ) (place : ℕ) : Type 1 where
   by-field : {A : Type 0} (w : ℕ) (f : List ℕ → A) → ComesTo s (field w f) place → 8 * length s < place + w → PassesPayload s place
   by-size : (id : ℕ) (x : Sized s id) → place ≡ id + 4 → 8 * length s < declaredEnd x → PassesPayload s place
+
+-- by so many bits: those that are missing for the field, or for the declared size
+abbrev pub missingFor : {s : List ℕ} {place : ℕ} → PassesPayload s place → ℕ
+missingFor {s} {place} (by-field w f c l) = place + w - 8 * length s
+missingFor {s} (by-size id x e l) = declaredEnd x - 8 * length s
 
 -- 8: an element is known, and in it, held to its declared end, a field passes that end. The place is the field's first bit
 pub record PassesElement (s : List ℕ) (place : ℕ) : Type 1 where

@@ -15,6 +15,9 @@ refusalKey = ascii "refusal="
 abbrev pub placeKey : List ℕ
 placeKey = ascii "place="
 
+abbrev pub missingKey : List ℕ
+missingKey = ascii "missing="
+
 abbrev pub objectsKey : List ℕ
 objectsKey = ascii "objects="
 

@@ -3,6 +3,8 @@ pub const REFUSAL: [u8; 8] = *b"refusal=";
 
 pub const PLACE: [u8; 6] = *b"place=";
 
+pub const MISSING: [u8; 8] = *b"missing=";
+
 pub const OBJECTS: [u8; 8] = *b"objects=";
 
 pub const BED: [u8; 4] = *b"bed=";

@@ -20,16 +20,18 @@ use Rattle.oamd.specs.Record.{plainRecords, extendedRecords, recordBytes
 use Rattle.oamd.specs.Trim.{trim-config, trim-element, trimOf, configsBytesOf, trimBytesOf, trimNeeded}
 use Rattle.oamd.specs.Element.{kind, framed, scenes, fields, passOver, readKnown, oa-element, oa-element-md, elements}
 use Rattle.oamd.specs.Payload.{oa-md-version, object-count, oa-element-count, header, object-audio-metadata-payload, timing, records, tables}
-use Rattle.oamd.specs.Answer.{housed, reading}
+use Rattle.oamd.specs.Answer.{missingOf, refusedWith, housed, reading}
 
 -- a size by its groups, each a hex digit and a flag; a gain by its bits, in dB plus 50; a start by sample offset and factor; a payload by its bytes,
--- with the numbers that its listing prints; a payload of one object by its bytes, with its trim table; a payload by its bytes, with the numbers that its
--- listing prints, the starts and ramps of its blocks, and the bytes of its records
+-- with the numbers that its listing prints; a payload that is refused by its bytes, with the refusal, its place and the missing bits; a payload of one
+-- object by its bytes, with its trim table; a payload by its bytes, with the numbers that its listing prints, the starts and ramps of its blocks, and the
+-- bytes of its records
 pub data Example : Type 0 where
   size : List ℕ → ℕ → Example
   gain : ℕ → ℕ → Example
   start : ℕ → ℕ → ℕ → Example
   payload : List ℕ → List ℕ → Example
+  stopped : List ℕ → ℕ → ℕ → ℕ → Example
   trim : List ℕ → List ℕ → Example
   scene : List ℕ → List ℕ → List ℕ → List ℕ → Example
 
@@ -57,6 +59,7 @@ Holds (size gs n) = run variable-bits-max (listed (groups gs)) 0 (length (groups
 Holds (gain bits db) = gainOf (record { index = 2; bits = bits }) 0 ≡ db
 Holds (start offset factor sample) = startOf offset factor ≡ sample
 Holds (payload s numbers) = printed (reading s [] room .answer) ≡ numbers
+Holds (stopped s number place missing) = reading s [] room .answer ≡ refusedWith number place missing
 Holds (trim s table) = reading s [] room .trim ≡ table ++ replicate (mostTrim - trimNeeded 1) 0
 Holds (scene s numbers times bytes) =
     let o = reading s (replicate (length bytes) 0) room in
@@ -148,7 +151,12 @@ examples =
     ∷ start 0 48 1536
     ∷ start 31 63 2047
     ∷ payload (0x01 ∷ 0x07 ∷ 0xC1 ∷ 0x00 ∷ []) (0 ∷ 0 ∷ 1 ∷ 0 ∷ 0 ∷ 1 ∷ 0 ∷ 1 ∷ [])
-    ∷ payload (0x01 ∷ 0x07 ∷ 0xC1 ∷ []) (2 ∷ 18 ∷ 0 ∷ 0 ∷ 0 ∷ 0 ∷ 0 ∷ 0 ∷ [])
+    ∷ stopped [] 2 0 2
+    ∷ stopped (0x01 ∷ []) 2 8 1
+    ∷ stopped (0x01 ∷ 0x07 ∷ []) 2 14 2
+    ∷ stopped (0x01 ∷ 0x07 ∷ 0xC1 ∷ []) 2 18 7
+    ∷ stopped (0x01 ∷ 0x3C ∷ 0x01 ∷ 0xFF ∷ 0xFF ∷ 0xFF ∷ []) 2 23 8947840
+    ∷ stopped (0x01 ∷ 0x04 ∷ 0x40 ∷ 0x00 ∷ []) 8 29 0
     ∷ trim oneFlag (1 ∷ 1 ∷ 0 ∷ replicate 90 0 ++ (1 ∷ 1 ∷ []))
     ∷ trim nineConfigs
     (1 ∷ 0 ∷ 2 ∷ configured ++ (0 ∷ 0 ∷ []))
@@ -156,5 +164,5 @@ examples =
     ∷ []
 
 pub worked : All examples
-unfolding sizeFrom slice number run bit each from groups gainOf startOf bed-assignment bed-instances intermediate-spatial-format num-dynamic-objects reserved-data program-assignment labels bedObjects allBeds named agrees shares classOf plainRecords extendedRecords recordBytesOf bytesOf onto kind framed scenes fields passOver readKnown oa-element oa-element-md elements oa-md-version object-count oa-element-count header object-audio-metadata-payload timing records tables trim-config trim-element trimOf configsBytesOf trimBytesOf housed reading sample-offset block-update-info md-update-info offsetOf rampOf timingOf status-idx object-basic-info differences coordinates position distance zone extent screen object-render-info additional-table-data object-info-block object-data object-element obj-div-block ext-prec-pos-block extended-object-element priorityOf distanceOf locationOf volumeOf resolve scenesFrom scenesOf allScenes
-worked = (refl, (refl, (refl, (refl, (refl, (refl, (refl, (refl, (refl, (refl, (refl, (refl, (refl, (refl, (refl, (refl, ((refl, refl, refl), tt)))))))))))))))))
+unfolding sizeFrom slice number run bit each from groups gainOf startOf bed-assignment bed-instances intermediate-spatial-format num-dynamic-objects reserved-data program-assignment labels bedObjects allBeds named agrees shares classOf plainRecords extendedRecords recordBytesOf bytesOf onto kind framed scenes fields passOver readKnown oa-element oa-element-md elements oa-md-version object-count oa-element-count header object-audio-metadata-payload timing records tables trim-config trim-element trimOf configsBytesOf trimBytesOf missingOf housed reading sample-offset block-update-info md-update-info offsetOf rampOf timingOf status-idx object-basic-info differences coordinates position distance zone extent screen object-render-info additional-table-data object-info-block object-data object-element obj-div-block ext-prec-pos-block extended-object-element priorityOf distanceOf locationOf volumeOf resolve scenesFrom scenesOf allScenes
+worked = (refl, (refl, (refl, (refl, (refl, (refl, (refl, (refl, (refl, (refl, (refl, (refl, (refl, (refl, (refl, (refl, (refl, (refl, (refl, (refl, (refl, ((refl, refl, refl), tt))))))))))))))))))))))

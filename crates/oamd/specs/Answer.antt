@@ -1,9 +1,9 @@
 -- What a read answers, and what the lent buffers hold afterwards, for all bytes and all buffers.
 use mathlib.Core.List.{List}
 use Prim.Native.Nat.{ℕ, _*_}
-use lib.Dec.{leb}
+use lib.Dec.{eqb, leb}
 use lib.ListN.{length, replicate}
-use Rattle.bits.specs.declared.Refusal.the-variants.{TooLong, Room}
+use Rattle.bits.specs.declared.Refusal.the-variants.{TooLong, EndsEarly, Room}
 use Rattle.bits.specs.Refusals.{numberOf}
 use Rattle.bits.specs.Language.{Res, ok, no, pick, pastPayload, run, bit}
 use Rattle.oamd.specs.declared.Programme.{Programme}
@@ -36,16 +36,21 @@ noProgramme = record {
   beds = replicate mostBeds noBed;
 }
 
--- a refusal, at its place: all else is 0
-abbrev pub refusedWith : ℕ → ℕ → ReadAnswer
-refusedWith number place = record { place = place; refusal = number; unknown = 0; programme = noProgramme; timing = noTiming }
+-- the bits that are answered as missing: as many as were, up to the most that 32 bits hold; with any refusal but that of ending early, none
+unfoldable pub missingOf : ℕ → ℕ → ℕ
+missingOf number missing = pick (eqb number (numberOf EndsEarly)) (pick (leb missing 4294967295) missing 4294967295) 0
+
+-- a refusal, at its place, with the bits that were missing there: all else is 0
+abbrev pub refusedWith : ℕ → ℕ → ℕ → ReadAnswer
+refusedWith number place missing =
+    record { place = place; refusal = number; unknown = 0; programme = noProgramme; timing = noTiming; missing = missing }
 
 abbrev pub acceptedWith : Programme → Timing → ℕ → ReadAnswer
-acceptedWith programme timing unknown = record { place = 0; refusal = 0; unknown = unknown; programme = programme; timing = timing }
+acceptedWith programme timing unknown = record { place = 0; refusal = 0; unknown = unknown; programme = programme; timing = timing; missing = 0 }
 
 -- refused, both buffers are as they came
-abbrev pub refused : List ℕ → List ℕ → ℕ → ℕ → Outcome
-refused buffer trim number place = record { answer = refusedWith number place; buffer = buffer; trim = trim }
+abbrev pub refused : List ℕ → List ℕ → ℕ → ℕ → ℕ → Outcome
+refused buffer trim number place missing = record { answer = refusedWith number place missing; buffer = buffer; trim = trim }
 
 -- accepted, the records and the trim table are the first bytes of their buffers, and the others stay
 abbrev pub accepted : List ℕ → List ℕ → Tables → ℕ → Outcome
@@ -64,16 +69,16 @@ unfoldable pub housed : List ℕ → List ℕ → Tables → ℕ → Outcome
 housed buffer trim t unknown =
     pick (leb (needed t) (length buffer))
     (pick (leb (trimNeeded (t .programme .objects)) (length trim)) (accepted buffer trim t unknown)
-    (refused buffer trim (numberOf Room) (trimNeeded (t .programme .objects))))
-    (refused buffer trim (numberOf Room) (needed t))
+    (refused buffer trim (numberOf Room) (trimNeeded (t .programme .objects)) 0))
+    (refused buffer trim (numberOf Room) (needed t) 0)
 
 abbrev pub answered : List ℕ → List ℕ → Res Payload → Outcome
 answered buffer trim (ok q to) = housed buffer trim (tables (q .programme) (q .known)) (q .unknown)
-answered buffer trim (no number place missing) = refused buffer trim number place
+answered buffer trim (no number place missing) = refused buffer trim number place (missingOf number missing)
 
 -- the length is looked at first of all
 unfoldable pub reading : List ℕ → List ℕ → List ℕ → Outcome
 reading s buffer trim =
     pick (leb (length s) mostBytes)
     (answered buffer trim (run object-audio-metadata-payload (bit s) 0 (8 * length s) pastPayload))
-    (refused buffer trim (numberOf TooLong) (length s))
+    (refused buffer trim (numberOf TooLong) (length s) 0)

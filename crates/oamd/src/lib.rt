@@ -225,7 +225,7 @@ pub enum Kind {
     Extended,
 }
 
-// What a read answers, beside the records. On a refusal all but refusal and place is 0.
+// What a read answers, beside the records. On a refusal all but refusal and place is 0, and but the missing bits, where the payload ends early.
 #[repr(C)]
 pub struct ReadAnswer {
     pub place: u64,
@@ -233,6 +233,7 @@ pub struct ReadAnswer {
     pub unknown: u8,
     pub programme: Programme,
     pub timing: Timing,
+    pub missing: u32,
 }
 
 // What a write answers, beside the payload: on a refusal the length is 0.

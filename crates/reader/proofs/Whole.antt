@@ -25,7 +25,7 @@ use Rattle.oamd.specs.Trim.{trimOf, trimBytesOf, trimNeeded}
 use Rattle.oamd.specs.Lengths.{length-bytes}
 use Rattle.oamd.specs.Element.{scenes}
 use Rattle.oamd.specs.Payload.{oa-md-version, object-count, oa-element-count, header, object-audio-metadata-payload, timing, records, tables}
-use Rattle.oamd.specs.Answer.{refused, acceptedWith, housed, reading}
+use Rattle.oamd.specs.Answer.{missingOf, refused, acceptedWith, housed, reading}
 use Rattle.reader.specs.declared.HeaderStep.{HeaderStep}
 use Rattle.reader.specs.declared.PayloadStep.{PayloadStep}
 use Rattle.reader.specs.declared.StateStep.{StateStep}
@@ -93,23 +93,23 @@ module _ {s out out' table' : List ℕ} {r : PayloadStep} (x : PayloadRead s out
     fits = omega (arith, all-bytes, ap length (x .holding z .stand) ∙ length-append (bytesOf rs) _)
 
 module _ (s buffer trim : List ℕ) where
-  pub too-long : mostBytes < length s → refused buffer trim (numberOf TooLong) (length s) ≡ reading s buffer trim
+  pub too-long : mostBytes < length s → refused buffer trim (numberOf TooLong) (length s) 0 ≡ reading s buffer trim
   unfolding reading
   too-long h = simp (lt-leb _ _ h)
 
   module _ {out out' table' : List ℕ} {r : PayloadStep} (h : length s ≤ mostBytes) (x : PayloadRead s out r out' table') where
-    pub stopped : (r .cur .no ≡ 0 → ⊥) → refused buffer trim (r .cur .no) (r .cur .at .0) ≡ reading s buffer trim
+    pub stopped : (r .cur .no ≡ 0 → ⊥) → refused buffer trim (r .cur .no) (r .cur .at .0) (missingOf (r .cur .no) (r .cur .missing)) ≡ reading s buffer trim
     unfolding reading
     stopped z = rw (le-leb (length s) mostBytes h, ← x .reads .same, ne-eqb (r .cur .no) 0 z)
 
     module _ (z : r .cur .no ≡ 0) where
-      pub no-room : length buffer < needOf r → refused buffer trim (numberOf Room) (needOf r) ≡ reading s buffer trim
+      pub no-room : length buffer < needOf r → refused buffer trim (numberOf Room) (needOf r) 0 ≡ reading s buffer trim
       unfolding reading housed tables
       no-room f = rw (le-leb (length s) mostBytes h, ← x .reads .same, z, ← x .holding z .timed, lt-leb _ _ f)
 
       module _ (f : needOf r ≤ length buffer) where
         pub no-trim-room : length trim < trimNeeded (r .programme .objects)
-            → refused buffer trim (numberOf Room) (trimNeeded (r .programme .objects)) ≡ reading s buffer trim
+            → refused buffer trim (numberOf Room) (trimNeeded (r .programme .objects)) 0 ≡ reading s buffer trim
         unfolding reading housed tables
         no-trim-room g = rw (le-leb (length s) mostBytes h, ← x .reads .same, z, ← x .holding z .timed, le-leb _ _ f, lt-leb _ _ g)
 

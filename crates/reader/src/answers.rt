@@ -2,15 +2,28 @@
 ghost use mathlib.Core.Path.{_≡_};
 ghost use Rattle.bits.specs.declared.Refusal.the-variants.{Room};
 ghost use Rattle.bits.specs.Refusals.{numberOf};
-ghost use Rattle.oamd.specs.Answer.{refusedWith, acceptedWith};
+ghost use Rattle.oamd.specs.Answer.{missingOf, refusedWith, acceptedWith};
 use oamd::Bed;
 use oamd::Programme;
 use oamd::ReadAnswer;
 use oamd::Timing;
 
-// A refusal, at its place: all else is 0.
-pub fn refused(refusal: u8, place: u64) -> ReadAnswer
-    ensures { λ r. ⌜ r ≡ refusedWith refusal place ⌝ }
+// The bits that are answered as missing: those of a payload that ends early, as far as 32 bits hold their number.
+pub fn missing_bits(refusal: u8, missing: u64) -> u32
+    ensures { λ r. ⌜ r ≡ missingOf refusal missing ⌝ }
+{
+    if refusal != 2 {
+        return 0;
+    }
+    if 4294967295 < missing {
+        return 4294967295;
+    }
+    missing as u32
+}
+
+// A refusal, at its place, with the bits that were missing there: all else is 0.
+pub fn refused(refusal: u8, place: u64, missing: u32) -> ReadAnswer
+    ensures { λ r. ⌜ r ≡ refusedWith refusal place missing ⌝ }
 {
     let bed = Bed {
         assignment: 0,
@@ -37,16 +50,17 @@ pub fn refused(refusal: u8, place: u64) -> ReadAnswer
         unknown: 0,
         programme,
         timing,
+        missing,
     }
 }
 
 // Refusal 9, with the bytes that are needed: both lent buffers stay as they came.
 pub fn no_room(needed: usize, records: &mut [u8], trim: &mut [u8]) -> ReadAnswer
-    ensures { λ r. ⌜ r ≡ refusedWith (numberOf Room) needed ⌝ }
+    ensures { λ r. ⌜ r ≡ refusedWith (numberOf Room) needed 0 ⌝ }
     ensures { λ r. ⌜ now (records .exit) ≡ now (records .entry) ⌝ }
     ensures { λ r. ⌜ now (trim .exit) ≡ now (trim .entry) ⌝ }
 {
-    refused(9, needed as u64)
+    refused(9, needed as u64, 0)
 }
 
 pub fn accepted(programme: Programme, timing: Timing, unknown: u8) -> ReadAnswer
@@ -58,5 +72,6 @@ pub fn accepted(programme: Programme, timing: Timing, unknown: u8) -> ReadAnswer
         unknown,
         programme,
         timing,
+        missing: 0,
     }
 }

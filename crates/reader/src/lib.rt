@@ -72,14 +72,15 @@ pub fn read(payload: &[u8], records: &mut [u8], trim: &mut [u8]) -> ReadAnswer
 {
     let len = payload.len();
     if 4096 < len {
-        return answers::refused(1, len as u64);
+        return answers::refused(1, len as u64, 0);
     }
     let mut scratch = layout::no_records();
     let mut table = trim::no_trim();
     let step = payload::read_payload(payload, &mut scratch, &mut table);
     let cur = step.cur;
     if cur.no != 0 {
-        return answers::refused(cur.no, cur.at.raw() as u64);
+        let missing = answers::missing_bits(cur.no, cur.missing);
+        return answers::refused(cur.no, cur.at.raw() as u64, missing);
     }
     let programme = step.programme;
     let state = step.state;

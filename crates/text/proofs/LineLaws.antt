@@ -72,9 +72,13 @@ shares-laid p of e f g h i =
     (ap (λ (x : Shares). numberLine objectsKey (p .objects) ++ (numberLine bedKey (x .bed) ++ (numberLine isfKey (x .isf) ++ numberLine dynamicKey (x .dynamic)))) e)
     (laid-bind f (laid-bind g (laid-bind h i)))
 
--- what is laid of an accepted payload alone
-pub accepted-laid : {s t : List ℕ} {at r : ℕ} (n : ℕ) (l : List ℕ) → n ≡ 0 → Laid s t at r l → Laid s t at r (only (eqb n 0) l)
-accepted-laid n l e h = laid-is (rw e) h
+-- what is laid behind the place: the tables of a payload that is accepted, the missing bits of one that ends early, and of others nothing
+pub accepted-laid : {s t : List ℕ} {at r : ℕ} (n : ℕ) (m l : List ℕ) → n ≡ 0 → Laid s t at r l → Laid s t at r (only (eqb n 2) m ++ only (eqb n 0) l)
+accepted-laid n m l e h = laid-is (rw e) h
 
-pub refused-laid : {s t : List ℕ} {at r : ℕ} (n : ℕ) (l m : List ℕ) → (n ≡ 0 → ⊥) → Laid s t at r m → Laid s t at r (m ++ only (eqb n 0) l)
-refused-laid n l m e h = laid-is (rw (ne-eqb n 0 e) (sym (append-nil m))) h
+pub early-laid : {s t : List ℕ} {at r : ℕ} (n : ℕ) (m l : List ℕ) → n ≡ 2 → Laid s t at r m → Laid s t at r (only (eqb n 2) m ++ only (eqb n 0) l)
+early-laid n m l e h = laid-is (rw e (sym (append-nil m))) h
+
+pub refused-laid : {s t : List ℕ} {at r : ℕ} (n : ℕ) (m l k : List ℕ) → (n ≡ 0 → ⊥) → (n ≡ 2 → ⊥) → Laid s t at r k
+    → Laid s t at r (k ++ (only (eqb n 2) m ++ only (eqb n 0) l))
+refused-laid n m l k e f h = laid-is (rw (ne-eqb n 0 e, ne-eqb n 2 f) (sym (append-nil k))) h

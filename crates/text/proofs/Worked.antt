@@ -4,7 +4,7 @@ use mathlib.Core.List.{List, [], _∷_, _++_}
 use Prim.Native.Nat.{ℕ}
 use Rattle.bits.specs.Language.{slice, run, number, each, from, bit}
 use Rattle.bits.specs.Size.{sizeFrom}
-use Rattle.oamd.specs.Answer.{housed, reading}
+use Rattle.oamd.specs.Answer.{missingOf, housed, reading}
 use Rattle.oamd.specs.Block.{status-idx, object-basic-info, differences, coordinates, position, distance, zone, extent, screen, object-render-info, additional-table-data, object-info-block}
 use Rattle.oamd.specs.Element.{kind, framed, scenes, fields, passOver, readKnown, oa-element, oa-element-md, elements}
 use Rattle.oamd.specs.Meaning.{gainOf, priorityOf, distanceOf, placeOf, volumeOf, resolve, scenesFrom, scenesOf, allScenes}
@@ -38,6 +38,6 @@ printed =
 abbrev pub cut : List ℕ
 cut = 0x01 ∷ 0x07 ∷ 0xC1 ∷ []
 
-pub worked : (listing sample ≡ printed) × (listing cut ≡ ascii "refusal=2\nplace=18\n")
-unfolding slice run number each from bit sizeFrom housed reading status-idx object-basic-info differences coordinates position distance zone extent screen object-render-info additional-table-data object-info-block kind framed scenes fields passOver readKnown oa-element oa-element-md elements gainOf priorityOf distanceOf placeOf volumeOf resolve scenesFrom scenesOf allScenes object-data object-element oa-md-version object-count oa-element-count header object-audio-metadata-payload timing records tables bed-assignment bed-instances intermediate-spatial-format num-dynamic-objects reserved-data program-assignment labels bedObjects allBeds named agrees shares classOf plainRecords recordBytesOf bytesOf onto sample-offset block-update-info md-update-info offsetOf rampOf startOf timingOf trimOf configsBytesOf trimBytesOf decimal texts line blockLines recordLines shareLines tableLines listingOf zeros listing
+pub worked : (listing sample ≡ printed) × (listing cut ≡ ascii "refusal=2\nplace=18\nmissing=7\n")
+unfolding slice run number each from bit sizeFrom missingOf housed reading status-idx object-basic-info differences coordinates position distance zone extent screen object-render-info additional-table-data object-info-block kind framed scenes fields passOver readKnown oa-element oa-element-md elements gainOf priorityOf distanceOf placeOf volumeOf resolve scenesFrom scenesOf allScenes object-data object-element oa-md-version object-count oa-element-count header object-audio-metadata-payload timing records tables bed-assignment bed-instances intermediate-spatial-format num-dynamic-objects reserved-data program-assignment labels bedObjects allBeds named agrees shares classOf plainRecords recordBytesOf bytesOf onto sample-offset block-update-info md-update-info offsetOf rampOf startOf timingOf trimOf configsBytesOf trimBytesOf decimal texts line blockLines recordLines shareLines tableLines listingOf zeros listing
 worked = (refl, refl)

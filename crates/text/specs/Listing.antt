@@ -3,6 +3,8 @@ use mathlib.Core.List.{List, [], _∷_, _++_}
 use Prim.Native.Nat.{ℕ, _+_, _*_}
 use lib.Dec.{eqb}
 use lib.ListN.{getD, take, drop, replicate}
+use Rattle.bits.specs.declared.Refusal.the-variants.{EndsEarly}
+use Rattle.bits.specs.Refusals.{numberOf}
 use Rattle.bits.specs.Writes.{only}
 use Rattle.oamd.specs.declared.Programme.{Programme}
 use Rattle.oamd.specs.declared.ReadAnswer.{ReadAnswer}
@@ -12,7 +14,7 @@ use Rattle.oamd.specs.Tables.{recordBytes, recordStride, roomBytes, mostTrim}
 use Rattle.oamd.specs.Programme.{shares}
 use Rattle.oamd.specs.Timing.{noUpdate}
 use Rattle.oamd.specs.Answer.{Outcome, reading}
-use Rattle.keys.specs.Names.{refusalKey, placeKey, objectsKey, bedKey, isfKey, dynamicKey, blocksKey, unknownKey, blockKey, recordKey}
+use Rattle.keys.specs.Names.{refusalKey, placeKey, missingKey, objectsKey, bedKey, isfKey, dynamicKey, blocksKey, unknownKey, blockKey, recordKey}
 use Rattle.text.specs.Numerals.{decimal}
 use Rattle.text.specs.Lines.{textsFor, hex, line, numberLine}
 
@@ -60,7 +62,8 @@ unfoldable pub listingOf : ReadAnswer → List ℕ → List ℕ
 listingOf a records =
     numberLine refusalKey (a .refusal)
     ++ (numberLine placeKey (a .place)
-    ++ only (eqb (a .refusal) 0) (tableLines a records))
+    ++ (only (eqb (a .refusal) (numberOf EndsEarly)) (numberLine missingKey (a .missing))
+    ++ only (eqb (a .refusal) 0) (tableLines a records)))
 
 unfoldable pub zeros : ℕ → List ℕ
 zeros n = replicate n 0

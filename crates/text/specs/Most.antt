@@ -1,9 +1,10 @@
 -- The longest listing: how many bytes suffice for every payload.
 use mathlib.Core.Path.{_≡_, refl}
-use mathlib.Core.List.{List, [], _∷_, _++_}
+use mathlib.Core.Bool.{Bool, true, false}
+use mathlib.Core.List.{List, [], _∷_, _++_, append-nil}
 use Prim.Native.Nat.{ℕ, zero, suc, _+_, _-_, _*_, _^_, _≤_, _<_}
 use native.Mathlib.Omega.{arith}
-use borrow.Author.Tests.{eqb-true}
+use borrow.Author.Tests.{eqb-true, ne-eqb}
 use lib.Dec.{eqb}
 use lib.ListN.{length, getD, drop, length-append, length-take, length-replicate}
 use Rattle.bits.specs.Language.{from}
@@ -15,7 +16,7 @@ use Rattle.oamd.specs.Tables.{recordBytes, mostObjects, mostBlocks, roomBytes, 
 use Rattle.oamd.specs.Programme.{shares}
 use Rattle.oamd.specs.Timing.{noUpdate}
 use Rattle.written.specs.Lemmas.Facts.{by-test}
-use Rattle.keys.specs.Names.{refusalKey, placeKey, objectsKey, bedKey, isfKey, dynamicKey, blocksKey, unknownKey, blockKey, recordKey}
+use Rattle.keys.specs.Names.{refusalKey, placeKey, missingKey, objectsKey, bedKey, isfKey, dynamicKey, blocksKey, unknownKey, blockKey, recordKey}
 use Rattle.text.specs.Numerals.{decimal, hexByte}
 use Rattle.text.specs.NumeralLaws.{decimal-length}
 use Rattle.text.specs.Lines.{texts, hex, comma, newline, line, numberLine}
@@ -127,15 +128,27 @@ tables-most a records h =
     let z = records-most (a .programme .objects) (a .timing .blocks) records (h .objects) few in
     omega (arith, length-append (shareLines (a .programme)) (n ++ (u ++ (bs ++ rs))), length-append n (u ++ (bs ++ rs)), length-append u (bs ++ rs), length-append bs rs)
 
-listing-most : (a : ReadAnswer) (records : List ℕ) → a .refusal ≤ 9 → a .place < 10 ^ 20 → (a .refusal ≡ 0 → Small a) → length (listingOf a records) ≤ 79105
+-- a part that may be absent, with nothing behind it
+either-most : (t : Bool) (m : List ℕ) (n : ℕ) → length m ≤ n → length (only t m ++ []) ≤ n
+either-most true m n h = rw (append-nil m) h
+either-most false m n h = omega arith
+
+listing-most : (a : ReadAnswer) (records : List ℕ) → a .refusal ≤ 9 → a .place < 10 ^ 20 → a .missing < 10 ^ 7 → (a .refusal ≡ 0 → Small a)
+    → length (listingOf a records) ≤ 79105
 unfolding listingOf
-listing-most a records h l small =
+listing-most a records h l few small =
     let p : List ℕ = numberLine placeKey (a .place) in
-    let t : List ℕ = only (eqb (a .refusal) 0) (tableLines a records) in
+    let m : List ℕ = numberLine missingKey (a .missing) in
+    let t : List ℕ = only (eqb (a .refusal) 2) m ++ only (eqb (a .refusal) 0) (tableLines a records) in
     let x = number-most refusalKey 1 (a .refusal) (omega arith) (omega arith) in
     let y = number-most placeKey 20 (a .place) (omega arith) l in
+    let w = number-most missingKey 7 (a .missing) (omega arith) few in
     let z : length t ≤ 79068 =
-    by-test (eqb (a .refusal) 0) (λ e. rw e (tables-most a records (small (eqb-true (a .refusal) 0 e)))) (λ e. rw e (omega arith)) in
+    by-test (eqb (a .refusal) 0)
+    (λ e.
+    let zero = eqb-true (a .refusal) 0 e in
+    rw (e, ne-eqb (a .refusal) 2 (λ z. omega arith)) (tables-most a records (small zero)))
+    (λ e. rw e (either-most (eqb (a .refusal) 2) m 79068 (omega arith))) in
     omega (arith, length-append (numberLine refusalKey (a .refusal)) (p ++ t), length-append p t)
 
 pub zeros-long : (n : ℕ) → length (zeros n) ≡ n
@@ -149,5 +162,5 @@ most-text s h =
     let room = zeros-long roomBytes in
     let trim = zeros-long mostTrim in
     let m = answer-marked s (zeros roomBytes) (zeros mostTrim) (omega arith) (omega arith) (omega arith) in
-    let n = listing-most (read s .answer) (read s .buffer) (m .refusal) (m .place) (accepted-small s (zeros roomBytes) (zeros mostTrim)) in
+    let n = listing-most (read s .answer) (read s .buffer) (m .refusal) (m .place) (m .missing) (accepted-small s (zeros roomBytes) (zeros mostTrim)) in
     omega arith

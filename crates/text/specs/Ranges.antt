@@ -1,5 +1,5 @@
 -- How large the numbers are that a listing prints: what is said of every accepted payload, and of each class no more objects than there are; and the place.
-use mathlib.Core.Path.{_≡_}
+use mathlib.Core.Path.{_≡_, subst}
 use mathlib.Core.Bool.{true, not}
 use mathlib.Core.List.{List}
 use Prim.Native.Nat.{ℕ, _*_, _^_, _≤_, _<_}
@@ -15,8 +15,9 @@ use Rattle.oamd.specs.Tables.{mostElements, mostObjects, mostBlocks, roomBytes,
 use Rattle.oamd.specs.Programme.{hasReserved, named, total, agrees, shares}
 use Rattle.oamd.specs.Element.{there}
 use Rattle.oamd.specs.Payload.{header, object-audio-metadata-payload, tables}
-use Rattle.oamd.specs.Answer.{reading}
+use Rattle.oamd.specs.Answer.{Outcome, missingOf, reading}
 use Rattle.demands.specs.Answers.{accepted-is, place-within}
+use Rattle.demands.specs.Missing.{missing-most}
 use Rattle.demands.specs.Numbers.{numbers, roomy}
 use Rattle.demands.specs.Lemmas.Reading.{Case, long, stopped, full, read, case, refusal-of}
 use Rattle.written.specs.Lemmas.Facts.{by-test}
@@ -71,18 +72,21 @@ accepted-small s buffer trim z =
       unknown = n .3 .unknown;
     }
 
--- the refusal has one digit, and the place no more than the length of a payload that is too long
+-- the refusal has one digit, the place no more than the length of a payload that is too long, and the missing bits seven
 pub record Marked (a : ReadAnswer) : Type 0 where
   pub refusal : a .refusal ≤ 9
   pub place : a .place < 10 ^ 20
+  pub missing : a .missing < 10 ^ 7
 
 pub answer-marked : (s buffer trim : List ℕ) → length s < 10 ^ 20 → roomBytes ≤ length buffer → mostTrim ≤ length trim → Marked (reading s buffer trim .answer)
 answer-marked s buffer trim short room trim-room = go (case s buffer trim)
   where
     go : Case s buffer trim → Marked (reading s buffer trim .answer)
-    go (long l e) = rw e (record { refusal = omega arith; place = short })
+    go (long l e) = rw e (record { refusal = omega arith; place = short; missing = omega arith })
     go (stopped r pl m l h two eight e) =
-        let within = place-within s buffer trim r pl two eight e in
-        rw e (record { refusal = omega arith; place = omega arith })
+        let within = place-within s buffer trim r pl (missingOf r m) two eight e in
+        let few = missing-most s buffer trim in
+        let missing = subst (λ (o : Outcome). o .answer .missing ≤ 8947840) e few in
+        rw e (record { refusal = omega arith; place = omega arith; missing = omega arith })
     go (full q to pl l h x e) = absurd (roomy s buffer trim room trim-room (refusal-of e))
-    go (read q to l h f g e) = rw e (record { refusal = omega arith; place = omega arith })
+    go (read q to l h f g e) = rw e (record { refusal = omega arith; place = omega arith; missing = omega arith })

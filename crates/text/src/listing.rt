@@ -146,5 +146,8 @@ pub fn lay_listing(text: &mut [u8], at: usize, a: ReadAnswer, records: &[u8]) ->
     if a.refusal == 0 {
         return lay_tables(text, to, a, records);
     }
+    if a.refusal == 2 {
+        return lay_line(text, to, &keys::MISSING, a.missing as u64);
+    }
     to
 }

@@ -54,4 +54,4 @@ pub one-skriemelt-write : OneWriting (λ M. skriemelt-write.clauses) (λ M. skri
 one-skriemelt-write = one-write
 
 pub one-skriemelt-version : OneAnswer skriemelt-version.ended (λ M. skriemelt-version.clauses) (λ M. skriemelt-version.spec) (λ κs a. a) (λ κs a r z. r)
-one-skriemelt-version = by-equation (result-set skriemelt-version.ended) (λ w. refl) (λ a. 2000) (λ w κs a r z p. said (λ h. h) (p .holds))
+one-skriemelt-version = by-equation (result-set skriemelt-version.ended) (λ w. refl) (λ a. 2001) (λ w κs a r z p. said (λ h. h) (p .holds))

@@ -1,6 +1,6 @@
 //! The proved library against the plain reader and writer.
 //!
-//! `compare N [SEED]`: N generated payloads, valid, faulty and damaged; answers, places, tables and both whole buffers, with canaries around them. The
+//! `compare N [SEED]`: N generated payloads, valid, faulty and damaged; answers, places, missing bits, tables and both whole buffers, with canaries around them. The
 //! tables of each accepted payload are written, as they are and damaged, and so are N generated tables.
 //! `compare --damaged N [SEED]`: N random and damaged inputs: the library ends, and touches nothing that it may not.
 
@@ -77,6 +77,10 @@ fn both(rng: &mut Rng, payload: &[u8], rooms: (usize, usize)) -> Result<Read, St
     let bare = plain::Answer {
         refusal: answer.refusal,
         place: answer.place,
+        missing: match answer.refusal {
+            2 => answer.missing.max(1),
+            _ => 0,
+        },
         ..plain::Answer::default()
     };
     if answer.refusal != 0 && answer != bare {
@@ -130,7 +134,8 @@ fn generated(number: u64, seed: u64) -> Tally {
         let rooms = (case.room, case.trim_room);
         let mut result = both(&mut rng, &case.payload, rooms);
         if let (Ok(read), Some(expect)) = (&result, case.expect) {
-            let got = (read.answer.refusal, read.answer.place);
+            let answer = &read.answer;
+            let got = (answer.refusal, answer.place, answer.missing);
             if got != expect {
                 result = Err(format!("{got:?}, the generator says {expect:?}"));
             }

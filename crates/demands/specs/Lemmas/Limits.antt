@@ -25,7 +25,7 @@ use Rattle.demands.specs.Terms.{parsed}
 use Rattle.demands.specs.Lemmas.Elements.{by-kind}
 
 -- a field that is there only if the test holds
-carried-le : (t : Bool) (v n : ℕ) → (t ≡ true → v ≤ n) → (t ≡ false → 0 ≡ v) → v ≤ n
+pub carried-le : (t : Bool) (v n : ℕ) → (t ≡ true → v ≤ n) → (t ≡ false → 0 ≡ v) → v ≤ n
 carried-le true v n f g = f refl
 carried-le false v n f g = let z = g refl in omega arith
 

@@ -15,7 +15,7 @@ use Rattle.bits.specs.Laws.{Same, local, still, stays, numbered}
 use Rattle.oamd.specs.Tables.{mostBytes}
 use Rattle.oamd.specs.Trim.{trimNeeded}
 use Rattle.oamd.specs.Payload.{Payload, object-audio-metadata-payload, Tables}
-use Rattle.oamd.specs.Answer.{Outcome, refused, accepted, needed, housed, answered, reading}
+use Rattle.oamd.specs.Answer.{Outcome, missingOf, refused, accepted, needed, housed, answered, reading}
 use Rattle.demands.specs.Terms.{parsed, tablesOf}
 use Rattle.demands.specs.Conditions.{Short, records-short, trim-short}
 use Rattle.demands.specs.Lemmas.Numbers.{payload-says}
@@ -26,7 +26,7 @@ pub reading-short : (s buffer trim : List ℕ) → length s ≤ mostBytes → re
 unfolding reading
 reading-short s buffer trim l = rw (le-leb (length s) mostBytes l)
 
-pub reading-long : (s buffer trim : List ℕ) → mostBytes < length s → reading s buffer trim ≡ refused buffer trim (numberOf TooLong) (length s)
+pub reading-long : (s buffer trim : List ℕ) → mostBytes < length s → reading s buffer trim ≡ refused buffer trim (numberOf TooLong) (length s) 0
 unfolding reading
 reading-long s buffer trim l = rw (lt-leb (length s) mostBytes l)
 
@@ -34,7 +34,8 @@ pub reading-ok : (s buffer trim : List ℕ) {q : Payload} {to : ℕ} → length 
     → reading s buffer trim ≡ housed buffer trim (tablesOf q) (q .unknown)
 reading-ok s buffer trim l h = reading-short s buffer trim l ∙ ap (answered buffer trim) h
 
-pub reading-no : (s buffer trim : List ℕ) {r pl m : ℕ} → length s ≤ mostBytes → parsed s ≡ no r pl m → reading s buffer trim ≡ refused buffer trim r pl
+pub reading-no : (s buffer trim : List ℕ) {r pl m : ℕ} → length s ≤ mostBytes → parsed s ≡ no r pl m
+    → reading s buffer trim ≡ refused buffer trim r pl (missingOf r m)
 reading-no s buffer trim l h = reading-short s buffer trim l ∙ ap (answered buffer trim) h
 
 -- the bytes that the trim table needs
@@ -47,7 +48,7 @@ unfolding housed
 housed-fits buffer trim t u l m = rw (le-leb (needed t) (length buffer) l, le-leb (trimRoom t) (length trim) m)
 
 pub housed-lacks : (buffer trim : List ℕ) (t : Tables) (u place : ℕ) → Short buffer trim (needed t) (trimRoom t) place
-    → housed buffer trim t u ≡ refused buffer trim (numberOf Room) place
+    → housed buffer trim t u ≡ refused buffer trim (numberOf Room) place 0
 unfolding housed
 housed-lacks buffer trim t u place (records-short l e) = rw (lt-leb (needed t) (length buffer) l, e)
 housed-lacks buffer trim t u place (trim-short l m e) = rw (le-leb (needed t) (length buffer) l, lt-leb (trimRoom t) (length trim) m, e)
@@ -55,11 +56,12 @@ housed-lacks buffer trim t u place (trim-short l m e) = rw (le-leb (needed t) (l
 -- ---- to the reader's answer: every reading is one of four
 
 pub data Case (s buffer trim : List ℕ) : Type 0 where
-  long : mostBytes < length s → reading s buffer trim ≡ refused buffer trim (numberOf TooLong) (length s) → Case s buffer trim
-  stopped : (r pl m : ℕ) → length s ≤ mostBytes → parsed s ≡ no r pl m → 2 ≤ r → r ≤ 8 → reading s buffer trim ≡ refused buffer trim r pl
+  long : mostBytes < length s → reading s buffer trim ≡ refused buffer trim (numberOf TooLong) (length s) 0 → Case s buffer trim
+  stopped : (r pl m : ℕ) → length s ≤ mostBytes → parsed s ≡ no r pl m → 2 ≤ r → r ≤ 8
+      → reading s buffer trim ≡ refused buffer trim r pl (missingOf r m)
       → Case s buffer trim
   full : (q : Payload) (to pl : ℕ) → length s ≤ mostBytes → parsed s ≡ ok q to → Short buffer trim (needed (tablesOf q)) (trimRoom (tablesOf q)) pl
-      → reading s buffer trim ≡ refused buffer trim (numberOf Room) pl → Case s buffer trim
+      → reading s buffer trim ≡ refused buffer trim (numberOf Room) pl 0 → Case s buffer trim
   read : (q : Payload) (to : ℕ) → length s ≤ mostBytes → parsed s ≡ ok q to → needed (tablesOf q) ≤ length buffer → trimRoom (tablesOf q) ≤ length trim
       → reading s buffer trim ≡ accepted buffer trim (tablesOf q) (q .unknown) → Case s buffer trim
 
@@ -103,7 +105,7 @@ case s buffer trim = by-length (leb (length s) mostBytes) refl
 
 -- ---- the refusal tells which
 
-pub refusal-of : {o : Outcome} {buffer trim : List ℕ} {r pl : ℕ} → o ≡ refused buffer trim r pl → o .answer .refusal ≡ r
+pub refusal-of : {o : Outcome} {buffer trim : List ℕ} {r pl m : ℕ} → o ≡ refused buffer trim r pl m → o .answer .refusal ≡ r
 refusal-of h = ap (λ (o : Outcome). o .answer .refusal) h
 
 -- what an accepted reading rests on

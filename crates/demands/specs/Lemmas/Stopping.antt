@@ -18,7 +18,7 @@ use Rattle.oamd.specs.Reserved.{Field, unreserved}
 use Rattle.oamd.specs.Element.{declaredLength, backToId, framed, State, fields, oa-element, oa-element-md}
 use Rattle.oamd.specs.Payload.{object-audio-metadata-payload}
 use Rattle.demands.specs.Terms.{runs, parsed}
-use Rattle.demands.specs.Stops.{ComesTo, Sized, declaredEnd, PassesPayload, by-field, by-size, PassesElement, bitsIn, CarriesReserved}
+use Rattle.demands.specs.Stops.{ComesTo, Sized, declaredEnd, PassesPayload, by-field, by-size, missingFor, PassesElement, bitsIn, CarriesReserved}
 use Rattle.demands.specs.Skeleton.{isKnown}
 use Rattle.demands.specs.Lemmas.Codes.{in-table, by-test, widths}
 use Rattle.demands.specs.Lemmas.Frame.{size-goes}
@@ -162,19 +162,17 @@ size-within : (b : Bits) (at e o : ℕ) {z : Size} {to : ℕ} → run variable-b
 unfolding sizeFrom
 size-within b at e o h = bind-ok _ _ b at e o h λ read p hr h. let x = field-ok 4 number b at e o hr in omega arith
 
-pub early-end-is : (s : List ℕ) {place : ℕ} → PassesPayload s place → (m : ℕ) × (parsed s ≡ no 2 place m)
+pub early-end-is : (s : List ℕ) {place : ℕ} (x : PassesPayload s place) → parsed s ≡ no 2 place (missingFor x)
 unfolding oa-element-md framed
-early-end-is s (by-field w f c l) = (_, refused-there c (stop-refuses (bit s) (field-passes l)))
+early-end-is s (by-field w f c l) = refused-there c (stop-refuses (bit s) (field-passes l))
 early-end-is s (by-size id x j l) =
     let b = bit s in
     let e : ℕ = 8 * length s in
     let goes = size-goes 4 0 0 b (id + 4) e pastPayload (x .sized) in
-    let starts = size-within b (id + 4) e pastPayload (x .sized) in (
-      _,
-      refused-there (x .comes)
-          (bind-is _ _ b id e pastPayload (field-is 4 number b id e pastPayload starts) ∙ bind-is _ _ b (id + 4) e pastPayload (x .sized)
-          ∙ stop-refuses b (size-passes l) ∙ ap (λ (pl : ℕ). no 2 pl (declaredEnd x - e)) (omega arith)),
-    )
+    let starts = size-within b (id + 4) e pastPayload (x .sized) in
+    refused-there (x .comes)
+    (bind-is _ _ b id e pastPayload (field-is 4 number b id e pastPayload starts) ∙ bind-is _ _ b (id + 4) e pastPayload (x .sized)
+    ∙ stop-refuses b (size-passes l) ∙ ap (λ (pl : ℕ). no 2 pl (declaredEnd x - e)) (omega arith))
 
 pub past-element-is : (s : List ℕ) {place : ℕ} → PassesElement s place → (m : ℕ) × (parsed s ≡ no 8 place m)
 past-element-is s x = (_, refused-there (comes-on (x .element .comes) (comes-on (x .inside) (x .comes))) (stop-refuses (bit s) (field-passes (x .passes))))

@@ -10,7 +10,9 @@ returns : tie.Need-returns
 returns c = rw (c .refused .ensures) (too-long _ _ _ (c .before .if1 .taken))
 
 returns-2 : tie.Need-returns-2
-returns-2 c = rw (c .refused2 .ensures, c .before .raw .ensures) (stopped _ _ _ (omega arith) (c .before .before .before .before .before .read-payload .ensures) (c .before .before .if2 .taken))
+returns-2 c =
+    rw (c .refused2 .ensures, c .before .raw .ensures, c .before .before .missing-bits .ensures)
+    (stopped _ _ _ (omega arith) (c .before .before .before .before .before .before .read-payload .ensures) (c .before .before .before .if2 .taken))
 
 mul-need : tie.Need-mul-need
 mul-need c = let e = c .before .before .before .before .before .before .before .before .read-payload .ensures in omega (arith, small _ _ (e .few) (e .little))
@@ -73,6 +75,7 @@ read-spec =
     (tie.spec
     (λ c κs. search needs)
     returns
+    (λ c κs. search needs)
     (λ c κs. search needs)
     (λ c κs. search needs)
     (λ c κs. search needs)

@@ -1,7 +1,7 @@
 use borrow.Author.Needs.{needs}
 use Rattle.text.specs.Listing.{listingOf}
 use Rattle.text.proofs.LayLaws.{laid-bind}
-use Rattle.text.proofs.LineLaws.{accepted-laid, refused-laid}
+use Rattle.text.proofs.LineLaws.{accepted-laid, early-laid, refused-laid}
 use Rattle.text.proofs.listing.lay_listing.Statement.{statement}
 use Rattle.text.proofs.listing.lay_listing.Tie as tie
 
@@ -18,14 +18,23 @@ returns c =
     let test = tables .before .before in
     let place = test .before .before .before .before in
     let refusal = place .before .before .before .before .before in
-    laid-bind (refusal .lay-line .ensures) (laid-bind (place .lay-line2 .ensures) (accepted-laid _ _ (test .if1 .taken) (tables .lay-tables .ensures)))
+    laid-bind (refusal .lay-line .ensures) (laid-bind (place .lay-line2 .ensures) (accepted-laid _ _ _ (test .if1 .taken) (tables .lay-tables .ensures)))
 
 returns-2 : tie.Need-returns-2
 unfolding listingOf
 returns-2 c =
-    let place = c .before .before .before .before in
+    let missing = c .before .before in
+    let test = missing .before .before .before .before in
+    let place = test .before .before .before .before .before .before in
     let refusal = place .before .before .before .before .before in
-    laid-bind (refusal .lay-line .ensures) (refused-laid _ _ _ (c .if1 .left) (place .lay-line2 .ensures))
+    laid-bind (refusal .lay-line .ensures) (laid-bind (place .lay-line2 .ensures) (early-laid _ _ _ (test .if2 .taken) (missing .lay-line3 .ensures)))
+
+returns-3 : tie.Need-returns-3
+unfolding listingOf
+returns-3 c =
+    let place = c .before .before .before .before .before .before in
+    let refusal = place .before .before .before .before .before in
+    laid-bind (refusal .lay-line .ensures) (refused-laid _ _ _ _ (c .before .before .if1 .left) (c .if2 .left) (place .lay-line2 .ensures))
 
 pub lay-listing-spec : {M : Type 1} → statement M
 lay-listing-spec =
@@ -40,4 +49,9 @@ lay-listing-spec =
     (λ c. search needs)
     returns
     (λ c. search needs)
-    returns-2)
+    (λ c. search needs)
+    (λ c κs. search needs)
+    (λ c. search needs)
+    returns-2
+    (λ c. search needs)
+    returns-3)
