@@ -7,7 +7,7 @@ use Rattle.bits.specs.Size.{sizeFrom}
 use Rattle.oamd.specs.Answer.{missingOf, housed, reading}
 use Rattle.oamd.specs.Block.{status-idx, object-basic-info, differences, coordinates, position, distance, zone, extent, screen, object-render-info, additional-table-data, object-info-block}
 use Rattle.oamd.specs.Element.{kind, framed, scenes, fields, passOver, readKnown, oa-element, oa-element-md, elements}
-use Rattle.oamd.specs.Meaning.{gainOf, priorityOf, distanceOf, placeOf, volumeOf, resolve, scenesFrom, scenesOf, allScenes}
+use Rattle.oamd.specs.Meaning.{gainOf, priorityOf, distanceOf, locationOf, volumeOf, resolve, scenesFrom, scenesOf, allScenes}
 use Rattle.oamd.specs.ObjectElement.{object-data, object-element}
 use Rattle.oamd.specs.Payload.{oa-md-version, object-count, oa-element-count, header, object-audio-metadata-payload, timing, records, tables}
 use Rattle.oamd.specs.Programme.{bed-assignment, bed-instances, intermediate-spatial-format, num-dynamic-objects, reserved-data, program-assignment, labels, bedObjects, allBeds, named, agrees, shares, classOf}
@@ -39,5 +39,5 @@ abbrev pub cut : List ℕ
 cut = 0x01 ∷ 0x07 ∷ 0xC1 ∷ []
 
 pub worked : (listing sample ≡ printed) × (listing cut ≡ ascii "refusal=2\nplace=18\nmissing=7\n")
-unfolding slice run number each from bit sizeFrom missingOf housed reading status-idx object-basic-info differences coordinates position distance zone extent screen object-render-info additional-table-data object-info-block kind framed scenes fields passOver readKnown oa-element oa-element-md elements gainOf priorityOf distanceOf placeOf volumeOf resolve scenesFrom scenesOf allScenes object-data object-element oa-md-version object-count oa-element-count header object-audio-metadata-payload timing records tables bed-assignment bed-instances intermediate-spatial-format num-dynamic-objects reserved-data program-assignment labels bedObjects allBeds named agrees shares classOf plainRecords recordBytesOf bytesOf onto sample-offset block-update-info md-update-info offsetOf rampOf startOf timingOf trimOf configsBytesOf trimBytesOf decimal texts line blockLines recordLines shareLines tableLines listingOf zeros listing
+unfolding slice run number each from bit sizeFrom missingOf housed reading status-idx object-basic-info differences coordinates position distance zone extent screen object-render-info additional-table-data object-info-block kind framed scenes fields passOver readKnown oa-element oa-element-md elements gainOf priorityOf distanceOf locationOf volumeOf resolve scenesFrom scenesOf allScenes object-data object-element oa-md-version object-count oa-element-count header object-audio-metadata-payload timing records tables bed-assignment bed-instances intermediate-spatial-format num-dynamic-objects reserved-data program-assignment labels bedObjects allBeds named agrees shares classOf plainRecords recordBytesOf bytesOf onto sample-offset block-update-info md-update-info offsetOf rampOf startOf timingOf trimOf configsBytesOf trimBytesOf decimal texts line blockLines recordLines shareLines tableLines listingOf zeros listing
 worked = (refl, refl)
