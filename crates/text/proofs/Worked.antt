@@ -1,4 +1,4 @@
--- Two listings, byte for byte, shown by computation: of the README's sample, and of a payload that is refused.
+-- Three listings, byte for byte, shown by computation: of the README's sample, and of two payloads that are refused.
 use mathlib.Core.Path.{_≡_, refl}
 use mathlib.Core.List.{List, [], _∷_, _++_}
 use Prim.Native.Nat.{ℕ}
@@ -38,6 +38,10 @@ printed =
 abbrev pub cut : List ℕ
 cut = 0x01 ∷ 0x07 ∷ 0xC1 ∷ []
 
-pub worked : (listing sample ≡ printed) × (listing cut ≡ ascii "refusal=2\nplace=18\nmissing=7\n")
+-- an object element of one byte: the block offset factor, at bit 29, passes the element's end, bit 31
+abbrev pub short : List ℕ
+short = 0x01 ∷ 0x04 ∷ 0x40 ∷ 0x00 ∷ []
+
+pub worked : (listing sample ≡ printed) × (listing cut ≡ ascii "refusal=2\nplace=18\nmissing=7\n") × (listing short ≡ ascii "refusal=8\nplace=29\n")
 unfolding slice run number each from bit sizeFrom missingOf housed reading status-idx object-basic-info differences coordinates position distance zone extent screen object-render-info additional-table-data object-info-block kind framed scenes fields passOver readKnown oa-element oa-element-md elements gainOf priorityOf distanceOf locationOf volumeOf resolve scenesFrom scenesOf allScenes object-data object-element oa-md-version object-count oa-element-count header object-audio-metadata-payload timing records tables bed-assignment bed-instances intermediate-spatial-format num-dynamic-objects reserved-data program-assignment labels bedObjects allBeds named agrees shares classOf plainRecords recordBytesOf bytesOf onto sample-offset block-update-info md-update-info offsetOf rampOf startOf timingOf trimOf configsBytesOf trimBytesOf decimal texts line blockLines recordLines shareLines tableLines listingOf zeros listing
-worked = (refl, refl)
+worked = (refl, refl, refl)
