@@ -1,6 +1,5 @@
 // From a value of the tables to the coded fields that carry it.
 ghost use mathlib.Core.Path.{_≡_};
-ghost use Prim.Native.Nat.{_-_};
 ghost use lib.Dec.{eqb, ltb};
 ghost use Rattle.bits.specs.Language.{pick, both};
 ghost use Rattle.written.specs.Coded.{asFlag, codedOffset, rampCode, gainIndex, codedGain, codedPriority, zSign, zBits, codedDistance, sizeIndex, codedExtent};

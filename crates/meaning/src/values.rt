@@ -1,6 +1,5 @@
 // The value of each group of a block, by its own fields (5.6.1).
 ghost use mathlib.Core.Path.{_≡_};
-ghost use Prim.Native.Nat.{_-_};
 ghost use Rattle.oamd.specs.Meaning.{gainOf, priorityOf, clamp, movedBy, across, upright, heightOf, distanceOf, locationOf, volumeOf};
 use oamd::Distance;
 use oamd::Extent;
