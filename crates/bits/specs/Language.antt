@@ -20,6 +20,10 @@ abbrev pub both : Bool → Bool → Bool
 both true b = b
 both false b = false
 
+-- a test as a flag
+abbrev pub asFlag : Bool → ℕ
+asFlag t = pick t 1 0
+
 -- v is one of the numbers from low to high
 abbrev pub between : ℕ → ℕ → ℕ → Bool
 between low high v = both (leb low v) (leb v high)

@@ -3,9 +3,17 @@ use units::BitPos;
 
 mod leaf; // leaf.rt: a field of any width up to 24
 mod cursor; // cursor.rt: fields that may be absent, runs, refusals, declared ends
-mod groups; // groups.rt: an element's size
+mod sizes; // sizes.rt: an element's size
+mod choices; // choices.rt: a flag of an array of flags, tests joined, a choice, a difference
 mod numbers; // numbers.rt: the refusals' numbers
 
+pub use choices::as_flag;
+pub use choices::both;
+pub use choices::choice;
+pub use choices::either;
+pub use choices::flag;
+pub use choices::less;
+pub use choices::minus;
 pub use cursor::close;
 pub use cursor::inner_of;
 pub use cursor::open;
@@ -14,9 +22,10 @@ pub use cursor::skip_if;
 pub use cursor::take_if;
 pub use cursor::take_unless;
 pub use cursor::with_value;
-pub use groups::read_size;
 pub use leaf::take;
 pub use leaf::word;
+pub use numbers::number;
+pub use sizes::read_size;
 
 // Where reading stands. While no is 0: the value of the last field, and the position after it; missing is as it came. Else the first refusal: its
 // number, its place, and how many bits were missing.

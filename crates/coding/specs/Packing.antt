@@ -6,8 +6,8 @@ use Prim.Native.Nat.{ℕ, _-_, _^_, _<_}
 use Rattle.bits.specs.Writes.{toBits, only}
 use Rattle.oamd.specs.declared.Scene.{Scene}
 use Rattle.oamd.specs.Programme.{set?}
-use Rattle.written.specs.Coded.{codedDistance, codedExtent}
-use Rattle.written.specs.Form.{statusBits, positionBits, distanceBits, zoneBits, extentBits, screenBits, basicBits}
+use Rattle.form.specs.Coded.{codedDistance, codedExtent}
+use Rattle.form.specs.Form.{statusBits, positionBits, distanceBits, zoneBits, extentBits, screenBits, basicBits}
 use Rattle.coding.specs.declared.Packed.{Packed}
 
 -- the bits of p are those of l

@@ -15,8 +15,8 @@ use crate::parts::position;
 use crate::parts::screen;
 use crate::parts::status;
 use crate::parts::zone;
+use bits::less;
 use oamd::Scene;
-use oamd::less;
 
 // Whether it is active, and gain and priority.
 pub fn opening(first: bool, s: Scene) -> Packed

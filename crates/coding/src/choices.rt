@@ -2,26 +2,16 @@
 ghost use mathlib.Core.Path.{_≡_};
 ghost use lib.Dec.{eqb, ltb};
 ghost use Rattle.bits.specs.Language.{pick, both};
-ghost use Rattle.written.specs.Coded.{asFlag, codedOffset, rampCode, gainIndex, codedGain, codedPriority, zSign, zBits, codedDistance, sizeIndex, codedExtent};
+ghost use Rattle.form.specs.Coded.{codedOffset, rampCode, gainIndex, codedGain, codedPriority, zSign, zBits, codedDistance, sizeIndex, codedExtent};
+use bits::as_flag;
+use bits::choice;
+use bits::less;
 use oamd::Distance;
 use oamd::Extent;
 use oamd::Gain;
 use oamd::Offset;
 use oamd::Priority;
 use oamd::Volume;
-use oamd::less;
-
-pub fn choice(t: bool, a: u8, b: u8) -> u8
-    ensures { λ r. ⌜ r ≡ pick t a b ⌝ }
-{
-    if t { a } else { b }
-}
-
-pub fn as_flag(t: bool) -> u8
-    ensures { λ r. ⌜ r ≡ asFlag t ⌝ }
-{
-    if t { 1 } else { 0 }
-}
 
 // Code 0 or 2 (Table 22).
 pub fn coded_offset(offset: u8) -> Offset
@@ -60,7 +50,7 @@ pub fn ramp_index(ramp: u16) -> u8
 pub fn ramp_bits(code: u8, ramp: u16) -> u16
     ensures { λ r. ⌜ r ≡ pick (both (eqb code 3) (ltb ramp 2048)) ramp 0 ⌝ }
 {
-    if oamd::both(code == 3, ramp < 2048) {
+    if bits::both(code == 3, ramp < 2048) {
         ramp
     } else {
         0
@@ -126,7 +116,7 @@ pub fn coded_distance(distance: u8) -> Distance
 fn size_index(v: Volume) -> u8
     ensures { λ r. ⌜ r ≡ sizeIndex v ⌝ }
 {
-    let even = oamd::both(v.width == v.depth, v.width == v.height);
+    let even = bits::both(v.width == v.depth, v.width == v.height);
     let one = choice(v.width == 0, 0, 1);
     choice(even, one, 2)
 }

@@ -1,8 +1,8 @@
 // The groups of a block, each packed as it is coded (5.5.10, 5.5.11).
 ghost use mathlib.Core.Path.{_≡_};
 ghost use Prim.Native.Nat.{_≤_};
-ghost use Rattle.written.specs.Coded.{codedGain, codedPriority, codedDistance, codedExtent};
-ghost use Rattle.written.specs.Form.{statusBits, gainBits, priorityBits, positionBits, distanceBits, zoneBits, extentBits, screenBits, basicBits};
+ghost use Rattle.form.specs.Coded.{codedGain, codedPriority, codedDistance, codedExtent};
+ghost use Rattle.form.specs.Form.{statusBits, gainBits, priorityBits, positionBits, distanceBits, zoneBits, extentBits, screenBits, basicBits};
 ghost use Rattle.coding.specs.Packing.{Packs};
 use crate::Packed;
 use crate::choices::coded_distance;
@@ -25,7 +25,7 @@ pub fn status(sent: bool, first: bool) -> Packed
     ensures { λ r. ⌜ Packs r (statusBits sent first) ⌝ }
     ensures { λ r. ⌜ r .width .0 ≤ 2 ⌝ }
 {
-    let on = oamd::both(sent, !first);
+    let on = bits::both(sent, !first);
     let full = field(2, 1);
     kept_if(on, full)
 }
@@ -85,7 +85,7 @@ pub fn distance(v: u8) -> Packed
     ensures { λ r. ⌜ r .width .0 ≤ 6 ⌝ }
 {
     let d = coded_distance(v);
-    let near = oamd::both(d.given == 1, d.infinite == 0);
+    let near = bits::both(d.given == 1, d.infinite == 0);
     let given = field(1, d.given as u32);
     let infinite = field(1, d.infinite as u32);
     let index = field(4, d.index as u32);

@@ -1,7 +1,7 @@
 // What a C program calls. Numbers, byte slices and tables of numbers cross this border, and one answer by value; include/skriemelt.h declares the same for C.
 ghost use mathlib.Core.Path.{_≡_};
 ghost use Rattle.oamd.specs.Answer.{reading};
-ghost use Rattle.written.specs.Answer.{writing};
+ghost use Rattle.form.specs.Answer.{writing};
 use oamd::Programme;
 use oamd::ReadAnswer;
 use oamd::Timing;

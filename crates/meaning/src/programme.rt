@@ -14,7 +14,7 @@ fn standard_labels(v: u32) -> u32
     let mut sum: u32 = 0;
     let mut k: u32 = 0;
     while k < 10 {
-        if oamd::flag(10, k, v) {
+        if bits::flag(10, k, v) {
             sum = sum + oamd::bed_labels(k) as u32;
         }
         k = k + 1;
@@ -29,7 +29,7 @@ fn nonstd_labels(v: u32) -> u32
     let mut sum: u32 = 0;
     let mut k: u32 = 0;
     while k < 17 {
-        if oamd::flag(17, k, v) {
+        if bits::flag(17, k, v) {
             sum = sum + 1;
         }
         k = k + 1;
@@ -81,12 +81,12 @@ fn named_by(p: Programme) -> Shares
     let beds = p.beds;
     let content = p.content as u32;
     let bed = all_beds(beds);
-    let isf = if oamd::flag(4, 2, content) {
+    let isf = if oamd::has_isf(content) {
         oamd::isf_objects(p.isf) as u32
     } else {
         0
     };
-    let dynamic = if oamd::flag(4, 1, content) {
+    let dynamic = if oamd::has_dynamic(content) {
         p.dynamics as u32 + 1
     } else {
         0
@@ -101,7 +101,7 @@ pub fn agrees(p: Programme) -> bool
     let n = named_by(p);
     let total = n.bed + n.isf + n.dynamic;
     let objects = p.objects as u32;
-    if oamd::flag(4, 0, p.content as u32) {
+    if oamd::has_reserved(p.content as u32) {
         total <= objects
     } else {
         total == objects

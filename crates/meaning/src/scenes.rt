@@ -96,7 +96,7 @@ fn gain_after(valuebefore: u8, gainbefore: u8, b: Basic) -> u8
     let status = b.status;
     let coded = b.gain;
     let value = gain_of(coded, gainbefore);
-    number_by(status, oamd::flag(2, 1, b.parts as u32), valuebefore, value)
+    number_by(status, oamd::has_gain(b.parts as u32), valuebefore, value)
 }
 
 fn priority_after(valuebefore: u8, b: Basic) -> u8
@@ -105,7 +105,12 @@ fn priority_after(valuebefore: u8, b: Basic) -> u8
     let status = b.status;
     let coded = b.priority;
     let value = priority_of(coded);
-    number_by(status, oamd::flag(2, 0, b.parts as u32), valuebefore, value)
+    number_by(
+        status,
+        oamd::has_priority(b.parts as u32),
+        valuebefore,
+        value,
+    )
 }
 
 fn location_after(valuebefore: Location, n: Render) -> Location
@@ -115,7 +120,7 @@ fn location_after(valuebefore: Location, n: Render) -> Location
     let position = n.position;
     let distance = n.distance;
     let value = location_of(position, distance_of(distance), valuebefore);
-    let sent = oamd::flag(4, 3, n.parts as u32);
+    let sent = oamd::has_position(n.parts as u32);
     match status {
         Status::Default => default_location(),
         Status::Full => value,
@@ -130,7 +135,7 @@ fn volume_after(valuebefore: Volume, n: Render) -> Volume
     let status = n.status;
     let extent = n.extent;
     let value = volume_of(extent);
-    let sent = oamd::flag(4, 1, n.parts as u32);
+    let sent = oamd::has_size(n.parts as u32);
     match status {
         Status::Default => default_volume(),
         Status::Full => value,
@@ -144,7 +149,7 @@ fn zone_after(valuebefore: Zone, n: Render) -> Zone
 {
     let status = n.status;
     let value = n.zone;
-    let sent = oamd::flag(4, 2, n.parts as u32);
+    let sent = oamd::has_zone(n.parts as u32);
     match status {
         Status::Default => default_zone(),
         Status::Full => value,
@@ -158,7 +163,7 @@ fn screen_after(valuebefore: Screen, n: Render) -> Screen
 {
     let status = n.status;
     let value = n.screen;
-    let sent = oamd::flag(4, 0, n.parts as u32);
+    let sent = oamd::has_screen(n.parts as u32);
     match status {
         Status::Default => default_screen(),
         Status::Full => value,

@@ -1,6 +1,7 @@
 // The value of each group of a block, by its own fields (5.6.1).
 ghost use mathlib.Core.Path.{_≡_};
 ghost use Rattle.oamd.specs.Meaning.{gainOf, priorityOf, clamp, movedBy, across, upright, heightOf, distanceOf, locationOf, volumeOf};
+use bits::less;
 use oamd::Distance;
 use oamd::Extent;
 use oamd::Gain;
@@ -8,7 +9,6 @@ use oamd::Location;
 use oamd::Position;
 use oamd::Priority;
 use oamd::Volume;
-use oamd::less;
 
 // 0 dB, as a record has it.
 const ZERO_DB: u8 = 50;

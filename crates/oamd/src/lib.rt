@@ -3,12 +3,40 @@ use units::ByteCount;
 use units::SampleCount;
 
 mod tables; // tables.rt: the standard's tables
-mod choices; // choices.rt: a flag of an array of flags, and an element's kind
+mod limits; // limits.rt: the limits, as constants
+mod kinds; // kinds.rt: what an element is known as
+mod presence; // presence.rt: which fields are there
 
-pub use choices::both;
-pub use choices::flag;
-pub use choices::kind_of;
-pub use choices::less;
+pub use kinds::kind_of;
+pub use limits::CONFIG_BYTES;
+pub use limits::MOST_BEDS;
+pub use limits::MOST_BLOCKS;
+pub use limits::MOST_BYTES;
+pub use limits::MOST_TRIM;
+pub use limits::PER_OBJECT_BYTE;
+pub use limits::RECORD_STRIDE;
+pub use limits::ROOM_BYTES;
+pub use limits::TRIM_CONFIGS;
+pub use limits::TRIM_FIXED;
+pub use limits::TRIM_HEAD;
+pub use presence::has_beds;
+pub use presence::has_centre;
+pub use presence::has_dynamic;
+pub use presence::has_gain;
+pub use presence::has_height;
+pub use presence::has_isf;
+pub use presence::has_lis;
+pub use presence::has_position;
+pub use presence::has_priority;
+pub use presence::has_reserved;
+pub use presence::has_screen;
+pub use presence::has_size;
+pub use presence::has_surround;
+pub use presence::has_tb;
+pub use presence::has_x;
+pub use presence::has_y;
+pub use presence::has_z;
+pub use presence::has_zone;
 pub use tables::bed_labels;
 pub use tables::distance_code;
 pub use tables::isf_objects;
@@ -37,7 +65,7 @@ pub struct Programme {
     pub bedcount: u8,
     pub isf: u8,
     pub dynamics: u8,
-    pub beds: [Bed; 9],
+    pub beds: [Bed; MOST_BEDS],
 }
 
 // How many objects of each class a programme has.
@@ -58,7 +86,7 @@ pub struct Update {
 #[repr(C)]
 pub struct Timing {
     pub blocks: u8,
-    pub updates: [Update; 8],
+    pub updates: [Update; MOST_BLOCKS],
 }
 
 // A sample offset, as coded (5.5.6).

@@ -84,5 +84,5 @@ pub fn carries_at(out: &[u8; ROOM], at: usize) -> bool
     requires { ⌜ at + recordStride ≤ roomBytes ⌝ }
     ensures { λ r. ⌜ r ≡ both (eqb (getD (now (out .entry)) (at + 0) 0) 1) (eqb (getD (now (out .entry)) (at + 1) 0) 2) ⌝ }
 {
-    oamd::both(out[at + 0] == 1, out[at + 1] == 2)
+    bits::both(out[at + 0] == 1, out[at + 1] == 2)
 }

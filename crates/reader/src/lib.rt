@@ -12,7 +12,7 @@ mod layout; // layout.rt: a record's bytes among the records
 mod objects; // objects.rt: the object element
 mod extended; // extended.rt: the extended object element
 mod trim; // trim.rt: the trim element
-mod elements; // elements.rt: one element after the other
+mod element; // element.rt: one element after the other
 mod payload; // payload.rt: the whole payload
 mod answers; // answers.rt: what is answered
 

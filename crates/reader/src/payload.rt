@@ -11,7 +11,7 @@ use crate::PayloadStep;
 use crate::ROOM;
 use crate::Scope;
 use crate::TRIM;
-use crate::elements::read_elements;
+use crate::element::read_elements;
 use bits::Cur;
 use bits::Limit;
 use bits::Refusal;

@@ -14,7 +14,7 @@ pub fn read_divergence(s: &[u8], l: Limit, c: Cur, carries: bool) -> DivergenceS
 {
     let used = bits::take_if(carries, s, l, c, 1);
     let mode = bits::take_unless(used.v == 1, s, l, used, 2, 3, 3);
-    let table = bits::take_if(oamd::both(used.v == 1, mode.v == 0), s, l, mode, 2);
+    let table = bits::take_if(bits::both(used.v == 1, mode.v == 0), s, l, mode, 2);
     let code = bits::take_unless(mode.v == 2, s, l, table, 6, 0, 0);
     DivergenceStep {
         divergence: Divergence {
@@ -31,9 +31,9 @@ pub fn read_precise(s: &[u8], l: Limit, c: Cur, carries: bool) -> PreciseStep
 {
     let given = bits::take_if(carries, s, l, c, 1);
     let presence = bits::take_if(given.v == 1, s, l, given, 3);
-    let x = bits::take_if(oamd::flag(3, 2, presence.v), s, l, presence, 2);
-    let y = bits::take_if(oamd::flag(3, 1, presence.v), s, l, x, 2);
-    let z = bits::take_if(oamd::flag(3, 0, presence.v), s, l, y, 2);
+    let x = bits::take_if(oamd::has_x(presence.v), s, l, presence, 2);
+    let y = bits::take_if(oamd::has_y(presence.v), s, l, x, 2);
+    let z = bits::take_if(oamd::has_z(presence.v), s, l, y, 2);
     PreciseStep {
         precise: Precise {
             presence: presence.v as u8,

@@ -62,11 +62,11 @@ pub fn read_basic(s: &[u8], l: Limit, c: Cur, status: Status) -> BasicStep
     ensures { λ r. ⌜ Reads (object-basic-info status) (bit (now (s .entry))) c l (r .basic) (r .cur) ⌝ }
 {
     let parts = read_parts(s, l, c, status, 3, 2);
-    let index = bits::take_if(oamd::flag(2, 1, parts.v), s, l, parts, 2);
+    let index = bits::take_if(oamd::has_gain(parts.v), s, l, parts, 2);
     let level = bits::take_if(index.v == 2, s, l, index, 6);
-    let ranked = oamd::flag(2, 0, parts.v);
+    let ranked = oamd::has_priority(parts.v);
     let bydefault = bits::take_if(ranked, s, l, level, 1);
-    let rank = bits::take_if(oamd::both(ranked, bydefault.v == 0), s, l, bydefault, 5);
+    let rank = bits::take_if(bits::both(ranked, bydefault.v == 0), s, l, bydefault, 5);
     BasicStep {
         basic: Basic {
             status,

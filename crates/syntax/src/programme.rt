@@ -20,7 +20,7 @@ fn read_bed(s: &[u8], l: Limit, c: Cur) -> BedStep
     let lfe = bits::take(s, l, c, 1);
     let standard = bits::take_if(lfe.v == 0, s, l, lfe, 1);
     let usual = bits::take_if(standard.v == 1, s, l, standard, 10);
-    let other = bits::take_if(oamd::both(lfe.v == 0, standard.v == 0), s, l, usual, 17);
+    let other = bits::take_if(bits::both(lfe.v == 0, standard.v == 0), s, l, usual, 17);
     BedStep {
         bed: Bed {
             assignment: usual.v + other.v,
@@ -36,7 +36,7 @@ fn instances_of(content: u32, multiple: u32, instances: u32) -> u8
     requires { ⌜ instances < 8 ⌝ }
     ensures { λ r. ⌜ (r ≡ bedInstances content multiple instances) × (r ≤ 9) ⌝ }
 {
-    if oamd::flag(4, 3, content) {
+    if oamd::has_beds(content) {
         if multiple == 1 {
             instances as u8 + 2
         } else {
@@ -50,7 +50,7 @@ fn instances_of(content: u32, multiple: u32, instances: u32) -> u8
 fn read_beds(s: &[u8], l: Limit, c: Cur, content: u32) -> BedsStep
     ensures { λ r. ⌜ BedsRead content (bit (now (s .entry))) c l r ⌝ }
 {
-    let has = oamd::flag(4, 3, content);
+    let has = oamd::has_beds(content);
     let distribute = bits::take_if(has, s, l, c, 1);
     let multiple = bits::take_if(has, s, l, distribute, 1);
     let instances = bits::take_if(multiple.v == 1, s, l, multiple, 3);
@@ -84,13 +84,13 @@ fn read_beds(s: &[u8], l: Limit, c: Cur, content: u32) -> BedsStep
 fn read_isf(s: &[u8], l: Limit, c: Cur, content: u32) -> Cur
     ensures { λ r. ⌜ Took (intermediate-spatial-format content) 8 (bit (now (s .entry))) c l r ⌝ }
 {
-    bits::take_unless(oamd::flag(4, 2, content), s, l, c, 3, 6, 7)
+    bits::take_unless(oamd::has_isf(content), s, l, c, 3, 6, 7)
 }
 
 fn read_dynamics(s: &[u8], l: Limit, c: Cur, content: u32) -> Cur
     ensures { λ r. ⌜ Took (num-dynamic-objects content) 159 (bit (now (s .entry))) c l r ⌝ }
 {
-    let count = bits::take_if(oamd::flag(4, 1, content), s, l, c, 5);
+    let count = bits::take_if(oamd::has_dynamic(content), s, l, c, 5);
     let more = bits::take_if(count.v == 31, s, l, count, 7);
     bits::with_value(more, count.v + more.v)
 }
@@ -99,7 +99,7 @@ fn read_dynamics(s: &[u8], l: Limit, c: Cur, content: u32) -> Cur
 fn pass_reserved(s: &[u8], l: Limit, c: Cur, content: u32) -> Cur
     ensures { λ r. ⌜ Gave (reserved-data content) (bit (now (s .entry))) c l 0 r ⌝ }
 {
-    let has = oamd::flag(4, 0, content);
+    let has = oamd::has_reserved(content);
     let size = bits::take_if(has, s, l, c, 4);
     bits::skip_if(has, s, l, size, ByteCount::new(size.v + 1))
 }

@@ -48,7 +48,7 @@ fn read_coordinates(s: &[u8], l: Limit, c: Cur) -> PositionStep
 fn read_position(s: &[u8], l: Limit, c: Cur, on: bool, first: bool) -> PositionStep
     ensures { λ r. ⌜ Reads (position on first) (bit (now (s .entry))) c l (r .position) (r .cur) ⌝ }
 {
-    let moved = bits::take_if(oamd::both(on, !first), s, l, c, 1);
+    let moved = bits::take_if(bits::both(on, !first), s, l, c, 1);
     if on {
         if moved.v == 1 {
             read_differences(s, l, moved)
@@ -68,7 +68,7 @@ fn read_distance(s: &[u8], l: Limit, c: Cur, on: bool) -> DistanceStep
 {
     let given = bits::take_if(on, s, l, c, 1);
     let infinite = bits::take_if(given.v == 1, s, l, given, 1);
-    let index = bits::take_if(oamd::both(given.v == 1, infinite.v == 0), s, l, infinite, 4);
+    let index = bits::take_if(bits::both(given.v == 1, infinite.v == 0), s, l, infinite, 4);
     DistanceStep {
         distance: Distance {
             given: given.v as u8,
@@ -145,16 +145,16 @@ pub fn read_render(s: &[u8], l: Limit, c: Cur, status: Status, first: bool) -> R
     ensures { λ r. ⌜ Reads (object-render-info status first) (bit (now (s .entry))) c l (r .render) (r .cur) ⌝ }
 {
     let parts = read_parts(s, l, c, status, 15, 4);
-    let positioned = oamd::flag(4, 3, parts.v);
+    let positioned = oamd::has_position(parts.v);
     let p = read_position(s, l, parts, positioned, first);
     let position = p.position;
     let d = read_distance(s, l, p.cur, positioned);
     let distance = d.distance;
-    let z = read_zone(s, l, d.cur, oamd::flag(4, 2, parts.v));
+    let z = read_zone(s, l, d.cur, oamd::has_zone(parts.v));
     let zone = z.zone;
-    let e = read_extent(s, l, z.cur, oamd::flag(4, 1, parts.v));
+    let e = read_extent(s, l, z.cur, oamd::has_size(parts.v));
     let extent = e.extent;
-    let n = read_screen(s, l, e.cur, oamd::flag(4, 0, parts.v));
+    let n = read_screen(s, l, e.cur, oamd::has_screen(parts.v));
     let screen = n.screen;
     let snap = bits::take_if(sends_any(status), s, l, n.cur, 1);
     RenderStep {

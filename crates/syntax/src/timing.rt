@@ -32,7 +32,7 @@ pub fn read_update(s: &[u8], l: Limit, c: Cur) -> UpdateStep
     let code = bits::take(s, l, factor, 2);
     let indexed = bits::take_if(code.v == 3, s, l, code, 1);
     let index = bits::take_if(indexed.v == 1, s, l, indexed, 4);
-    let ramp = bits::take_if(oamd::both(code.v == 3, indexed.v == 0), s, l, index, 11);
+    let ramp = bits::take_if(bits::both(code.v == 3, indexed.v == 0), s, l, index, 11);
     UpdateStep {
         update: BlockUpdate {
             bits: ramp.v as u16,

@@ -27,13 +27,13 @@ pub fn read_trim_config(s: &[u8], l: Limit, c: Cur) -> TrimConfigStep
 {
     let bydefault = bits::take(s, l, c, 1);
     let disabled = bits::take_if(bydefault.v == 0, s, l, bydefault, 1);
-    let sent = oamd::both(bydefault.v == 0, disabled.v == 0);
+    let sent = bits::both(bydefault.v == 0, disabled.v == 0);
     let presence = bits::take_if(sent, s, l, disabled, 5);
-    let centre = bits::take_if(oamd::flag(5, 4, presence.v), s, l, presence, 4);
-    let surround = bits::take_unless(oamd::flag(5, 3, presence.v), s, l, centre, 4, 0, 3);
-    let height = bits::take_unless(oamd::flag(5, 2, presence.v), s, l, surround, 4, 0, 3);
-    let tb = read_balance(s, l, height, oamd::flag(5, 1, presence.v));
-    let lis = read_balance(s, l, tb.cur, oamd::flag(5, 0, presence.v));
+    let centre = bits::take_if(oamd::has_centre(presence.v), s, l, presence, 4);
+    let surround = bits::take_unless(oamd::has_surround(presence.v), s, l, centre, 4, 0, 3);
+    let height = bits::take_unless(oamd::has_height(presence.v), s, l, surround, 4, 0, 3);
+    let tb = read_balance(s, l, height, oamd::has_tb(presence.v));
+    let lis = read_balance(s, l, tb.cur, oamd::has_lis(presence.v));
     TrimConfigStep {
         config: TrimConfig {
             bydefault: bydefault.v as u8,

@@ -15,7 +15,7 @@ use Rattle.oamd.specs.declared.Update.{Update}
 use Rattle.oamd.specs.Tables.{recordBytes, mostObjects, mostBlocks, roomBytes, mostTrim}
 use Rattle.oamd.specs.Programme.{shares}
 use Rattle.oamd.specs.Timing.{noUpdate}
-use Rattle.written.specs.Lemmas.Facts.{by-test}
+use Rattle.form.specs.Lemmas.Tests.{by-test}
 use Rattle.keys.specs.Names.{refusalKey, placeKey, missingKey, objectsKey, bedKey, isfKey, dynamicKey, blocksKey, unknownKey, blockKey, recordKey}
 use Rattle.text.specs.Numerals.{decimal, hexByte}
 use Rattle.text.specs.NumeralLaws.{decimal-length}

@@ -20,8 +20,8 @@ use Rattle.demands.specs.Answers.{accepted-is, place-within}
 use Rattle.demands.specs.Missing.{missing-most}
 use Rattle.demands.specs.Numbers.{numbers, roomy}
 use Rattle.demands.specs.Lemmas.Reading.{Case, long, stopped, full, read, case, refusal-of}
-use Rattle.written.specs.Lemmas.Facts.{by-test}
-use Rattle.written.specs.Ranges.{UpdatesInRange, read-in-range}
+use Rattle.form.specs.Lemmas.Tests.{by-test}
+use Rattle.roundtrip.specs.Ranges.{UpdatesInRange, read-in-range}
 
 -- ---- the objects of each class
 

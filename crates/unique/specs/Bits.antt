@@ -22,6 +22,14 @@ use Rattle.bits.specs.Refusals.{numberOf}
 use Rattle.bits.specs.Size.{variable-bits-max}
 use Rattle.bits.specs.Unique.{one-reads, one-gave}
 use Rattle.bits.specs.View.{wordAt, Reads, Gave, valued}
+use Rattle.bits.proofs.as_flag as as-flag
+use Rattle.bits.proofs.both as both
+use Rattle.bits.proofs.choice as choice
+use Rattle.bits.proofs.either as either
+use Rattle.bits.proofs.flag as flag
+use Rattle.bits.proofs.less as less
+use Rattle.bits.proofs.minus as minus
+use Rattle.bits.proofs.number as number
 use Rattle.unique.specs.OneAnswer.{OneAnswer, by-relation, by-equation, said, result-set, _beside_}
 use Rattle.unique.specs.Readings.{holding, giving, TookBy, took-once, GaveBy, gave-once, reading-set}
 
@@ -85,3 +93,27 @@ pub one-read-size : OneAnswer read-size.ended (λ M. read-size.clauses) (λ M. r
 one-read-size =
     by-relation (λ κs. reading-set (size.the-row .coded)) (λ w. refl) (GaveBy _) (gave-once (λ i. variable-bits-max))
     (λ w κs a r z p. said (λ h. (r .size, r .cur, h .2, refl)) (p .holds))
+
+pub one-as-flag : OneAnswer as-flag.ended (λ M. as-flag.clauses) (λ M. as-flag.spec) (λ κs a. a) (λ κs a r z. r)
+one-as-flag = by-equation (result-set as-flag.ended) (λ w. refl) _ (λ w κs a r z p. said (λ h. h) (p .holds))
+
+pub one-both : OneAnswer both.ended (λ M. both.clauses) (λ M. both.spec) (λ κs a. a) (λ κs a r z. r)
+one-both = by-equation (result-set both.ended) (λ w. refl) _ (λ w κs a r z p. said (λ h. h) (p .holds))
+
+pub one-choice : OneAnswer choice.ended (λ M. choice.clauses) (λ M. choice.spec) (λ κs a. a) (λ κs a r z. r)
+one-choice = by-equation (result-set choice.ended) (λ w. refl) _ (λ w κs a r z p. said (λ h. h) (p .holds))
+
+pub one-either : OneAnswer either.ended (λ M. either.clauses) (λ M. either.spec) (λ κs a. a) (λ κs a r z. r)
+one-either = by-equation (result-set either.ended) (λ w. refl) _ (λ w κs a r z p. said (λ h. h) (p .holds))
+
+pub one-flag : OneAnswer flag.ended (λ M. flag.clauses) (λ M. flag.spec) (λ κs a. a) (λ κs a r z. r)
+one-flag = by-equation (result-set flag.ended) (λ w. refl) _ (λ w κs a r z p. said (λ h. h) (p .holds))
+
+pub one-less : OneAnswer less.ended (λ M. less.clauses) (λ M. less.spec) (λ κs a. a) (λ κs a r z. r)
+one-less = by-equation (result-set less.ended) (λ w. refl) _ (λ w κs a r z p. said (λ h. h) (p .holds))
+
+pub one-minus : OneAnswer minus.ended (λ M. minus.clauses) (λ M. minus.spec) (λ κs a. a) (λ κs a r z. r)
+one-minus = by-equation (result-set minus.ended) (λ w. refl) _ (λ w κs a r z p. said (λ h. h) (p .holds))
+
+pub one-number : OneAnswer number.ended (λ M. number.clauses) (λ M. number.spec) (λ κs a. a) (λ κs a r z. r)
+one-number = by-equation (result-set number.ended) (λ w. refl) _ (λ w κs a r z p. said (λ h. h .0) (p .holds))

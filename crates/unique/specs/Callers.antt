@@ -10,7 +10,7 @@ use Rattle.oamd.proofs.WriteAnswer as write-answer
 use Rattle.oamd.specs.Answer.{Outcome, reading}
 use Rattle.reader.proofs.read as read
 use Rattle.writer.proofs.write as write
-use Rattle.written.specs.Answer.{Written, writing}
+use Rattle.form.specs.Answer.{Written, writing}
 use Rattle.unique.specs.OneAnswer.{ClausesOf, SpecOf, OneAnswer, by-equation, said, result-set, _beside_}
 
 -- Two answers, each with the bytes that it leaves in the two lent buffers, are the same, buffers too, if the payload's bytes and the bytes that stood in the

@@ -7,24 +7,24 @@ use lib.ListN.{length}
 use denote.Ref.{now}
 use borrow.Author.Tests.{leb-true, leb-false}
 use Rattle.bits.specs.Language.{pick}
-use Rattle.checks.proofs.carries as carries
-use Rattle.checks.proofs.config_at as config-at
-use Rattle.checks.proofs.divergence_at as divergence-at
-use Rattle.checks.proofs.first_bad as first-bad
-use Rattle.checks.proofs.precise_at as precise-at
-use Rattle.checks.proofs.programme_valid as programme-valid
-use Rattle.checks.proofs.record_count as record-count
-use Rattle.checks.proofs.sample_offset as sample-offset
-use Rattle.checks.proofs.scene_at as scene-at
-use Rattle.checks.proofs.timing_valid as timing-valid
-use Rattle.checks.proofs.trim_valid as trim-valid
+use Rattle.valid.proofs.carries as carries
+use Rattle.valid.proofs.config_at as config-at
+use Rattle.valid.proofs.divergence_at as divergence-at
+use Rattle.valid.proofs.first_bad as first-bad
+use Rattle.valid.proofs.precise_at as precise-at
+use Rattle.valid.proofs.programme_valid as programme-valid
+use Rattle.valid.proofs.record_count as record-count
+use Rattle.valid.proofs.sample_offset as sample-offset
+use Rattle.valid.proofs.scene_at as scene-at
+use Rattle.valid.proofs.timing_valid as timing-valid
+use Rattle.valid.proofs.trim_valid as trim-valid
 use Rattle.oamd.specs.Extended.{noDivergence, noPrecise}
 use Rattle.oamd.specs.Meaning.{idle}
 use Rattle.oamd.specs.Programme.{shares}
 use Rattle.oamd.specs.Tables.{recordStride, configBytes}
 use Rattle.oamd.specs.Trim.{noConfig, trimNeeded}
-use Rattle.written.specs.Answer.{sceneAt, divergenceAt, preciseAt, configAt, recordsAt, trimAt}
-use Rattle.written.specs.Valid.{_and_, firstStart, firstBad, recordCount, trimValid}
+use Rattle.form.specs.Answer.{sceneAt, divergenceAt, preciseAt, configAt, recordsAt, trimAt}
+use Rattle.form.specs.Valid.{_and_, firstStart, firstBad, recordCount, trimValid}
 use Rattle.unique.specs.OneAnswer.{OneAnswer, by-equation, said, both-said, result-set, _beside_}
 
 pub one-programme-valid : OneAnswer programme-valid.ended (λ M. programme-valid.clauses) (λ M. programme-valid.spec) (λ κs a. a) (λ κs a r z. r)

@@ -5,8 +5,6 @@ use mathlib.Core.List.{List, _++_}
 use Prim.Native.Nat.{ℕ}
 use Rattle.coding.proofs.Joins.{one-packed}
 use Rattle.coding.proofs.around as around
-use Rattle.coding.proofs.as_flag as as-flag
-use Rattle.coding.proofs.choice as choice
 use Rattle.coding.proofs.coded_offset as coded-offset
 use Rattle.coding.proofs.ending as ending
 use Rattle.coding.proofs.opening as opening
@@ -20,12 +18,6 @@ use Rattle.coding.proofs.sized as sized
 use Rattle.coding.specs.declared.Packed.{Packed}
 use Rattle.coding.specs.Packing.{Packs, openingBits, positioningBits, aroundBits, sizedBits, endingBits}
 use Rattle.unique.specs.OneAnswer.{OneAnswer, by-relation, by-equation, said, both-said, result-set}
-
-pub one-as-flag : OneAnswer as-flag.ended (λ M. as-flag.clauses) (λ M. as-flag.spec) (λ κs a. a) (λ κs a r z. r)
-one-as-flag = by-equation (result-set as-flag.ended) (λ w. refl) _ (λ w κs a r z p. said (λ h. h) (p .holds))
-
-pub one-choice : OneAnswer choice.ended (λ M. choice.clauses) (λ M. choice.spec) (λ κs a. a) (λ κs a r z. r)
-one-choice = by-equation (result-set choice.ended) (λ w. refl) _ (λ w κs a r z p. said (λ h. h) (p .holds))
 
 pub one-coded-offset : OneAnswer coded-offset.ended (λ M. coded-offset.clauses) (λ M. coded-offset.spec) (λ κs a. a) (λ κs a r z. r)
 one-coded-offset = by-equation (result-set coded-offset.ended) (λ w. refl) _ (λ w κs a r z p. said (λ h. h) (p .holds))

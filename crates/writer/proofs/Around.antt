@@ -6,7 +6,7 @@ use lib.ListN.{length, replicate}
 use Rattle.bits.specs.Writes.{toBits}
 use Rattle.writer.specs.Laying.{Laid}
 use Rattle.writer.proofs.LayLaws.{laid-bind, laid-is}
-use Rattle.written.specs.Form.{sizeBits, sizeFor, framedBits, elementBits}
+use Rattle.form.specs.Form.{sizeBits, sizeFor, framedBits, elementBits}
 
 regroup : (a b c d e : List ℕ) → ((a ++ (b ++ c)) ++ d) ++ e ≡ a ++ (b ++ ((c ++ d) ++ e))
 regroup a b c d e = simp append-assoc

@@ -4,7 +4,7 @@ use mathlib.Core.Bool.{Bool, true, false}
 use mathlib.Core.List.{List}
 use Prim.Native.Nat.{ℕ, suc, _+_, _-_, _≤_, _<_}
 use native.Mathlib.Omega.{arith}
-use Rattle.bits.specs.Language.{pick}
+use Rattle.bits.specs.Language.{pick, asFlag}
 use Rattle.bits.specs.Writes.{only, toBits, eachBits}
 use Rattle.writer.specs.declared.Groups.{Groups}
 use Rattle.writer.specs.Laying.{Laid}
@@ -14,9 +14,8 @@ use Rattle.oamd.specs.declared.Scene.{Scene}
 use Rattle.oamd.specs.declared.Divergence.{Divergence}
 use Rattle.oamd.specs.declared.Precise.{Precise}
 use Rattle.oamd.specs.Record.{Record, carries}
-use Rattle.written.specs.Coded.{asFlag}
-use Rattle.written.specs.Form.{divergenceBits, preciseBits, any, diverges, refines, extendedElementBits, hasExtended}
-use Rattle.written.specs.Answer.{sceneAt, divergenceAt, preciseAt, recordAt, recordsAt}
+use Rattle.form.specs.Form.{divergenceBits, preciseBits, any, diverges, refines, extendedElementBits, hasExtended}
+use Rattle.form.specs.Answer.{sceneAt, divergenceAt, preciseAt, recordAt, recordsAt}
 
 module _ (s t bytes : List ℕ) (at r k : ℕ) (scene : Scene) (sent : Bool) where
   pub divergence-at : (d : Divergence) → scene ≡ sceneAt bytes k → sent ≡ carries scene → d ≡ divergenceAt bytes k

@@ -14,9 +14,9 @@ use Rattle.oamd.specs.declared.Offset.{Offset}
 use Rattle.oamd.specs.declared.Update.{Update}
 use Rattle.oamd.specs.declared.Timing.{Timing}
 use Rattle.oamd.specs.Programme.{set?, clear?, hasBeds, hasIsf, hasDynamic}
-use Rattle.written.specs.Valid.{firstStart, sampleOffset}
-use Rattle.written.specs.Coded.{codedOffset, rampCode, codedUpdate}
-use Rattle.written.specs.Form.{countBits, bedBits, bedsBits, assignmentBits, headerBits, offsetBits, updateBits, timingBits, groupBits, sizeBits}
+use Rattle.form.specs.Valid.{firstStart, sampleOffset}
+use Rattle.form.specs.Coded.{codedOffset, rampCode, codedUpdate}
+use Rattle.form.specs.Form.{countBits, bedBits, bedsBits, assignmentBits, headerBits, offsetBits, updateBits, timingBits, groupBits, sizeBits}
 
 -- the same field, under another name for its value
 value : {s t : List ℕ} {at r x y : ℕ} (w : ℕ) → x ≡ y → Laid s t at r (toBits w x) → Laid s t at r (toBits w y)

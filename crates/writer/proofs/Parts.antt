@@ -9,7 +9,7 @@ use Rattle.bits.specs.Writes.{toBits, only}
 use Rattle.oamd.specs.declared.Scene.{Scene}
 use Rattle.oamd.specs.Programme.{set?}
 use Rattle.oamd.specs.Record.{carries}
-use Rattle.written.specs.Form.{statusBits, basicBits, renderBits, blockBits}
+use Rattle.form.specs.Form.{statusBits, basicBits, renderBits, blockBits}
 use Rattle.coding.specs.Packing.{openingBits, positioningBits, aroundBits, sizedBits, endingBits}
 use Rattle.writer.specs.Parts.{middleBits}
 

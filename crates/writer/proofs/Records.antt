@@ -12,13 +12,13 @@ use Rattle.bits.specs.Lists.{length-toBits}
 use Rattle.writer.specs.Laying.{Laid}
 use Rattle.writer.proofs.Entries.{steps-more, steps-none}
 use Rattle.writer.proofs.LayLaws.{laid-bind, laid-is, laid-only}
+use Rattle.bits.specs.Language.{asFlag}
 use Rattle.oamd.specs.declared.Precise.{Precise}
 use Rattle.oamd.specs.Record.{Record}
 use Rattle.oamd.specs.Payload.{Tables}
 use Rattle.oamd.specs.Extended.{hasX, hasY, hasZ}
-use Rattle.written.specs.Coded.{asFlag}
-use Rattle.written.specs.Form.{timingBits, byObject, objectDataBits, objectElementBits, preciseBits}
-use Rattle.written.specs.Answer.{recordAt, recordsAt}
+use Rattle.form.specs.Form.{timingBits, byObject, objectDataBits, objectElementBits, preciseBits}
+use Rattle.form.specs.Answer.{recordAt, recordsAt}
 
 module _ (f : ℕ → Record → List ℕ) (s : List ℕ) (n i k : ℕ) where
   pub records-more : i < n → eachBits f i (recordsAt s (n - i) k) ≡ f i (recordAt s k) ++ eachBits f (i + 1) (recordsAt s (n - (i + 1)) (k + 24))

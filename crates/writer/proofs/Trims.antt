@@ -8,8 +8,8 @@ use lib.ListN.{getD}
 use Rattle.bits.specs.Writes.{only, toBits, eachBits}
 use Rattle.oamd.specs.declared.TrimConfig.{TrimConfig}
 use Rattle.oamd.specs.Trim.{hasCentre, hasSurround, hasHeight, hasTb, hasLis}
-use Rattle.written.specs.Form.{hasTrim}
-use Rattle.written.specs.Answer.{configAt, configsAt, bytesAt, trimAt}
+use Rattle.form.specs.Form.{hasTrim}
+use Rattle.form.specs.Answer.{configAt, configsAt, bytesAt, trimAt}
 use Rattle.writer.specs.Laying.{Laid}
 use Rattle.writer.specs.Parts.{balancesBits, trimsBits}
 use Rattle.writer.proofs.LayLaws.{laid-bind, laid-only}

@@ -7,7 +7,7 @@ use native.Mathlib.Omega.{arith}
 use borrow.Author.Tests.{le-leb, lt-leb, lt-ltb, le-ltb}
 use lib.Dec.{leb}
 use lib.ListN.{length, replicate, length-append, length-replicate}
-use Rattle.bits.specs.Language.{pick}
+use Rattle.bits.specs.Language.{pick, asFlag}
 use Rattle.bits.specs.Writes.{toBits, only}
 use Rattle.bits.specs.Lists.{length-toBits}
 use Rattle.bits.specs.Bytes.{length-toBytes}
@@ -19,10 +19,9 @@ use Rattle.oamd.specs.Programme.{shares}
 use Rattle.oamd.specs.Record.{onto}
 use Rattle.oamd.specs.Trim.{trimNeeded}
 use Rattle.oamd.specs.Payload.{Tables}
-use Rattle.written.specs.Coded.{asFlag}
-use Rattle.written.specs.Form.{headerBits, objectElementBits, extendedElementBits, trimElementBits, sizeBits, sizeFor, framedBits, elementBits, hasObject, hasExtended, hasTrim, formBits, form}
-use Rattle.written.specs.Valid.{_and_, programmeValid, timingValid, firstBad, trimValid, recordCount}
-use Rattle.written.specs.Answer.{Written, recordsAt, trimAt, tablesOf, refusedTo, fitted, trimmed, judged, writing}
+use Rattle.form.specs.Form.{headerBits, objectElementBits, extendedElementBits, trimElementBits, sizeBits, sizeFor, framedBits, elementBits, hasObject, hasExtended, hasTrim, formBits, form}
+use Rattle.form.specs.Valid.{_and_, programmeValid, timingValid, firstBad, trimValid, recordCount}
+use Rattle.form.specs.Answer.{Written, recordsAt, trimAt, tablesOf, refusedTo, fitted, trimmed, judged, writing}
 use Rattle.writer.specs.Laying.{Laid, Bytes}
 use Rattle.writer.specs.Parts.{objectBits}
 use Rattle.writer.proofs.LayLaws.{laid-bind, laid-is, laid-only, laid-bytes}

@@ -14,9 +14,9 @@ use Rattle.oamd.specs.Trim.{hasCentre, hasSurround, hasHeight, hasTb, hasLis, t
 use Rattle.oamd.specs.Record.{Record, carries}
 use Rattle.oamd.specs.Payload.{Tables}
 use Rattle.coding.specs.Packing.{positioningBits, aroundBits, sizedBits}
-use Rattle.written.specs.Valid.{recordCount}
-use Rattle.written.specs.Form.{divergenceBits, preciseBits, any, diverges, refines, objectElementBits, extendedElementBits, trimElementBits, formBits}
-use Rattle.written.specs.Answer.{tablesOf}
+use Rattle.form.specs.Valid.{recordCount}
+use Rattle.form.specs.Form.{divergenceBits, preciseBits, any, diverges, refines, objectElementBits, extendedElementBits, trimElementBits, formBits}
+use Rattle.form.specs.Answer.{tablesOf}
 use Rattle.writer.specs.declared.Groups.{Groups}
 use Rattle.writer.specs.declared.Measures.{Measures}
 

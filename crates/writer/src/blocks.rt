@@ -6,14 +6,14 @@ ghost use Prim.Native.Nat.{_+_, _≤_};
 ghost use lib.ListN.{length};
 ghost use Rattle.bits.specs.Writes.{only};
 ghost use Rattle.coding.specs.Packing.{openingBits, endingBits};
-ghost use Rattle.written.specs.Form.{blockBits};
+ghost use Rattle.form.specs.Form.{blockBits};
 ghost use Rattle.writer.specs.Laying.{Laid};
 ghost use Rattle.writer.specs.Parts.{middleBits};
 use crate::putting::put_packed;
-use checks::carries;
 use oamd::Scene;
 use units::BitCount;
 use units::BitPos;
+use valid::carries;
 
 // Render info up to the size.
 fn put_middle(first: bool, out: &mut [u8], at: BitPos, s: Scene) -> BitPos

@@ -11,20 +11,20 @@ ghost use Rattle.bits.specs.Writes.{eachBits};
 ghost use Rattle.oamd.specs.Record.{carries};
 ghost use mathlib.Core.Bool.{true};
 ghost use Rattle.bits.specs.Language.{pick};
-ghost use Rattle.written.specs.Form.{divergenceBits, preciseBits, extendedElementBits};
+ghost use Rattle.form.specs.Form.{divergenceBits, preciseBits, extendedElementBits};
 ghost use Rattle.writer.specs.Parts.{extraBits, Needed};
-ghost use Rattle.written.specs.Answer.{sceneAt, divergenceAt, preciseAt, recordAt, recordsAt};
+ghost use Rattle.form.specs.Answer.{sceneAt, divergenceAt, preciseAt, recordAt, recordsAt};
 use crate::Groups;
 use crate::putting::put;
 use crate::putting::put_both;
 use crate::putting::put_if;
-use checks::divergence_at;
-use checks::precise_at;
-use checks::scene_at;
-use coding::as_flag;
+use bits::as_flag;
 use oamd::Divergence;
 use oamd::Precise;
 use units::BitPos;
+use valid::divergence_at;
+use valid::precise_at;
+use valid::scene_at;
 
 fn put_divergence(sent: bool, out: &mut [u8], at: BitPos, d: Divergence) -> BitPos
     requires { ⌜ at .0 ≤ 2000000 ⌝ }
@@ -42,9 +42,9 @@ fn put_axes(out: &mut [u8], at: BitPos, q: Precise) -> BitPos
     ensures { λ r. ⌜ Laid (now (out .entry)) (now (out .exit)) (at .0) (r .0) (only (hasX (q .presence)) (toBits 2 (q .x)) ++ (only (hasY (q .presence)) (toBits 2 (q .y)) ++ only (hasZ (q .presence)) (toBits 2 (q .z)))) ⌝ }
     ensures { λ r. ⌜ r .0 ≤ at .0 + 6 ⌝ }
 {
-    let x = oamd::flag(3, 2, q.presence as u32);
-    let y = oamd::flag(3, 1, q.presence as u32);
-    let z = oamd::flag(3, 0, q.presence as u32);
+    let x = oamd::has_x(q.presence as u32);
+    let y = oamd::has_y(q.presence as u32);
+    let z = oamd::has_z(q.presence as u32);
     let p = put_if(x, out, at, 2, q.x as u32);
     let p = put_if(y, out, p, 2, q.y as u32);
     put_if(z, out, p, 2, q.z as u32)
@@ -68,7 +68,7 @@ fn put_divergence_at(out: &mut [u8], at: BitPos, records: &[u8], k: usize) -> Bi
     ensures { λ r. ⌜ r .0 ≤ at .0 + 11 ⌝ }
 {
     let s = scene_at(records, k);
-    let sent = checks::carries(s);
+    let sent = valid::carries(s);
     let d = divergence_at(records, k);
     put_divergence(sent, out, at, d)
 }
@@ -80,7 +80,7 @@ fn put_precise_at(out: &mut [u8], at: BitPos, records: &[u8], k: usize) -> BitPo
     ensures { λ r. ⌜ r .0 ≤ at .0 + 10 ⌝ }
 {
     let s = scene_at(records, k);
-    let sent = checks::carries(s);
+    let sent = valid::carries(s);
     let d = precise_at(records, k);
     put_precise(sent, out, at, d)
 }
@@ -133,15 +133,6 @@ fn put_extras_if(
         return put_extras(first, out, at, records, n);
     }
     at
-}
-
-pub fn either(a: bool, b: bool) -> bool
-    ensures { λ r. ⌜ r ≡ pick a true b ⌝ }
-{
-    if a {
-        return true;
-    }
-    b
 }
 
 // Which of the two groups some record needs.

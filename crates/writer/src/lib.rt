@@ -1,8 +1,8 @@
 // `write`: a programme, a timing, record bytes and a trim table to a payload in a lent buffer, in the one form of documents 01 and 02. The parts lay their
 // fields clause by clause of the definition; what does not fit is not stored, so that a part laid over no room gives its length.
 ghost use mathlib.Core.Path.{_≡_};
-ghost use Rattle.written.specs.Form.{form};
-ghost use Rattle.written.specs.Answer.{tablesOf, refusedWrite, fitted, writing};
+ghost use Rattle.form.specs.Form.{form};
+ghost use Rattle.form.specs.Answer.{tablesOf, refusedWrite, fitted, writing};
 ghost use Rattle.writer.specs.Parts.{Enough};
 use oamd::Programme;
 use oamd::Timing;
@@ -12,14 +12,14 @@ use units::ByteCount;
 
 mod putting; // putting.rt: a field written
 mod blocks; // blocks.rt: a block
-mod head; // head.rt: what stands before the elements
+mod header; // header.rt: what stands before the elements
 mod timing; // timing.rt: the timing
 mod objects; // objects.rt: the object element's fields
 mod extended; // extended.rt: the extended object element's fields
 mod trim; // trim.rt: the trim element's fields
 mod sizes; // sizes.rt: an element's size
-mod frames; // frames.rt: the elements
-mod form; // form.rt: the whole form
+mod element; // element.rt: the elements
+mod payload; // payload.rt: the whole form
 
 // The longest payload.
 const MOST: u32 = 4096;
@@ -61,7 +61,7 @@ fn write_form(
     requires { ⌜ Enough q t (now records) (now trim) ⌝ }
     ensures { λ r. ⌜ (record { answer = r; out = now (payload .exit) }) ≡ fitted (now (payload .entry)) (form (tablesOf q t (now (records .entry)) (now (trim .entry)))) ⌝ }
 {
-    let m = form::measure(q, t, records, trim);
+    let m = payload::measure(q, t, records, trim);
     let whole = m.whole;
     let length = whole.bytes();
     let bytes = length.raw();
@@ -71,7 +71,7 @@ fn write_form(
     if MOST < bytes {
         return refused(11, bytes as u64);
     }
-    let p = form::put_form(payload, q, t, records, trim, m);
+    let p = payload::put_form(payload, q, t, records, trim, m);
     let pad = length.bit_count().minus(whole);
     putting::put_zeros(payload, p, pad);
     WriteAnswer {
@@ -91,21 +91,21 @@ pub fn write(
 ) -> WriteAnswer
     ensures { λ r. ⌜ (record { answer = r; out = now (payload .exit) }) ≡ writing programme timing (now (records .entry)) (now (trim .entry)) (now (payload .entry)) ⌝ }
 {
-    let count = checks::record_count(programme.objects, timing.blocks);
-    if !checks::programme_valid(programme) {
+    let count = valid::record_count(programme.objects, timing.blocks);
+    if !valid::programme_valid(programme) {
         return refused(10, 0);
     }
-    if !checks::timing_valid(timing) {
+    if !valid::timing_valid(timing) {
         return refused(10, 0);
     }
     if records.len() < 24 * count {
         return refused(10, 0);
     }
-    let bad = checks::first_bad(programme, timing, records);
+    let bad = valid::first_bad(programme, timing, records);
     if bad < count {
         return refused(10, 1 + bad as u64);
     }
-    if !checks::trim_valid(programme.objects, trim) {
+    if !valid::trim_valid(programme.objects, trim) {
         return refused(10, 1 + count as u64);
     }
     write_form(programme, timing, records, trim, payload)

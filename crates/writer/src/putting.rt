@@ -93,7 +93,7 @@ pub fn put_both(a: bool, b: bool, out: &mut [u8], at: BitPos, w: u32, v: u32) ->
     ensures { λ r. ⌜ Laid (now (out .entry)) (now (out .exit)) (at .0) (r .0) (only (both a b) (toBits w v)) ⌝ }
     ensures { λ r. ⌜ r .0 ≤ at .0 + w ⌝ }
 {
-    let on = oamd::both(a, b);
+    let on = bits::both(a, b);
     put_if(on, out, at, w, v)
 }
 

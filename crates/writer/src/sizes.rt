@@ -4,18 +4,12 @@ ghost use Prim.Native.Nat.{_+_, _*_, _≤_};
 ghost use Rattle.writer.specs.Laying.{Laid};
 ghost use Prim.Native.Nat.{_-_};
 ghost use Rattle.bits.specs.Writes.{only};
-ghost use Rattle.written.specs.Form.{groupBits, sizeBits, sizeFor};
+ghost use Rattle.form.specs.Form.{groupBits, sizeBits, sizeFor};
 use crate::putting::put;
+use bits::minus;
 use units::BitCount;
 use units::BitPos;
 use units::ByteCount;
-
-// a - b, or 0.
-fn minus(a: u32, b: u32) -> u32
-    ensures { λ r. ⌜ r ≡ a - b ⌝ }
-{
-    if a < b { 0 } else { a - b }
-}
 
 // The size of an element with n bits inside.
 pub fn size_for(n: BitCount) -> u32

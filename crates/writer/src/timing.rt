@@ -7,12 +7,12 @@ ghost use lib.ListN.{take};
 ghost use Rattle.bits.specs.Language.{both};
 ghost use Rattle.bits.specs.Writes.{toBits, only, eachBits};
 ghost use Rattle.oamd.specs.Programme.{set?, clear?};
-ghost use Rattle.written.specs.Coded.{codedUpdate};
-ghost use Rattle.written.specs.Form.{offsetBits, updateBits, timingBits};
+ghost use Rattle.form.specs.Coded.{codedUpdate};
+ghost use Rattle.form.specs.Form.{offsetBits, updateBits, timingBits};
 use crate::putting::put;
 use crate::putting::put_both;
 use crate::putting::put_if;
-use checks::sample_offset;
+use bits::less;
 use coding::coded_offset;
 use coding::ramp_bits;
 use coding::ramp_code;
@@ -21,8 +21,8 @@ use coding::ramp_indexed;
 use oamd::Offset;
 use oamd::Timing;
 use oamd::Update;
-use oamd::less;
 use units::BitPos;
+use valid::sample_offset;
 
 fn put_offset(out: &mut [u8], at: BitPos, o: Offset) -> BitPos
     requires { ⌜ at .0 ≤ 2000000 ⌝ }

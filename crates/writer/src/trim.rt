@@ -2,16 +2,16 @@
 ghost use Prim.Native.Nat.{_+_, _≤_};
 ghost use lib.ListN.{length};
 ghost use Rattle.bits.specs.Writes.{toBits, only, eachBits};
-ghost use Rattle.written.specs.Form.{configBits, trimElementBits};
-ghost use Rattle.written.specs.Answer.{configsAt, bytesAt, trimAt};
+ghost use Rattle.form.specs.Form.{configBits, trimElementBits};
+ghost use Rattle.form.specs.Answer.{configsAt, bytesAt, trimAt};
 ghost use Rattle.writer.specs.Laying.{Laid};
 ghost use Rattle.writer.specs.Parts.{balancesBits, trimsBits};
 use crate::putting::put;
 use crate::putting::put_both;
 use crate::putting::put_if;
-use checks::config_at;
 use oamd::TrimConfig;
 use units::BitPos;
+use valid::config_at;
 
 // The two balances: a sign and an amount each (Table 34).
 fn put_balances(out: &mut [u8], at: BitPos, c: TrimConfig) -> BitPos
@@ -19,8 +19,8 @@ fn put_balances(out: &mut [u8], at: BitPos, c: TrimConfig) -> BitPos
     ensures { λ r. ⌜ Laid (now (out .entry)) (now (out .exit)) (at .0) (r .0) (balancesBits c) ⌝ }
     ensures { λ r. ⌜ r .0 ≤ at .0 + 10 ⌝ }
 {
-    let tb = oamd::flag(5, 1, c.presence as u32);
-    let lis = oamd::flag(5, 0, c.presence as u32);
+    let tb = oamd::has_tb(c.presence as u32);
+    let lis = oamd::has_lis(c.presence as u32);
     let p = put_if(tb, out, at, 1, c.tbsign as u32);
     let p = put_if(tb, out, p, 4, c.tbamount as u32);
     let p = put_if(lis, out, p, 1, c.lissign as u32);
@@ -33,9 +33,9 @@ fn put_trims(out: &mut [u8], at: BitPos, c: TrimConfig) -> BitPos
     ensures { λ r. ⌜ Laid (now (out .entry)) (now (out .exit)) (at .0) (r .0) (trimsBits c) ⌝ }
     ensures { λ r. ⌜ r .0 ≤ at .0 + 22 ⌝ }
 {
-    let centre = oamd::flag(5, 4, c.presence as u32);
-    let surround = oamd::flag(5, 3, c.presence as u32);
-    let height = oamd::flag(5, 2, c.presence as u32);
+    let centre = oamd::has_centre(c.presence as u32);
+    let surround = oamd::has_surround(c.presence as u32);
+    let height = oamd::has_height(c.presence as u32);
     let p = put_if(centre, out, at, 4, c.centre as u32);
     let p = put_if(surround, out, p, 4, c.surround as u32);
     let p = put_if(height, out, p, 4, c.height as u32);

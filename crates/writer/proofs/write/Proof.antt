@@ -8,11 +8,11 @@ use lib.ListN.{length}
 use native.Mathlib.Omega.{arith}
 use Rattle.oamd.specs.declared.WriteAnswer.{WriteAnswer}
 use Rattle.oamd.specs.Tables.{recordStride}
-use Rattle.written.specs.Valid.{recordCount}
-use Rattle.written.specs.Answer.{refusedWrite}
-use Rattle.written.specs.Lemmas.Facts.{halves}
-use Rattle.written.specs.Lemmas.TimingBack.{timing-facts}
-use Rattle.written.specs.Lemmas.ProgrammeBack.{programme-facts, beds-le}
+use Rattle.form.specs.Valid.{recordCount}
+use Rattle.form.specs.Answer.{refusedWrite}
+use Rattle.form.specs.Lemmas.Tests.{halves}
+use Rattle.form.specs.Lemmas.Facts.{timing-facts}
+use Rattle.form.specs.Lemmas.Facts.{programme-facts, beds-le}
 use Rattle.writer.proofs.Whole.{gives, bad-programme, bad-timing, few-bytes, bad-record, bad-trim, good-trim}
 use Rattle.writer.proofs.write.Statement.{statement}
 use Rattle.writer.proofs.write.Tie as tie

@@ -5,7 +5,7 @@ use mathlib.Core.Path.{_≡_, sym, ap, _∙_}
 use Prim.Native.Nat.{ℕ, _+_, _*_, _/_}
 use native.Mathlib.Omega.{arith}
 use Rattle.oamd.specs.declared.WriteAnswer.{WriteAnswer}
-use Rattle.written.specs.Answer.{tablesOf}
+use Rattle.form.specs.Answer.{tablesOf}
 use Rattle.writer.proofs.LayLaws.{laid-bind}
 use Rattle.writer.proofs.Whole.{gives, no-room, too-long, fits}
 use Rattle.writer.proofs.write_form.Statement.{statement}

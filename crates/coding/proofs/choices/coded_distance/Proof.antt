@@ -1,5 +1,5 @@
 use borrow.Author.Needs.{needs}
-use Rattle.written.specs.Coded.{codedDistance}
+use Rattle.form.specs.Coded.{codedDistance}
 use Rattle.coding.proofs.choices.coded_distance.Statement.{statement}
 use Rattle.coding.proofs.choices.coded_distance.Tie as tie
 

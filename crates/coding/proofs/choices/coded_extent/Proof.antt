@@ -1,5 +1,5 @@
 use borrow.Author.Needs.{needs}
-use Rattle.written.specs.Coded.{codedExtent}
+use Rattle.form.specs.Coded.{codedExtent}
 use Rattle.coding.proofs.choices.coded_extent.Statement.{statement}
 use Rattle.coding.proofs.choices.coded_extent.Tie as tie
 

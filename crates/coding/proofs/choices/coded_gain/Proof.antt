@@ -1,5 +1,5 @@
 use borrow.Author.Needs.{needs}
-use Rattle.written.specs.Coded.{codedGain}
+use Rattle.form.specs.Coded.{codedGain}
 use Rattle.coding.proofs.choices.coded_gain.Statement.{statement}
 use Rattle.coding.proofs.choices.coded_gain.Tie as tie
 

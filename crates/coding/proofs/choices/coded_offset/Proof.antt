@@ -1,5 +1,5 @@
 use borrow.Author.Needs.{needs}
-use Rattle.written.specs.Coded.{codedOffset}
+use Rattle.form.specs.Coded.{codedOffset}
 use Rattle.coding.proofs.choices.coded_offset.Statement.{statement}
 use Rattle.coding.proofs.choices.coded_offset.Tie as tie
 

@@ -1,5 +1,5 @@
 use borrow.Author.Needs.{needs}
-use Rattle.written.specs.Coded.{codedPriority}
+use Rattle.form.specs.Coded.{codedPriority}
 use Rattle.coding.proofs.choices.coded_priority.Statement.{statement}
 use Rattle.coding.proofs.choices.coded_priority.Tie as tie
 

@@ -1,5 +1,5 @@
 use borrow.Author.Needs.{needs}
-use Rattle.written.specs.Coded.{gainIndex}
+use Rattle.form.specs.Coded.{gainIndex}
 use Rattle.coding.proofs.choices.gain_index.Statement.{statement}
 use Rattle.coding.proofs.choices.gain_index.Tie as tie
 

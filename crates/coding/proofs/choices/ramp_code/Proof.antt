@@ -1,5 +1,5 @@
 use borrow.Author.Needs.{needs}
-use Rattle.written.specs.Coded.{rampCode}
+use Rattle.form.specs.Coded.{rampCode}
 use Rattle.coding.proofs.choices.ramp_code.Statement.{statement}
 use Rattle.coding.proofs.choices.ramp_code.Tie as tie
 

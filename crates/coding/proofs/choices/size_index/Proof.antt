@@ -1,5 +1,5 @@
 use borrow.Author.Needs.{needs}
-use Rattle.written.specs.Coded.{sizeIndex}
+use Rattle.form.specs.Coded.{sizeIndex}
 use Rattle.coding.proofs.choices.size_index.Statement.{statement}
 use Rattle.coding.proofs.choices.size_index.Tie as tie
 

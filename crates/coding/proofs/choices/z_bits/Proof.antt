@@ -1,5 +1,5 @@
 use borrow.Author.Needs.{needs}
-use Rattle.written.specs.Coded.{zBits}
+use Rattle.form.specs.Coded.{zBits}
 use Rattle.coding.proofs.choices.z_bits.Statement.{statement}
 use Rattle.coding.proofs.choices.z_bits.Tie as tie
 

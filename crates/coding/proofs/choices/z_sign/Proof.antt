@@ -1,5 +1,5 @@
 use borrow.Author.Needs.{needs}
-use Rattle.written.specs.Coded.{zSign}
+use Rattle.form.specs.Coded.{zSign}
 use Rattle.coding.proofs.choices.z_sign.Statement.{statement}
 use Rattle.coding.proofs.choices.z_sign.Tie as tie
 

@@ -1,7 +1,7 @@
 use borrow.Author.Needs.{needs}
 use native.Mathlib.Omega.{arith}
 use Rattle.coding.proofs.Joins.{then-packs}
-use Rattle.written.specs.Form.{basicBits}
+use Rattle.form.specs.Form.{basicBits}
 use Rattle.coding.proofs.parts.basic.Statement.{statement}
 use Rattle.coding.proofs.parts.basic.Tie as tie
 

@@ -5,7 +5,7 @@ use Rattle.coding.proofs.Joins.{then-packs, if-packs, packs-is}
 use mathlib.Core.Path.{ap}
 use mathlib.Core.Bool.{Bool}
 use Rattle.bits.specs.Writes.{toBits, only}
-use Rattle.written.specs.Form.{distanceBits}
+use Rattle.form.specs.Form.{distanceBits}
 use Rattle.coding.proofs.parts.distance.Statement.{statement}
 use Rattle.coding.proofs.parts.distance.Tie as tie
 

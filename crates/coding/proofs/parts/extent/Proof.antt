@@ -3,7 +3,7 @@ use native.Mathlib.Omega.{arith}
 use lib.Dec.{eqb}
 use Rattle.coding.proofs.Joins.{then-packs, if-packs, packs-is}
 use mathlib.Core.Path.{ap}
-use Rattle.written.specs.Form.{extentBits}
+use Rattle.form.specs.Form.{extentBits}
 use Rattle.coding.proofs.parts.extent.Statement.{statement}
 use Rattle.coding.proofs.parts.extent.Tie as tie
 

@@ -4,7 +4,7 @@ use mathlib.Core.Bool.{not}
 use Rattle.coding.proofs.Joins.{then-packs, if-packs, packs-is}
 use mathlib.Core.Path.{ap}
 use Rattle.bits.specs.Writes.{toBits}
-use Rattle.written.specs.Form.{positionBits}
+use Rattle.form.specs.Form.{positionBits}
 use Rattle.coding.proofs.parts.position.Statement.{statement}
 use Rattle.coding.proofs.parts.position.Tie as tie
 

@@ -2,7 +2,7 @@ use borrow.Author.Needs.{needs}
 use native.Mathlib.Omega.{arith}
 use lib.Dec.{eqb}
 use Rattle.coding.proofs.Joins.{then-packs, if-packs}
-use Rattle.written.specs.Form.{screenBits}
+use Rattle.form.specs.Form.{screenBits}
 use Rattle.coding.proofs.parts.screen.Statement.{statement}
 use Rattle.coding.proofs.parts.screen.Tie as tie
 

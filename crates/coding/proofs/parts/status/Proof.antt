@@ -4,7 +4,7 @@ use Rattle.coding.proofs.Joins.{if-packs, packs-is}
 use mathlib.Core.Path.{ap}
 use mathlib.Core.Bool.{Bool}
 use Rattle.bits.specs.Writes.{toBits, only}
-use Rattle.written.specs.Form.{statusBits}
+use Rattle.form.specs.Form.{statusBits}
 use Rattle.coding.proofs.parts.status.Statement.{statement}
 use Rattle.coding.proofs.parts.status.Tie as tie
 

@@ -1,7 +1,7 @@
 use borrow.Author.Needs.{needs}
 use native.Mathlib.Omega.{arith}
 use Rattle.coding.proofs.Joins.{then-packs}
-use Rattle.written.specs.Form.{zoneBits}
+use Rattle.form.specs.Form.{zoneBits}
 use Rattle.coding.proofs.parts.zone.Statement.{statement}
 use Rattle.coding.proofs.parts.zone.Tie as tie
 

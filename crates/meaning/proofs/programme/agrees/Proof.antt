@@ -12,13 +12,13 @@ returns : tie.Need-returns
 unfolding agrees
 returns c =
     let n = c .before .before .before .before .before .before in
-    chosen _ _ _ _ _ (c .before .flag .ensures) (c .if1 .taken) (ap (λ (s : Shares). leb (total s) (n .before .args .p .objects)) (n .named-by .ensures .0))
+    chosen _ _ _ _ _ (c .before .has-reserved .ensures) (c .if1 .taken) (ap (λ (s : Shares). leb (total s) (n .before .args .p .objects)) (n .named-by .ensures .0))
 
 returns-2 : tie.Need-returns-2
 unfolding agrees
 returns-2 c =
     let n = c .before .before .before .before .before .before in
-    passed _ _ _ _ _ (c .before .flag .ensures) (c .if1 .left) (ap (λ (s : Shares). eqb (total s) (n .before .args .p .objects)) (n .named-by .ensures .0))
+    passed _ _ _ _ _ (c .before .has-reserved .ensures) (c .if1 .left) (ap (λ (s : Shares). eqb (total s) (n .before .args .p .objects)) (n .named-by .ensures .0))
 
 pub agrees-spec : {M : Type 1} → statement M
 agrees-spec =

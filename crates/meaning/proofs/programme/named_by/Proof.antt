@@ -36,7 +36,7 @@ programme j = j .before .before .before .before .before .before .before .args .p
 -- its ISF objects, where the two branches meet
 isf-named : (j : tie.Joined3) → (j .if3 .isf ≡ pick (hasIsf (programme j .content)) (getD isfObjects (programme j .isf) 0) 0) × (j .if3 .isf ≤ 255)
 isf-named j =
-    let e = j .before .flag .ensures in
+    let e = j .before .has-isf .ensures in
     ⊎-elim
     (λ w. (chosen _ _ _ _ _ e (w .0 .taken) (w .2 ∙ w .1 .ensures), omega arith))
     (λ w. (passed _ _ _ _ _ e (w .0 .left) (w .1), omega arith))
@@ -47,7 +47,7 @@ returns-2 c =
     let j = c .before .before .before in
     let b = j .before .before in
     let i = isf-named j in
-    let d = chosen _ _ _ _ _ (c .before .before .flag2 .ensures) (c .before .if4 .taken) refl in
+    let d = chosen _ _ _ _ _ (c .before .before .has-dynamic .ensures) (c .before .if4 .taken) refl in
     (mixed _ _ (b .before .before .before .if1 .left) (b .all-beds .ensures .0) (i .0) d, omega arith, i .1, omega (arith, c .struct-known6))
 
 returns-3 : tie.Need-returns-3
@@ -55,7 +55,7 @@ returns-3 c =
     let j = c .before .before in
     let b = j .before .before in
     let i = isf-named j in
-    let d = passed _ _ _ _ _ (c .before .flag2 .ensures) (c .if4 .left) refl in
+    let d = passed _ _ _ _ _ (c .before .has-dynamic .ensures) (c .if4 .left) refl in
     (mixed _ _ (b .before .before .before .if1 .left) (b .all-beds .ensures .0) (i .0) d, omega arith, i .1, omega arith)
 
 pub named-by-spec : {M : Type 1} → statement M

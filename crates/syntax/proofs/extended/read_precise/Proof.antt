@@ -16,9 +16,9 @@ returns c =
     emptied (c .with-value .ensures)
     (h0 .take-if .ensures .reads
     ▸ h1 .take-if2 .ensures .reads
-    ▸ (rw (h2 .before .flag .ensures) at (h2 .take-if3 .ensures .reads))
-    ▸ (rw (h3 .before .flag2 .ensures) at (h3 .take-if4 .ensures .reads))
-    ▸ (rw (h4 .before .flag3 .ensures) at (h4 .take-if5 .ensures .reads))
+    ▸ (rw (h2 .before .has-x .ensures) at (h2 .take-if3 .ensures .reads))
+    ▸ (rw (h3 .before .has-y .ensures) at (h3 .take-if4 .ensures .reads))
+    ▸ (rw (h4 .before .has-z .ensures) at (h4 .take-if5 .ensures .reads))
     ▸ plain)
 
 pub read-precise-spec : {M : Type 1} → statement M

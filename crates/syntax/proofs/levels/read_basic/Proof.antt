@@ -22,10 +22,10 @@ returns c =
     let h1 = h2 .before .before in
     let h0 = h1 .before .before in
     h0 .read-parts .ensures .reads
-    ▸ (rw (h1 .before .flag .ensures) at (h1 .take-if .ensures .reads))
+    ▸ (rw (h1 .before .has-gain .ensures) at (h1 .take-if .ensures .reads))
     ▸ h2 .take-if2 .ensures .reads
-    ▸ (rw (h3 .before .flag2 .ensures) at (h3 .take-if3 .ensures .reads))
-    ▸ (rw (h4 .before .both .ensures, h3 .before .flag2 .ensures) at (h4 .take-if4 .ensures .reads))
+    ▸ (rw (h3 .before .has-priority .ensures) at (h3 .take-if3 .ensures .reads))
+    ▸ (rw (h4 .before .both .ensures, h3 .before .has-priority .ensures) at (h4 .take-if4 .ensures .reads))
     ▸ plain
 
 pub read-basic-spec : {M : Type 1} → statement M

@@ -8,7 +8,7 @@ returns : tie.Need-returns
 unfolding reserved-data
 returns c =
     let h0 = c .before .before .before in
-    let f = h0 .before .flag .ensures in
+    let f = h0 .before .has-reserved .ensures in
     let g = rw (f, c .before .new .ensures) at (c .skip-if .ensures) in
     record { reads = (rw f at (h0 .take-if .ensures .reads)) ▸ g .reads; empty = g .empty }
 

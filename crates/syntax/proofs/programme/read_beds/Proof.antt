@@ -52,7 +52,7 @@ returns c =
     let h2 = o .before .before in
     let h1 = h2 .before .before in
     let h0 = h1 .before in
-    let f = h0 .before .flag .ensures in
+    let f = h0 .before .has-beds .ensures in
     record {
       value = record { distribute = h0 .take-if .result .v; multiple = h1 .take-if2 .result .v; instances = h2 .take-if3 .result .v; beds = r .list };
       reads = (rw f at (h0 .take-if .ensures .reads))

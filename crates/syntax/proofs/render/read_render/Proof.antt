@@ -21,11 +21,11 @@ returns c =
     let h1 = h2 .before in
     let h0 = h1 .before .before in
     h0 .read-parts .ensures .reads
-    ▸ (rw (h1 .before .flag .ensures) at (h1 .read-position .ensures))
-    ▸ (rw (h1 .before .flag .ensures) at (h2 .read-distance .ensures))
-    ▸ (rw (h3 .before .flag2 .ensures) at (h3 .read-zone .ensures))
-    ▸ (rw (h4 .before .flag3 .ensures) at (h4 .read-extent .ensures))
-    ▸ (rw (h5 .before .flag4 .ensures) at (h5 .read-screen .ensures))
+    ▸ (rw (h1 .before .has-position .ensures) at (h1 .read-position .ensures))
+    ▸ (rw (h1 .before .has-position .ensures) at (h2 .read-distance .ensures))
+    ▸ (rw (h3 .before .has-zone .ensures) at (h3 .read-zone .ensures))
+    ▸ (rw (h4 .before .has-size .ensures) at (h4 .read-extent .ensures))
+    ▸ (rw (h5 .before .has-screen .ensures) at (h5 .read-screen .ensures))
     ▸ (rw (h6 .before .sends-any .ensures) at (h6 .take-if .ensures .reads))
     ▸ plain
 

@@ -36,15 +36,15 @@ returns c =
     let h3 = h4 .before .before in
     let h2 = h3 .before .before .before .before in
     let h1 = h2 .before .before in
-    let tb = rw (h7 .before .flag4 .ensures) at (h7 .read-balance .ensures) in
-    let lis = rw (h8 .before .flag5 .ensures) at (h8 .read-balance2 .ensures) in
+    let tb = rw (h7 .before .has-tb .ensures) at (h7 .read-balance .ensures) in
+    let lis = rw (h8 .before .has-lis .ensures) at (h8 .read-balance2 .ensures) in
     emptied (c .with-value .ensures)
     (h1 .take .ensures .reads
     ▸ h2 .take-if .ensures .reads
     ▸ (rw (h3 .before .both .ensures) at (h3 .take-if2 .ensures .reads))
-    ▸ (rw (h4 .before .flag .ensures) at (h4 .take-if3 .ensures .reads))
-    ▸ (rw (h5 .before .flag2 .ensures) at (h5 .take-unless .ensures .reads))
-    ▸ (rw (h6 .before .flag3 .ensures) at (h6 .take-unless2 .ensures .reads))
+    ▸ (rw (h4 .before .has-centre .ensures) at (h4 .take-if3 .ensures .reads))
+    ▸ (rw (h5 .before .has-surround .ensures) at (h5 .take-unless .ensures .reads))
+    ▸ (rw (h6 .before .has-height .ensures) at (h6 .take-unless2 .ensures .reads))
     ▸ tb .sign
     ▸ tb .amount
     ▸ lis .sign

@@ -1,6 +1,6 @@
 use borrow.Author.Needs.{needs}
 use Rattle.writer.proofs.LayLaws.{laid-bind, laid-length}
-use Rattle.written.specs.Form.{divergenceBits}
+use Rattle.form.specs.Form.{divergenceBits}
 use native.Mathlib.Omega.{arith}
 use Rattle.writer.proofs.extended.put_divergence.Statement.{statement}
 use Rattle.writer.proofs.extended.put_divergence.Tie as tie

@@ -7,10 +7,10 @@ use borrow.Author.Needs.{needs}
 use lib.ListN.{length}
 use Rattle.bits.specs.Writes.{eachBits}
 use Rattle.writer.proofs.LayLaws.{Rest, rest-start, rest-step, rest-end, laid-is}
-use Rattle.written.specs.Answer.{recordsAt}
+use Rattle.form.specs.Answer.{recordsAt}
 use lib.Dec.{eqb}
 use Rattle.oamd.specs.declared.Scene.{Scene}
-use Rattle.written.specs.Form.{blockBits, objectDataBits}
+use Rattle.form.specs.Form.{blockBits, objectDataBits}
 use Rattle.writer.proofs.Records.{records-more, records-none}
 use Rattle.writer.proofs.objects.put_object_data.Statement.{statement}
 use Rattle.writer.proofs.objects.put_object_data.Tie as tie

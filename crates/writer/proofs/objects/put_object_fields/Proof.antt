@@ -1,6 +1,6 @@
 use borrow.Author.Needs.{needs}
 use Rattle.writer.proofs.LayLaws.{laid-bind, laid-length}
-use Rattle.written.specs.Form.{objectElementBits}
+use Rattle.form.specs.Form.{objectElementBits}
 use native.Mathlib.Omega.{arith}
 use Rattle.writer.proofs.objects.put_object_fields.Statement.{statement}
 use Rattle.writer.proofs.objects.put_object_fields.Tie as tie

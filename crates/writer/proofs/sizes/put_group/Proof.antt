@@ -1,6 +1,6 @@
 use borrow.Author.Needs.{needs}
 use Rattle.writer.proofs.LayLaws.{laid-bind, laid-length}
-use Rattle.written.specs.Form.{groupBits}
+use Rattle.form.specs.Form.{groupBits}
 use native.Mathlib.Omega.{arith}
 use Rattle.writer.proofs.sizes.put_group.Statement.{statement}
 use Rattle.writer.proofs.sizes.put_group.Tie as tie

@@ -1,5 +1,5 @@
 use borrow.Author.Needs.{needs}
-use Rattle.written.specs.Form.{sizeFor}
+use Rattle.form.specs.Form.{sizeFor}
 use Rattle.writer.proofs.sizes.size_for.Statement.{statement}
 use Rattle.writer.proofs.sizes.size_for.Tie as tie
 

@@ -1,6 +1,6 @@
 use borrow.Author.Needs.{needs}
 use Rattle.writer.proofs.LayLaws.{laid-bind, laid-length}
-use Rattle.written.specs.Form.{offsetBits}
+use Rattle.form.specs.Form.{offsetBits}
 use native.Mathlib.Omega.{arith}
 use Rattle.writer.proofs.timing.put_offset.Statement.{statement}
 use Rattle.writer.proofs.timing.put_offset.Tie as tie

@@ -7,8 +7,8 @@ use borrow.Author.Needs.{needs}
 use lib.ListN.{length, take, drop}
 use Rattle.bits.specs.Writes.{eachBits}
 use Rattle.writer.proofs.LayLaws.{Rest, rest-start, rest-step, rest-end}
-use Rattle.written.specs.Coded.{codedUpdate}
-use Rattle.written.specs.Form.{updateBits}
+use Rattle.form.specs.Coded.{codedUpdate}
+use Rattle.form.specs.Form.{updateBits}
 use Rattle.writer.proofs.Entries.{each-more, each-none}
 use Rattle.writer.proofs.timing.put_updates.Statement.{statement}
 use Rattle.writer.proofs.timing.put_updates.Tie as tie

@@ -28,7 +28,7 @@ returns c =
     let lis = a .before .before .before in
     let tb = lis .before .before in
     let start = tb .before .before .before in (
-      balances-laid (start .args .c) (tb .flag .ensures) (lis .flag2 .ensures) (a .put-if .ensures .0) (b .put-if2 .ensures .0) (d .put-if3 .ensures .0) (f .put-if4 .ensures .0),
+      balances-laid (start .args .c) (tb .has-tb .ensures) (lis .has-lis .ensures) (a .put-if .ensures .0) (b .put-if2 .ensures .0) (d .put-if3 .ensures .0) (f .put-if4 .ensures .0),
       omega (arith, a .put-if .ensures .1, b .put-if2 .ensures .1, d .put-if3 .ensures .1, f .put-if4 .ensures .1),
     )
 

@@ -1,6 +1,6 @@
 use borrow.Author.Needs.{needs}
 use native.Mathlib.Omega.{arith}
-use Rattle.written.specs.Form.{configBits}
+use Rattle.form.specs.Form.{configBits}
 use Rattle.writer.proofs.LayLaws.{laid-bind, laid-length}
 use Rattle.writer.proofs.trim.put_config.Statement.{statement}
 use Rattle.writer.proofs.trim.put_config.Tie as tie

@@ -5,8 +5,8 @@ use native.Mathlib.Omega.{arith}
 use borrow.Author.Needs.{needs}
 use lib.ListN.{length}
 use Rattle.bits.specs.Writes.{eachBits}
-use Rattle.written.specs.Form.{configBits}
-use Rattle.written.specs.Answer.{configsAt}
+use Rattle.form.specs.Form.{configBits}
+use Rattle.form.specs.Answer.{configsAt}
 use Rattle.writer.proofs.LayLaws.{laid-is, Rest, rest-start, rest-step, rest-end}
 use Rattle.writer.proofs.Trims.{configs-more, configs-none}
 use Rattle.writer.proofs.trim.put_configs.Statement.{statement}

@@ -1,7 +1,7 @@
 use borrow.Author.Needs.{needs}
 use native.Mathlib.Omega.{arith}
-use Rattle.written.specs.Form.{trimElementBits}
-use Rattle.written.specs.Answer.{trimAt}
+use Rattle.form.specs.Form.{trimElementBits}
+use Rattle.form.specs.Answer.{trimAt}
 use Rattle.writer.proofs.LayLaws.{laid-bind, laid-length}
 use Rattle.writer.proofs.trim.put_trim_fields.Statement.{statement}
 use Rattle.writer.proofs.trim.put_trim_fields.Tie as tie

@@ -29,7 +29,7 @@ returns c =
     let surround = height .before .before in
     let centre = surround .before .before in
     let start = centre .before .before .before in (
-      trims-laid (start .args .c) (centre .flag .ensures) (surround .flag2 .ensures) (height .flag3 .ensures) (a .put-if .ensures .0) (b .put-if2 .ensures .0) (d .put-if3 .ensures .0) (f .put-balances .ensures .0),
+      trims-laid (start .args .c) (centre .has-centre .ensures) (surround .has-surround .ensures) (height .has-height .ensures) (a .put-if .ensures .0) (b .put-if2 .ensures .0) (d .put-if3 .ensures .0) (f .put-balances .ensures .0),
       omega (arith, a .put-if .ensures .1, b .put-if2 .ensures .1, d .put-if3 .ensures .1, f .put-balances .ensures .1),
     )
 

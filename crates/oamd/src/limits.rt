@@ -1,0 +1,34 @@
+// The limits of specs/Tables.antt under the same names: contracts say those, code says these. Both are read by a proof wherever one meets the other.
+
+// A payload's bytes, at the most.
+pub const MOST_BYTES: usize = 4096;
+
+// The update blocks, at the most.
+pub const MOST_BLOCKS: usize = 8;
+
+// The bed instances, at the most.
+pub const MOST_BEDS: usize = 9;
+
+// From one record to the next.
+pub const RECORD_STRIDE: usize = 24;
+
+// Room for the records of every payload.
+pub const ROOM_BYTES: usize = 30720;
+
+// The configurations of the trim element.
+pub const TRIM_CONFIGS: usize = 9;
+
+// The bytes of a trim configuration in the trim table.
+pub const CONFIG_BYTES: usize = 10;
+
+// The bytes of the trim table before the configurations.
+pub const TRIM_HEAD: usize = 3;
+
+// The byte of the trim table that is b_disable_trim_per_obj.
+pub const PER_OBJECT_BYTE: usize = 93;
+
+// The bytes of the trim table before the flags of the objects.
+pub const TRIM_FIXED: usize = 94;
+
+// Room for the trim table of every payload.
+pub const MOST_TRIM: usize = 253;

@@ -1,0 +1,16 @@
+pub mod Lemmas
+pub mod RoundTrip
+pub mod WriteRead
+pub mod Accepted
+pub mod ReadWrite
+pub mod Given
+pub mod GivenRecord
+pub mod GivenTrim
+pub mod Fewest
+pub mod FewestFrames
+pub mod FewestExtended
+pub mod FewestTrim
+pub mod AcceptedRecords
+pub mod Ranges
+pub mod Longest
+pub mod LongestReached

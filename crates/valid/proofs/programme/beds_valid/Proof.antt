@@ -1,0 +1,40 @@
+-- `beds_valid` meets its contract: before bed i, the test so far and that of the beds from i on are the whole test (`Entries.antt`). Assumes nothing.
+use mathlib.Core.Path.{_≡_}
+use Prim.Native.Nat.{_-_}
+use native.Mathlib.Omega.{arith}
+use lib.ListN.{length}
+use borrow.Author.Needs.{needs}
+use Rattle.form.specs.Valid.{bedValid}
+use Rattle.valid.proofs.Entries.{SoFar, none, turn, whole}
+use Rattle.valid.proofs.programme.beds_valid.Statement.{statement}
+use Rattle.valid.proofs.programme.beds_valid.Tie as tie
+
+abbrev Inv-loop : tie.InvT-loop
+Inv-loop count beds used valid₀ i₀ valid i = SoFar bedValid used beds valid i
+
+abbrev μ-loop : tie.MeasureT-loop
+μ-loop count beds used valid₀ i₀ valid i = 9 - i
+
+loop-again : tie.Need-loop-again Inv-loop μ-loop
+loop-again c = turn _ (c .before .before .before .before .loop .inv) (search needs) (c .before .bed-valid .ensures) (c .both .ensures)
+
+returns : tie.Need-returns Inv-loop μ-loop
+returns c =
+    let nine : length (c .before .before .args .t1) ≡ 9 = search needs in
+    (whole (c .before .loop .inv) (omega arith), search needs)
+
+pub beds-valid-spec : {M : Type 1} → statement M
+beds-valid-spec =
+    tie.close
+    (tie.spec
+    Inv-loop
+    μ-loop
+    (λ c. none)
+    (λ c. search needs)
+    (λ c. search needs)
+    (λ c κs. search needs)
+    (λ c κs. search needs)
+    (λ c. search needs)
+    (λ c. search needs)
+    loop-again
+    returns)

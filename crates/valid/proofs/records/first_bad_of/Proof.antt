@@ -1,0 +1,44 @@
+-- `first_bad_of` meets its contract: before record i, the first bad record from there on is the first of all (`Search.antt`). Assumes nothing.
+use Prim.Native.Nat.{_-_}
+use borrow.Author.Needs.{needs}
+use Rattle.valid.proofs.Search.{SoFar, none, more, stop, whole}
+use Rattle.valid.proofs.records.first_bad_of.Statement.{statement}
+use Rattle.valid.proofs.records.first_bad_of.Tie as tie
+
+abbrev Inv-loop : tie.InvT-loop
+Inv-loop shares blocks records count turn₀ at₀ i₀ turn at i = SoFar shares blocks records count (turn .object) (turn .block) at i
+
+abbrev μ-loop : tie.MeasureT-loop
+μ-loop shares blocks records count turn₀ at₀ i₀ turn at i = count - i
+
+loop-again : tie.Need-loop-again Inv-loop μ-loop
+loop-again c =
+    let v = c .before .before in
+    let n = c .next .ensures in
+    more (v .before .before .before .loop .inv) (search needs) (search needs) (rw (v .before .class-of .ensures) at (v .valid-at .ensures))
+    (c .before .if1 .taken) (n .0) (n .1) (n .2)
+
+returns : tie.Need-returns Inv-loop μ-loop
+returns c =
+    let v = c .before in
+    stop (v .before .before .before .loop .inv) (search needs) (search needs) (rw (v .before .class-of .ensures) at (v .valid-at .ensures)) (c .if1 .left)
+
+returns-2 : tie.Need-returns-2 Inv-loop μ-loop
+returns-2 c = whole (c .before .loop .inv) (search needs)
+
+pub first-bad-of-spec : {M : Type 1} → statement M
+first-bad-of-spec =
+    tie.close
+    (tie.spec
+    Inv-loop
+    μ-loop
+    (λ c. none)
+    (λ c κs. search needs)
+    (λ c κs. search needs)
+    (λ c κs. search needs)
+    (λ c. search needs)
+    (λ c. search needs)
+    (λ c. search needs)
+    loop-again
+    returns
+    returns-2)

@@ -1,0 +1,40 @@
+-- `updates_valid` meets its contract: before update i, the test so far and that of the updates from i on are the whole test (`Entries.antt`). Assumes nothing.
+use mathlib.Core.Path.{_≡_}
+use Prim.Native.Nat.{_-_}
+use native.Mathlib.Omega.{arith}
+use lib.ListN.{length}
+use borrow.Author.Needs.{needs}
+use Rattle.form.specs.Valid.{updateValid}
+use Rattle.valid.proofs.Entries.{SoFar, none, turn, whole}
+use Rattle.valid.proofs.timing.updates_valid.Statement.{statement}
+use Rattle.valid.proofs.timing.updates_valid.Tie as tie
+
+abbrev Inv-loop : tie.InvT-loop
+Inv-loop offset blocks updates used valid₀ i₀ valid i = SoFar (updateValid (offset .0)) used updates valid i
+
+abbrev μ-loop : tie.MeasureT-loop
+μ-loop offset blocks updates used valid₀ i₀ valid i = 8 - i
+
+loop-again : tie.Need-loop-again Inv-loop μ-loop
+loop-again c = turn _ (c .before .before .before .before .loop .inv) (search needs) (c .before .update-valid .ensures) (c .both .ensures)
+
+returns : tie.Need-returns Inv-loop μ-loop
+returns c =
+    let eight : length (c .before .before .args .t2) ≡ 8 = search needs in
+    (whole (c .before .loop .inv) (omega arith), search needs)
+
+pub updates-valid-spec : {M : Type 1} → statement M
+updates-valid-spec =
+    tie.close
+    (tie.spec
+    Inv-loop
+    μ-loop
+    (λ c. none)
+    (λ c. search needs)
+    (λ c. search needs)
+    (λ c κs. search needs)
+    (λ c κs. search needs)
+    (λ c. search needs)
+    (λ c. search needs)
+    loop-again
+    returns)

@@ -1,0 +1,44 @@
+-- `configs_valid` meets its contract: before configuration i, the test so far and that of those from i on are the whole test (`Entries.antt`). Assumes
+-- nothing.
+use mathlib.Core.Path.{_≡_, ap, _∙_}
+use Prim.Native.Nat.{_+_, _-_, _*_}
+use native.Mathlib.Omega.{arith}
+use borrow.Author.Needs.{needs}
+use Rattle.oamd.specs.Trim.{noConfig}
+use Rattle.form.specs.Valid.{configValid}
+use Rattle.form.specs.Answer.{configAt, configsAt}
+use Rattle.valid.proofs.Sent.{AllOrNone, untested, one-more, all-of-them, configs-length, config-entry}
+use Rattle.valid.proofs.trim.configs_valid.Statement.{statement}
+use Rattle.valid.proofs.trim.configs_valid.Tie as tie
+
+abbrev Inv-loop : tie.InvT-loop
+Inv-loop sent trim valid₀ at₀ i₀ valid at i = (at ≡ 3 + 10 * i) × AllOrNone configValid sent 9 (configsAt trim 9 3) valid i
+
+abbrev μ-loop : tie.MeasureT-loop
+μ-loop sent trim valid₀ at₀ i₀ valid at i = 9 - i
+
+loop-again : tie.Need-loop-again Inv-loop μ-loop
+loop-again c =
+    let h = c .before .before .before .before .loop in
+    let p = h .inv .0 in
+    let e = c .before .before .config-at .ensures .0 (omega arith) in
+    (search needs, one-more noConfig _ (h .inv .1) (search needs) (config-entry _ _ _ (h .i) _ (search needs)) (c .before .config-valid .ensures ∙ ap (configValid _) (e ∙ ap (configAt _) p)) (c .both .ensures))
+
+returns : tie.Need-returns Inv-loop μ-loop
+returns c = all-of-them (c .before .loop .inv .1) (omega arith)
+
+pub configs-valid-spec : {M : Type 1} → statement M
+configs-valid-spec =
+    tie.close
+    (tie.spec
+    Inv-loop
+    μ-loop
+    (λ c. (search needs, untested (configs-length _ _ _)))
+    (λ c κs. search needs)
+    (λ c κs. search needs)
+    (λ c κs. search needs)
+    (λ c. search needs)
+    (λ c. search needs)
+    (λ c. search needs)
+    loop-again
+    returns)

@@ -1,0 +1,155 @@
+// The trim table, out of its bytes: each field by what announces it (5.5.12, Tables 32 to 37).
+ghost use mathlib.Core.Path.{_≡_};
+ghost use Prim.Native.Nat.{_+_, _≤_, _<_};
+ghost use lib.Dec.{leb};
+ghost use lib.ListN.{length};
+ghost use Rattle.bits.specs.Language.{pick};
+ghost use Rattle.oamd.specs.Tables.{trimConfigs, configBytes, trimHead, perObjectByte, trimFixed};
+ghost use Rattle.oamd.specs.Trim.{noConfig, trimNeeded};
+ghost use Rattle.form.specs.Valid.{_and_, betweenIf, entriesValid, configValid, trimValid};
+ghost use Rattle.form.specs.Answer.{configAt, configsAt, bytesAt, trimAt};
+ghost use Rattle.valid.specs.Parts.{balancesValid, trimsValid};
+use crate::apart::whole;
+use crate::ranges::between;
+use crate::ranges::between_if;
+use bits::both;
+use oamd::TrimConfig;
+
+fn config_of(trim: &[u8], at: usize) -> TrimConfig
+    requires { ⌜ at + 10 ≤ length (now trim) ⌝ }
+    ensures { λ r. ⌜ r ≡ configAt (now (trim .entry)) at ⌝ }
+{
+    TrimConfig {
+        bydefault: trim[at],
+        disabled: trim[at + 1],
+        presence: trim[at + 2],
+        centre: trim[at + 3],
+        surround: trim[at + 4],
+        height: trim[at + 5],
+        tbsign: trim[at + 6],
+        tbamount: trim[at + 7],
+        lissign: trim[at + 8],
+        lisamount: trim[at + 9],
+    }
+}
+
+// The configuration that begins at `at`; where there is no whole one, one of zeros.
+pub fn config_at(trim: &[u8], at: usize) -> TrimConfig
+    ensures there { λ r. ⌜ (at + configBytes ≤ length (now (trim .entry)) → r ≡ configAt (now (trim .entry)) at) ⌝ }
+    ensures absent { λ r. ⌜ (length (now (trim .entry)) < at + configBytes → r ≡ noConfig) ⌝ }
+{
+    if whole(trim, at, 10) {
+        return config_of(trim, at);
+    }
+    TrimConfig {
+        bydefault: 0,
+        disabled: 0,
+        presence: 0,
+        centre: 0,
+        surround: 0,
+        height: 0,
+        tbsign: 0,
+        tbamount: 0,
+        lissign: 0,
+        lisamount: 0,
+    }
+}
+
+// The two balances: a sign and an amount each (Table 34).
+fn balances_valid(c: TrimConfig) -> bool
+    ensures { λ r. ⌜ r ≡ balancesValid c ⌝ }
+{
+    let has_tb = oamd::has_tb(c.presence as u32);
+    let has_lis = oamd::has_lis(c.presence as u32);
+    let tbsign = between_if(has_tb, 0, 1, c.tbsign);
+    let tbamount = between_if(has_tb, 0, 15, c.tbamount);
+    let lissign = between_if(has_lis, 0, 1, c.lissign);
+    let lisamount = between_if(has_lis, 0, 15, c.lisamount);
+    both(tbsign, both(tbamount, both(lissign, lisamount)))
+}
+
+// The three trims, 0 to 3 of the last two reserved (Tables 36 and 37), and the balances.
+fn trims_valid(c: TrimConfig) -> bool
+    ensures { λ r. ⌜ r ≡ trimsValid c ⌝ }
+{
+    let has_centre = oamd::has_centre(c.presence as u32);
+    let has_surround = oamd::has_surround(c.presence as u32);
+    let has_height = oamd::has_height(c.presence as u32);
+    let centre = between_if(has_centre, 0, 15, c.centre);
+    let surround = between_if(has_surround, 4, 15, c.surround);
+    let height = between_if(has_height, 4, 15, c.height);
+    let balances = balances_valid(c);
+    both(centre, both(surround, both(height, balances)))
+}
+
+// A configuration, by whether it is sent.
+fn config_valid(sent: bool, c: TrimConfig) -> bool
+    ensures { λ r. ⌜ r ≡ configValid sent c ⌝ }
+{
+    let chosen = both(sent, c.bydefault == 0);
+    let custom = both(sent, both(c.bydefault == 0, c.disabled == 0));
+    let bydefault = between_if(sent, 0, 1, c.bydefault);
+    let disabled = between_if(chosen, 0, 1, c.disabled);
+    let presence = between_if(custom, 0, 31, c.presence);
+    let trims = trims_valid(c);
+    both(bydefault, both(disabled, both(presence, trims)))
+}
+
+// The nine configurations, all sent or none.
+fn configs_valid(sent: bool, trim: &[u8]) -> bool
+    requires { ⌜ perObjectByte ≤ length (now trim) ⌝ }
+    ensures { λ r. ⌜ r ≡ entriesValid configValid (pick sent trimConfigs 0) (configsAt (now (trim .entry)) trimConfigs trimHead) ⌝ }
+{
+    let mut valid = true;
+    let mut at: usize = 3;
+    let mut i: usize = 0;
+    while i < 9 {
+        let c = config_at(trim, at);
+        valid = both(valid, config_valid(sent, c));
+        at = at + 10;
+        i = i + 1;
+    }
+    valid
+}
+
+// The flags of the objects, all sent or none.
+fn flags_valid(sent: bool, trim: &[u8], objects: u8) -> bool
+    requires { ⌜ 94 + objects ≤ length (now trim) ⌝ }
+    ensures { λ r. ⌜ r ≡ entriesValid (λ used x. betweenIf used 0 1 x) (pick sent objects 0) (bytesAt (now (trim .entry)) objects trimFixed) ⌝ }
+{
+    let count = objects as usize;
+    let mut valid = true;
+    let mut i: usize = 0;
+    while i < count {
+        let flag = trim[94 + i];
+        valid = both(valid, between_if(sent, 0, 1, flag));
+        i = i + 1;
+    }
+    valid
+}
+
+// A table of which there is all.
+fn table_valid(objects: u8, trim: &[u8]) -> bool
+    requires { ⌜ 94 + objects ≤ length (now trim) ⌝ }
+    ensures { λ r. ⌜ r ≡ trimValid objects (trimAt objects (now (trim .entry))) ⌝ }
+{
+    let there = trim[0] == 1;
+    let present = between(0, 1, trim[0]);
+    let warp = between_if(there, 0, 1, trim[1]);
+    let mode = between_if(there, 0, 2, trim[2]);
+    let configs = configs_valid(trim[2] == 2, trim);
+    let per_object = between_if(there, 0, 1, trim[93]);
+    let flags = flags_valid(trim[93] == 1, trim, objects);
+    let rest = both(configs, both(per_object, flags));
+    both(present, both(warp, both(mode, rest)))
+}
+
+// A trim table such as some accepted payload with so many objects gives, and all of it.
+pub fn trim_valid(objects: u8, trim: &[u8]) -> bool
+    ensures { λ r. ⌜ r ≡ (leb (trimNeeded objects) (length (now (trim .entry))) and trimValid objects (trimAt objects (now (trim .entry)))) ⌝ }
+{
+    if trim.len() < 94 + objects as usize {
+        return false;
+    }
+    table_valid(objects, trim)
+}

@@ -1,1 +1,0 @@
-// Valid tables, the one written form, and (later) write: definitions and theorems in specs/.
