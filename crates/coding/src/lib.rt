@@ -13,8 +13,6 @@ pub use block::opening;
 pub use block::positioning;
 pub use block::short;
 pub use block::sized;
-pub use choices::as_flag;
-pub use choices::choice;
 pub use choices::coded_offset;
 pub use choices::ramp_bits;
 pub use choices::ramp_code;

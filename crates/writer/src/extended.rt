@@ -19,6 +19,7 @@ use crate::putting::put;
 use crate::putting::put_both;
 use crate::putting::put_if;
 use bits::as_flag;
+use bits::either;
 use oamd::Divergence;
 use oamd::Precise;
 use units::BitPos;
