@@ -2,21 +2,17 @@
 use mathlib.Core.Path.{_≡_, refl, sym, ap, _∙_, subst}
 use mathlib.Core.Bool.{Bool, true, false}
 use mathlib.Core.List.{List, [], _∷_, _++_, map, append-nil}
-use Prim.Native.Nat.{ℕ, suc, _+_, _*_, _^_, _≤_, _<_}
+use Prim.Native.Nat.{ℕ, suc, _+_, _*_, _^_, _<_}
 use native.Mathlib.Omega.{arith}
 use native.Mathlib.Nat.{mod-eq-of-lt}
 use lib.ListN.{length, getD, replicate, length-replicate, length-append}
-use Rattle.bits.specs.Language.{ok, Bits, slice, P, give, within, _>>=_, run, bits, when, bitsIf, refuseIf, bitsUnless, each, number, bit, pastPayload, pastDeclared}
+use Rattle.bits.specs.Language.{ok, slice, P, give, within, _>>=_, run, bits, when, bitsIf, refuseIf, bitsUnless, each, number, bit, pastPayload, pastDeclared}
 use Rattle.bits.specs.Steps.{ok-at, give-is, bind-is, within-is, field-is}
 use Rattle.bits.specs.Laws.{local}
 use Rattle.bits.specs.Writes.{Binary, listed, toBits, only, eachBits, toBytes}
-use Rattle.bits.specs.Lists.{Holds, holds-slice, holds-left, holds-right, binary-append, binary-toBits, binary-zeros, length-toBits, number-toBits}
+use Rattle.bits.specs.Lists.{holds-slice, holds-left, holds-right, binary-append, binary-toBits, binary-zeros, length-toBits, number-toBits}
 use Rattle.bits.specs.Bytes.{bytes-hold, bytes-long}
-
--- wherever the bits l stand before the end, p reads them as v and comes to their end
-pub record Writes {A : Type 0} (p : P A) (l : List ℕ) (v : A) : Type 0 where
-  pub binary : Binary l
-  pub reads : (b : Bits) (at e o : ℕ) → Holds b at l → at + length l ≤ e → run p b at e o ≡ ok v (at + length l)
+use Rattle.bits.specs.Terms.{Along, Writes}
 
 -- ---- a rule for each step
 
@@ -86,13 +82,6 @@ w-within {n = n} {back} {p} {l} {v} pad f c = record {
       let r = f .reads b at (at + n) pastDeclared (holds-left b at l _ h) (omega arith) in
       ok-at {m = at + n} (within-is n back p b at e o (omega arith) ∙ rw r) (omega arith);
 }
-
--- R holds of each entry of one list, its index and the entry of another
-abbrev pub Along : {X Y : Type 0} → (X → ℕ → Y → Type 0) → List X → ℕ → List Y → Type 0
-Along R [] i [] = Unit {0}
-Along R [] i (y ∷ ys) = ⊥
-Along R (x ∷ xs) i [] = ⊥
-Along R (x ∷ xs) i (y ∷ ys) = R x i y × Along R xs (suc i) ys
 
 -- a loop: one entry after the other
 pub w-each : {X Y A : Type 0} (f : X → P A) (l : ℕ → Y → List ℕ) (v : Y → A) (xs : List X) (i : ℕ) (ys : List Y)

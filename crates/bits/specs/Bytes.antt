@@ -10,7 +10,8 @@ use lib.Seq.{ext-getD}
 use Rattle.bits.specs.Language.{Bits, slice, number, bit}
 use Rattle.bits.specs.Steps.{length-slice, slice-get}
 use Rattle.bits.specs.Writes.{Binary, listed, toBits, pack, toBytes}
-use Rattle.bits.specs.Lists.{Holds, slice-slice, binary-slice, length-toBits, number-toBits, getD-toBits, number-bit}
+use Rattle.bits.specs.Lists.{slice-slice, binary-slice, length-toBits, number-toBits, getD-toBits, number-bit}
+use Rattle.bits.specs.Terms.{Holds}
 
 pub length-pack : (b : Bits) (at n : ℕ) → length (pack b at n) ≡ n
 unfolding pack

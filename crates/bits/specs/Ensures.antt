@@ -9,11 +9,8 @@ use Rattle.bits.specs.Steps.{no-ok, give-ok, bind-ok, within-ok, field-o
 use Rattle.bits.specs.Laws.{local}
 use Rattle.bits.specs.Writes.{Spells}
 use Rattle.bits.specs.Lists.{binary-slice}
-use Rattle.bits.specs.Spells.{taken, spelled, s-give, s-refuse, s-bits, s-bind, s-any, s-then, s-pick, s-pass, s-if, s-unless}
-
--- Q holds of whatever p can give
-unfoldable pub Ensures : {A : Type 0} → P A → (A → Type 0) → Type 0
-Ensures p Q = Spells p (λ l a. Q a)
+use Rattle.bits.specs.Spells.{spelled, s-give, s-refuse, s-bits, s-bind, s-any, s-then, s-pick, s-pass, s-if, s-unless}
+use Rattle.bits.specs.Terms.{taken, Ensures, All}
 
 pub ensured : {A : Type 0} (p : P A) (Q : A → Type 0) → Ensures p Q → (b : Bits) → ((i : ℕ) → b i < 2) → (at e o : ℕ) {v : A} {to : ℕ}
     → run p b at e o ≡ ok v to → Q v
@@ -88,18 +85,6 @@ pub e-unless : (on : Bool) (r w : ℕ) (test : ℕ → Bool) (Q : ℕ → Type 0
     → ((v : ℕ) → (on ≡ true → (v < 2 ^ w) × (test v ≡ false)) → (on ≡ false → 0 ≡ v) → Q v) → Ensures (when on (bitsUnless r w test) 0) Q
 unfolding Ensures
 e-unless on r w test Q h = s-unless on r w test _ h
-
--- Q holds of every entry of a list
-abbrev pub Every : {A : Type 0} → (A → Type 0) → List A → Type 0
-Every Q [] = Unit {0}
-Every Q (a ∷ rest) = Q a × Every Q rest
-
--- what holds of each value of a loop, and of its entry
-abbrev pub All : {X A : Type 0} → (X → A → Type 0) → List X → List A → Type 0
-All R [] [] = Unit {0}
-All R [] (a ∷ vs) = ⊥
-All R (x ∷ xs) [] = ⊥
-All R (x ∷ xs) (a ∷ vs) = R x a × All R xs vs
 
 pub e-each : {X A : Type 0} (f : X → P A) (R : X → A → Type 0) → ((x : X) → Ensures (f x) (R x)) → (xs : List X) → Ensures (each f xs) (All R xs)
 unfolding each

@@ -12,10 +12,7 @@ use Rattle.bits.specs.Language.{pick, number, P, each}
 use Rattle.bits.specs.Writes.{eachBits, Spells, First}
 use Rattle.bits.specs.Lists.{number-append}
 use Rattle.bits.specs.Spells.{s-give, s-bind, s-then}
-
--- as a test
-abbrev pub first? : List ℕ → List ℕ → Bool
-first? l m = pick (eqb (length l) (length m)) (leb (number l) (number m)) (ltb (length l) (length m))
+use Rattle.bits.specs.Terms.{first?, bitsOfEach}
 
 pub first-of : (l m : List ℕ) → first? l m ≡ true → First l m
 first-of l m h = go (eqb (length l) (length m)) refl h
@@ -65,12 +62,6 @@ first-cancel a l m f =
     }
 
 -- ---- a loop
-
--- the bits of each value, by its entry
-abbrev pub bitsOfEach : {X A : Type 0} → (X → A → List ℕ) → List X → List A → List ℕ
-bitsOfEach enc [] vs = []
-bitsOfEach enc (x ∷ xs) [] = []
-bitsOfEach enc (x ∷ xs) (v ∷ vs) = enc x v ++ bitsOfEach enc xs vs
 
 -- what comes first of each value comes first of all, and there are as many values as entries
 pub each-first : {X A : Type 0} (f : X → P A) (enc : X → A → List ℕ) → ((x : X) → Spells (f x) (λ l a. First (enc x a) l))

@@ -10,14 +10,7 @@ use lib.Dec.{leb}
 use borrow.Author.Tests.{leb-true, lt-leb}
 use Rattle.bits.specs.Language.{Res, ok, no, pick, Bits, slice, P, give, refuse, field, within, _>>=_, andThen, run, pastDeclared, each, from}
 use Rattle.bits.specs.Steps.{no-ok, by-order, bind-ok, within-ok, field-ok, give-ok, bind-no, within-no, field-no, refuse-no, give-no, bind-is, within-is, field-is, bind-stops, within-stops}
-
--- the m bits of b from at on are the m bits of c from to on
-abbrev pub Agree : Bits → ℕ → Bits → ℕ → ℕ → Type 0
-Agree b at c to m = (i : ℕ) → i < m → b (at + i) ≡ c (to + i)
-
--- the bits of b and c below e are the same
-abbrev pub Same : Bits → Bits → ℕ → Type 0
-Same b c e = (i : ℕ) → i < e → b i ≡ c i
+use Rattle.bits.specs.Terms.{Agree, Same, Says, Local}
 
 agree-next : (b c : Bits) (at to m : ℕ) → Agree b at c to (suc m) → Agree b (suc at) c (suc to) m
 agree-next b c at to m h i l = ap b (omega arith) ∙ h (suc i) (omega arith) ∙ ap c (omega arith)
@@ -30,13 +23,6 @@ slice-agree b c at to (suc m) h =
     (slice-agree b c (suc at) (suc to) m (agree-next b c at to m h))
 
 -- ---- what is accepted
-
--- What p accepted depends only on the bits that it used: wherever they stand, and wherever the end lies behind them, it gives the same value.
-pub record Local {A : Type 0} (p : P A) (b : Bits) (at e : ℕ) (v : A) (to : ℕ) : Type 0 where
-  pub used : ℕ
-  pub ends : to ≡ at + used
-  pub fits : to ≤ e
-  pub moved : (c : Bits) (at' e' o' : ℕ) → Agree b at c at' used → at' + used ≤ e' → run p c at' e' o' ≡ ok v (at' + used)
 
 pub local : {A : Type 0} (p : P A) (b : Bits) (at e o : ℕ) {v : A} {to : ℕ} → run p b at e o ≡ ok v to → at ≤ e → Local p b at e v to
 unfolding run
@@ -160,14 +146,6 @@ placed (within n back p) b at e o {r} {pl} {m} h le =
     (λ q x. omega arith)
 placed (p >>= k) b at e o {r} {pl} {m} h le =
     bind-no p k b at e o h (λ x. placed p b at e o x le) (λ a mid x y. placed (k a) b mid e o y (local p b at e o x le .fits))
-
--- Q holds of each number that p itself refuses with, whatever the values that its steps hand on
-unfoldable pub Says : {A : Type 0} → P A → (ℕ → Type 0) → Type 0
-Says (give a) Q = Unit {0}
-Says (refuse r back) Q = Q r
-Says (field w f) Q = Unit {0}
-Says (within n back p) Q = Says p Q
-Says (p >>= k) Q = Says p Q × ((a : _) → Says (k a) Q)
 
 -- a refusal's number is that of passing the end, of passing a declared end, or one of the reader's own
 pub numbered : {A : Type 0} (p : P A) (Q : ℕ → Type 0) (b : Bits) (at e o : ℕ) {r pl m : ℕ} → Says p Q → Q o → Q pastDeclared

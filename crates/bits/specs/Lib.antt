@@ -4,6 +4,7 @@ pub mod Refusals
 pub mod Size
 pub mod Reached
 pub mod Writes
+pub mod Terms
 pub mod Steps
 pub mod Unique
 pub mod Laws

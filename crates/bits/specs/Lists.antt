@@ -11,12 +11,9 @@ use lib.Seq.{getD-append-add, ext-getD}
 use Rattle.bits.specs.Language.{Bits, slice, number}
 use Rattle.bits.specs.Steps.{by-order, slice-get}
 use Rattle.bits.specs.Writes.{Binary, listed, toBits}
+use Rattle.bits.specs.Terms.{Holds}
 
 -- ---- where they stand
-
--- the bits of b from at on are those of l
-abbrev pub Holds : Bits → ℕ → List ℕ → Type 0
-Holds b at l = (i : ℕ) → i < length l → b (at + i) ≡ getD l i 0
 
 pub holds-slice : (b : Bits) (at : ℕ) (l : List ℕ) → Holds b at l → slice b at (length l) ≡ l
 unfolding slice

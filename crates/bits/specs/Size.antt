@@ -1,6 +1,4 @@
 -- 5.5.1 variable_bits_max(4, 4): an element's size.
-use mathlib.Core.Bool.{Bool}
-use mathlib.Core.List.{List}
 use Prim.Native.Nat.{ℕ, zero, suc, _+_, _*_}
 use lib.Dec.{eqb}
 use Rattle.bits.specs.declared.Size.{Size}

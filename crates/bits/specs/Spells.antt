@@ -9,10 +9,7 @@ use Rattle.bits.specs.Steps.{no-ok, give-ok, bind-ok, within-ok, field-o
 use Rattle.bits.specs.Laws.{local}
 use Rattle.bits.specs.Writes.{toBits, only, Spells}
 use Rattle.bits.specs.Lists.{slice-append, binary-slice, bits-number, number-lt}
-
--- the bits from at on, up to before to
-abbrev pub taken : Bits → ℕ → ℕ → List ℕ
-taken b at to = slice b at (to - at)
+use Rattle.bits.specs.Terms.{taken}
 
 pub taken-join : (b : Bits) (at mid to : ℕ) → at ≤ mid → mid ≤ to → taken b at mid ++ taken b mid to ≡ taken b at to
 taken-join b at mid to l h =

@@ -4,16 +4,16 @@ use mathlib.Core.List.{List}
 use mathlib.Core.Logic.{_⊎_, inl, inr, _↔_}
 use Prim.Native.Nat.{ℕ, _*_, _≤_, _<_}
 use native.Mathlib.Omega.{arith}
-use lib.ListN.{length, take, drop, replicate, length-replicate}
+use lib.ListN.{length, drop, replicate, length-replicate}
 use lib.Seq.{take-at, drop-at}
 use Rattle.bits.specs.declared.Refusal.the-variants.{TooLong, EndsEarly, Version, Counts, Second, Early, PastElement, Room}
 use Rattle.bits.specs.Refusals.{numberOf}
 use Rattle.bits.specs.Language.{ok, no, bit, pastPayload}
 use Rattle.bits.specs.Steps.{value}
 use Rattle.bits.specs.Laws.{placed}
-use Rattle.oamd.specs.Tables.{mostBytes, recordStride, trimConfigs}
-use Rattle.oamd.specs.Record.{Record, bytesOf, onto}
-use Rattle.oamd.specs.Trim.{TrimTable, trimBytesOf, trimNeeded}
+use Rattle.oamd.specs.Tables.{mostBytes, recordStride}
+use Rattle.oamd.specs.Record.{bytesOf, onto}
+use Rattle.oamd.specs.Trim.{trimBytesOf, trimNeeded}
 use Rattle.oamd.specs.Lengths.{length-bytes, length-trim}
 use Rattle.oamd.specs.Payload.{Payload, object-audio-metadata-payload, tables}
 use Rattle.oamd.specs.Answer.{Outcome, missingOf, refused, accepted, needed, reading}
@@ -24,38 +24,7 @@ use Rattle.demands.specs.Lemmas.Missing.{missing-none}
 use Rattle.demands.specs.Lemmas.Narrow.{some-missing}
 use Rattle.demands.specs.Lemmas.Records.{length-needed, trim-sized}
 use Rattle.demands.specs.Lemmas.Order.{payload-stops, header-stops, in-header, in-version, version-of, version-is, counts-of, counts-is, second-of, second-is, early-of, early-is}
-
--- The first n bytes of a buffer have become these, and the others are as they came.
-pub record Fronts (n : ℕ) (these before after : List ℕ) : Type 0 where
-  pub long : length these ≡ n
-  pub fits : n ≤ length before
-  pub front : take n after ≡ these
-  pub rest : drop n after ≡ drop n before
-
--- Accepted: refusal 0, place 0 and no missing bits. The first bytes of the buffer are the records, 24 bytes for each object and block. Those of the trim buffer are the trim
--- table, 94 bytes and one for each object: it has nine configurations, and a flag for each object.
-pub record Accepts (buffer trim : List ℕ) (o : Outcome) : Type 0 where
-  pub refusal : o .answer .refusal ≡ 0
-  pub place : o .answer .place ≡ 0
-  pub missing : o .answer .missing ≡ 0
-  pub records : List Record
-  pub many : length records ≡ o .answer .programme .objects * o .answer .timing .blocks
-  pub recorded : Fronts (recordStride * length records) (bytesOf records) buffer (o .buffer)
-  pub table : TrimTable
-  pub configs : length (table .configs) ≡ trimConfigs
-  pub flags : length (table .disabled) ≡ o .answer .programme .objects
-  pub trimmed : Fronts (trimNeeded (o .answer .programme .objects)) (trimBytesOf table) trim (o .trim)
-
--- Refused: a number from 1 to 9 and a place, with 2 one missing bit or more, all else 0, and both buffers as they came.
-pub record Refuses (buffer trim : List ℕ) (o : Outcome) : Type 0 where
-  pub number : ℕ
-  pub low : 1 ≤ number
-  pub high : number ≤ 9
-  pub place : ℕ
-  pub missing : ℕ
-  pub some : number ≡ numberOf EndsEarly → 1 ≤ missing
-  pub none : (number ≡ numberOf EndsEarly → ⊥) → missing ≡ 0
-  pub outcome : o ≡ refused buffer trim number place missing
+use Rattle.demands.specs.Promises.{Fronts, Accepts, Refuses}
 
 fronts : (n : ℕ) (these buffer : List ℕ) → length these ≡ n → n ≤ length buffer → Fronts n these buffer (onto these buffer)
 unfolding onto

@@ -6,14 +6,14 @@ use mathlib.Core.Option.{some}
 use Prim.Native.Nat.{ℕ, _≤_, _<_}
 use native.Mathlib.Omega.{arith}
 use lib.ListN.{length, take, length-append}
-use Rattle.bits.specs.declared.Refusal.the-variants.{TooLong, EndsEarly}
+use Rattle.bits.specs.declared.Refusal.the-variants.{EndsEarly}
 use Rattle.bits.specs.Refusals.{numberOf}
 use Rattle.bits.specs.Steps.{by-order}
 use Rattle.oamd.specs.declared.Kind.the-variants.{Unknown}
 use Rattle.oamd.specs.Tables.{mostBytes, mostElements}
 use Rattle.oamd.specs.Payload.{Header}
 use Rattle.oamd.specs.Answer.{Outcome, refused, reading}
-use Rattle.demands.specs.Skeleton.{Body, outline, known, takenOut, skeleton, tablesIn, SameTables}
+use Rattle.demands.specs.Skeleton.{Body, known, takenOut, skeleton, tablesIn, SameTables}
 use Rattle.demands.specs.Assembly.{Element, allBodies, payloadOf, PutTogether}
 use Rattle.demands.specs.Appended.{appended}
 use Rattle.demands.specs.Cut.{cut-short}
@@ -21,30 +21,7 @@ use Rattle.demands.specs.Unknown.{unknown-elements}
 use Rattle.demands.specs.Lemmas.Reading.{reading-long, refusal-of}
 use Rattle.demands.specs.Lemmas.Skeletons.{known-without}
 use Rattle.demands.specs.Lemmas.Assembled.{outline-is, outline-together, bodies-append}
-
--- the frames of the bytes s are read as this header and these elements, in this order
-abbrev pub Carries : List ℕ → Header → List Body → Type 0
-Carries s h elements = outline s ≡ some (record { header = h; elements = elements })
-
--- A payload s is changed into s': bytes are appended, or cut off behind any byte; or, with the same header and the other elements as they were, an unknown
--- element is added anywhere, one is removed, or one is altered: it has other bits, and is as long or not.
-pub data Change (s s' : List ℕ) : Type 0 where
-  append : (t : List ℕ) → s' ≡ s ++ t → Change s s'
-  cut : (n : ℕ) → s' ≡ take n s → Change s s'
-  add : (h : Header) (before behind : List Body) (u : Body) → u .kind ≡ Unknown → Carries s h (before ++ behind) → Carries s' h (before ++ (u ∷ behind))
-      → Change s s'
-  remove : (h : Header) (before behind : List Body) (u : Body) → u .kind ≡ Unknown → Carries s h (before ++ (u ∷ behind)) → Carries s' h (before ++ behind)
-      → Change s s'
-  alter : (h : Header) (before behind : List Body) (u u' : Body) → u .kind ≡ Unknown → u' .kind ≡ Unknown → Carries s h (before ++ (u ∷ behind))
-      → Carries s' h (before ++ (u' ∷ behind)) → Change s s'
-
--- What a read of s' gives, beside that of s: the same tables and the same buffers. Or, of s cut off, that it ends early; or, of more than 4,096 bytes, that it
--- is too long; and both buffers are then as they came.
-pub data After (s s' buffer trim : List ℕ) : Type 0 where
-  same : SameTables (reading s' buffer trim) (reading s buffer trim) → After s s' buffer trim
-  ends-early : (n place missing : ℕ) → s' ≡ take n s → 1 ≤ missing → reading s' buffer trim ≡ refused buffer trim (numberOf EndsEarly) place missing
-      → After s s' buffer trim
-  too-long : mostBytes < length s' → reading s' buffer trim ≡ refused buffer trim (numberOf TooLong) (length s') 0 → After s s' buffer trim
+use Rattle.demands.specs.Promises.{Carries, Change, append, cut, add, remove, alter, After, same, ends-early, too-long}
 
 -- up to the length limit, or beyond it
 up-to-limit : (s s' buffer trim : List ℕ) → (length s' ≤ mostBytes → SameTables (reading s' buffer trim) (reading s buffer trim)) → After s s' buffer trim

@@ -11,23 +11,16 @@ use Rattle.bits.specs.Writes.{Binary, toBits, toBytes}
 use Rattle.bits.specs.Lists.{binary-toBits}
 use Rattle.bits.specs.Bytes.{toBytes-bit}
 use Rattle.oamd.specs.declared.Kind.the-variants.{Unknown}
-use Rattle.oamd.specs.Tables.{mostBytes, mostElements}
+use Rattle.oamd.specs.Tables.{mostElements}
 use Rattle.oamd.specs.Element.{kind, framed}
 use Rattle.oamd.specs.Answer.{reading}
-use Rattle.demands.specs.Skeleton.{Body, body, known, takenOut, skeleton, SameTables}
+use Rattle.demands.specs.Skeleton.{Body, body, known, takenOut, skeleton}
 use Rattle.demands.specs.Assembly.{Head, Element, allBodies, payloadOf, PutTogether}
 use Rattle.demands.specs.Unknown.{unknown-elements}
 use Rattle.demands.specs.Lemmas.Reading.{read-of}
 use Rattle.demands.specs.Lemmas.Skeletons.{outlined, known-without}
 use Rattle.demands.specs.Lemmas.Assembled.{outline-is, together-of, bodies-append}
-
--- Let a payload with the header h and the elements es be accepted. Then that with the elements es', up to 46 of them and up to 4,096 bytes, and with
--- whatever padding, is accepted with the same tables and the same buffers.
-abbrev pub Keeps : (h : Head) (es es' : List (Element (h .is .alternate))) → Type 0
-Keeps h es es' =
-    (padding padding' buffer trim : List ℕ) → Binary padding → Binary padding' → length es ≤ mostElements → length es' ≤ mostElements
-    → length (payloadOf h es' padding') ≤ mostBytes → reading (payloadOf h es padding) buffer trim .answer .refusal ≡ 0
-    → SameTables (reading (payloadOf h es' padding') buffer trim) (reading (payloadOf h es padding) buffer trim)
+use Rattle.demands.specs.Promises.{Keeps}
 
 skeleton-is : (h : Head) (es : List (Element (h .is .alternate))) (padding : List ℕ) → length es ≤ mostElements → Binary padding
     → skeleton (payloadOf h es padding) ≡ some (record { header = h .is; elements = known (allBodies es) })

@@ -3,6 +3,7 @@ pub mod Conditions
 pub mod Skeleton
 pub mod Stops
 pub mod Assembly
+pub mod Promises
 pub mod Lemmas
 pub mod Appended
 pub mod Cut

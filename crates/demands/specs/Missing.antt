@@ -1,5 +1,5 @@
 -- The bits that are missing: with refusal 2 at its place, and with no other answer.
-use mathlib.Core.Path.{_≡_, refl, sym, ap, _∙_, subst}
+use mathlib.Core.Path.{_≡_, sym, ap, _∙_, subst}
 use mathlib.Core.List.{List, _++_}
 use mathlib.Core.Logic.{_↔_, ⊎-elim}
 use Prim.Native.Nat.{ℕ, _-_, _*_, _≤_, _<_}
@@ -11,7 +11,7 @@ use Rattle.bits.specs.Language.{no}
 use Rattle.oamd.specs.Tables.{mostBytes}
 use Rattle.oamd.specs.Answer.{Outcome, refused, reading}
 use Rattle.demands.specs.Terms.{parsed}
-use Rattle.demands.specs.Answers.{Refuses, answers, refused-when}
+use Rattle.demands.specs.Answers.{answers, refused-when}
 use Rattle.demands.specs.Lemmas.Reading.{Case, long, stopped, full, read, case, reading-no, refusal-of}
 use Rattle.demands.specs.Lemmas.Missing.{parsed-fewer}
 use Rattle.demands.specs.Lemmas.Narrow.{parsed-most, missing-all, missing-few}

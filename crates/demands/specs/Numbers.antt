@@ -1,7 +1,7 @@
 -- The numbers of document 01: how many objects, blocks and unknown elements there can be, and the room that holds the tables of every payload. They
 -- hold of every payload that is accepted, with the reserved content flag or without it.
 use mathlib.Core.Path.{_≡_, refl, ap}
-use mathlib.Core.Bool.{Bool, true, false, true≢false, false≢true}
+use mathlib.Core.Bool.{true, false, true≢false, false≢true}
 use mathlib.Core.List.{List}
 use mathlib.Core.Option.{Option, none, some}
 use Prim.Native.Nat.{ℕ, _*_, _≤_}
@@ -22,13 +22,9 @@ use Rattle.demands.specs.Terms.{parsed, tablesOf}
 use Rattle.demands.specs.Conditions.{Short, records-short, trim-short}
 use Rattle.demands.specs.Lemmas.Reading.{Case, long, stopped, full, read, case, read-of, refusal-of}
 use Rattle.demands.specs.Lemmas.Limits.{Blocked, limits}
+use Rattle.demands.specs.Promises.{BlocksBy, Numbers}
 
 -- ---- objects, blocks, unknown elements
-
--- 1 to 8 blocks with an object element, and none without
-pub record BlocksBy (object : Bool) (blocks : ℕ) : Type 0 where
-  pub with : object ≡ true → (1 ≤ blocks) × (blocks ≤ 8)
-  pub without : object ≡ false → blocks ≡ 0
 
 blocks-by : (o : Option ObjectElement) → Blocked o → BlocksBy (there o) (timing o .blocks)
 unfolding timing timingOf
@@ -47,12 +43,6 @@ blocks-most (some e) h = h .few
 pub blocks-read : (s : List ℕ) {q : Payload} {to : ℕ} → parsed s ≡ ok q to → BlocksBy (there (q .known .object)) (tablesOf q .timing .blocks)
 unfolding tables
 blocks-read s {q} h = blocks-by (q .known .object) (limits s h .object)
-
--- what an accepted read answers, beside the payload as read
-pub record Numbers (q : Payload) (o : Outcome) : Type 0 where
-  pub objects : (1 ≤ o .answer .programme .objects) × (o .answer .programme .objects ≤ 159)
-  pub blocks : BlocksBy (there (q .known .object)) (o .answer .timing .blocks)
-  pub unknown : o .answer .unknown ≤ 46
 
 pub numbers : (s buffer trim : List ℕ) → reading s buffer trim .answer .refusal ≡ 0
     → (q : Payload) × (to : ℕ) × (parsed s ≡ ok q to) × Numbers q (reading s buffer trim)

@@ -1,10 +1,9 @@
 -- What an element's frame hands on, and where it ends. Assumes nothing.
-use mathlib.Core.Path.{_≡_, refl, sym, ap, _∙_}
+use mathlib.Core.Path.{_≡_, refl, sym}
 use mathlib.Core.Bool.{Bool, true, false}
 use Prim.Native.Nat.{ℕ, suc, _+_, _*_}
-use native.Mathlib.Omega.{arith}
 use Rattle.bits.specs.declared.Size.{Size}
-use Rattle.bits.specs.Language.{pick, Bits, P, ok, run, slice, number, bits, bitsIf, give, pastDeclared}
+use Rattle.bits.specs.Language.{pick, Bits, P, ok, run, slice, number, bitsIf, pastDeclared}
 use Rattle.bits.specs.Size.{variable-bits-max}
 use Rattle.bits.specs.Steps.{bind-ok, within-ok, field-ok, give-ok}
 use Rattle.oamd.specs.declared.Kind.{Kind}

@@ -1,11 +1,12 @@
 -- What stands before block 0 of an object is not looked at: its blocks, as they are read, mean the same scenes whatever stands there. Assumes nothing.
 use mathlib.Core.Path.{_≡_, refl, ap, _∙_}
 use mathlib.Core.Bool.{Bool, true, false, not, false≢true}
-use mathlib.Core.List.{List, [], _∷_}
+use mathlib.Core.List.{List, _∷_}
 use Prim.Native.Nat.{ℕ, zero, suc}
 use lib.Dec.{eqb}
 use Rattle.bits.specs.Language.{pick, each, from}
-use Rattle.bits.specs.Ensures.{Ensures, e-give, e-bind, e-any, e-then, e-pick}
+use Rattle.bits.specs.Ensures.{e-give, e-bind, e-any, e-then, e-pick}
+use Rattle.bits.specs.Terms.{Ensures}
 use Rattle.oamd.specs.declared.Status.{Status}
 use Rattle.oamd.specs.declared.Status.the-variants.{Default, Full, Reuse, Mixed}
 use Rattle.oamd.specs.declared.Position.{Position}

@@ -11,7 +11,8 @@ use lib.Arith.{digits-div, digits-lt}
 use lib.ListN.{length, drop}
 use Rattle.bits.specs.Language.{ok, run, bit, pastPayload}
 use Rattle.bits.specs.Bytes.{bit-lt}
-use Rattle.bits.specs.Ensures.{Ensures, ensured, e-give, e-bind, e-any, e-then}
+use Rattle.bits.specs.Ensures.{ensured, e-give, e-bind, e-any, e-then}
+use Rattle.bits.specs.Terms.{Ensures}
 use Rattle.oamd.specs.declared.Programme.{Programme}
 use Rattle.oamd.specs.declared.Shares.{Shares}
 use Rattle.oamd.specs.Tables.{recordStride}
@@ -36,6 +37,7 @@ use Rattle.roundtrip.specs.Lemmas.AcceptedScenes.{all-valid}
 use Rattle.roundtrip.specs.Lemmas.AcceptedRecords.{RecordsValid, plain-valid, extended-valid}
 use Rattle.roundtrip.specs.Lemmas.AcceptedTrim.{no-trim-valid}
 use Rattle.roundtrip.specs.Accepted.{Kept, TrimKept, elements-ensure, no-timing-valid, element-scenes}
+use Rattle.roundtrip.specs.Promises.{ValidRead}
 
 -- ---- the tables
 
@@ -130,14 +132,6 @@ module _ (t : Tables) where
   trim-stands trim v =
       let f = trim-facts (t .programme .objects) (t .trim) v in
       rw (trim-again (t .programme .objects) (t .trim) (f .nine) (f .flags) (drop (length (trimBytesOf (t .trim))) trim)) v
-
--- what a read has answered, and what it has laid into its buffers
-pub record ValidRead (o : Outcome) : Type 0 where
-  -- record i of them, by the class of its object
-  pub records : (i : ℕ) → i < recordCount (o .answer .programme) (o .answer .timing)
-      → recordValid (classOf (shares (o .answer .programme)) (i / o .answer .timing .blocks)) (recordAt (o .buffer) (recordStride * i)) ≡ true
-  pub timing : timingValid (o .answer .timing) ≡ true
-  pub trim : trimValid (o .answer .programme .objects) (trimAt (o .answer .programme .objects) (o .trim)) ≡ true
 
 pub read-records : (s buffer trim : List ℕ) → reading s buffer trim .answer .refusal ≡ 0 → ValidRead (reading s buffer trim)
 read-records s buffer trim z =

@@ -9,17 +9,18 @@ use lib.Dec.{ltb}
 use Rattle.bits.specs.Language.{P, when, each, number, asFlag}
 use Rattle.bits.specs.Writes.{toBits, only, eachBits, Spells, First}
 use Rattle.bits.specs.Spells.{s-give, s-bind, s-bits, s-if, s-pick, s-then}
-use Rattle.bits.specs.First.{first-of, first-same, first-none, first-append, bitsOfEach, each-first}
+use Rattle.bits.specs.First.{first-of, first-same, first-none, first-append, each-first}
+use Rattle.bits.specs.Terms.{bitsOfEach}
 use Rattle.oamd.specs.declared.Divergence.{Divergence}
 use Rattle.oamd.specs.declared.Precise.{Precise}
 use Rattle.oamd.specs.Programme.{set?}
-use Rattle.oamd.specs.Reserved.{ObjectDivMode, ObjectDivCode}
 use Rattle.oamd.specs.Extended.{obj-div-block, ext-prec-pos-block, hasX, hasY, hasZ, noDivergence, noPrecise, extended-object-element}
 use Rattle.oamd.specs.Record.{Record, carries, allCarry, divergenceBytes, preciseBytes}
 use Rattle.form.specs.Form.{divergenceBits, preciseBits, any, diverges, refines, extendedElementBits}
 use Rattle.form.specs.Lemmas.Tests.{by-test, by-flag}
 use Rattle.roundtrip.specs.Lemmas.AcceptedRecords.{divergence-spells}
 use Rattle.roundtrip.specs.Lemmas.ExtendedBack.{Carried, no-divergence, no-precise}
+use Rattle.roundtrip.specs.Promises.{carriedBytes}
 
 -- ---- a record
 
@@ -127,10 +128,6 @@ extended-fewest rs =
     (group-first ext-prec-pos-block preciseBits precise-fewest (λ r. r .precise) noPrecise refines no-presence rs c m ps j p f)))))))
 
 -- ---- whether it is there
-
--- bytes 17 to 23
-abbrev pub carriedBytes : Record → List ℕ
-carriedBytes r = divergenceBytes (r .divergence) ++ preciseBytes (r .precise)
 
 -- a valid record calls for the element just where these bytes are not all 0
 pub not-called-for : (r : Record) → Carried r → diverges r ≡ false → refines r ≡ false → carriedBytes r ≡ replicate 7 0

@@ -9,9 +9,8 @@ use native.Mathlib.Nat.{mul-le-mul}
 use lib.ListN.{length}
 use lib.Seq.{length-take-le}
 use borrow.Author.Tests.{eq-eqb}
-use Rattle.bits.specs.Language.{ok}
 use Rattle.bits.specs.Bytes.{length-toBytes}
-use Rattle.bits.specs.Ensures.{Every}
+use Rattle.bits.specs.Terms.{Every}
 use Rattle.oamd.specs.declared.Programme.{Programme}
 use Rattle.oamd.specs.declared.Timing.{Timing}
 use Rattle.oamd.specs.declared.Shares.{Shares}
@@ -21,8 +20,7 @@ use Rattle.oamd.specs.Extended.{noDivergence, noPrecise}
 use Rattle.oamd.specs.Trim.{noTrim}
 use Rattle.oamd.specs.Meaning.{idle}
 use Rattle.oamd.specs.Record.{Record, recordOf}
-use Rattle.oamd.specs.Payload.{Payload, Tables, tables}
-use Rattle.demands.specs.Terms.{parsed}
+use Rattle.oamd.specs.Payload.{Tables}
 use Rattle.form.specs.Valid.{betweenIf, locationValid, volumeValid, zoneValid, screenValid, sceneValid, divergenceValid, preciseValid, recordValid, programmeValid, timingValid, recordCount, Valid}
 use Rattle.form.specs.Form.{statusBits, blockBits, objectElementBits, any, hasObject, hasExtended, formBits, form}
 use Rattle.form.specs.Lemmas.Tests.{whole}
@@ -34,15 +32,7 @@ use Rattle.roundtrip.specs.Lemmas.AcceptedRecords.{no-bad}
 use Rattle.roundtrip.specs.Lemmas.AcceptedTrim.{no-trim-valid}
 use Rattle.roundtrip.specs.Lemmas.Lengths.{Short, also, bits-short, if-sent, at-most, header-short, timing-short, Small, objects-short, element-short}
 use Rattle.roundtrip.specs.RoundTrip.{round-trip}
-
--- Some accepted payload gives tables of which Q holds: its bytes, no more than one may have, and what is read of them
-pub record GivenBy (Q : Tables → Type 0) : Type 0 where
-  pub bytes : List ℕ
-  pub short : length bytes ≤ mostBytes
-  pub payload : Payload
-  pub end : ℕ
-  pub reads : parsed bytes ≡ ok payload end
-  pub gives : Q (tables (payload .programme) (payload .known))
+use Rattle.roundtrip.specs.Promises.{GivenBy}
 
 -- valid tables whose form is short enough are given by it
 pub form-gives : (Q : Tables → Type 0) (t : Tables) → Valid t → length (form t) ≤ mostBytes → Q t → GivenBy Q

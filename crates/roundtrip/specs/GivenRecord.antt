@@ -25,7 +25,8 @@ use Rattle.roundtrip.specs.Lemmas.TrimBack.{trim-facts}
 use Rattle.roundtrip.specs.Lemmas.AcceptedRecords.{no-bad}
 use Rattle.roundtrip.specs.Lemmas.AcceptedTrim.{no-trim-valid}
 use Rattle.roundtrip.specs.Lemmas.Lengths.{Short, also, bits-short, if-sent, at-most, header-short, object-element-short, extended-element-short, trim-element-short, element-short}
-use Rattle.roundtrip.specs.Given.{GivenBy, form-gives, idleRecords, all-idle, idle-count}
+use Rattle.roundtrip.specs.Given.{form-gives, idleRecords, all-idle, idle-count}
+use Rattle.roundtrip.specs.Promises.{RecordGivenBy}
 
 -- the form of up to 323 records, with any trim element, is always short enough
 pub few-fit : (t : Tables) → Valid t → length (t .records) ≤ 323 → length (form t) ≤ mostBytes
@@ -94,10 +95,6 @@ unfolding timingValid sampleOffset entriesValid updateValid betweenIf
 one-block-valid = refl
 
 -- ---- the statement
-
--- this record first
-abbrev pub RecordGivenBy : Record → Type 0
-RecordGivenBy r = GivenBy (λ t. (others : List Record) × (t .records ≡ r ∷ others))
 
 pub record-given : (class : ℕ) (r : Record) → class ≤ 2 → recordValid class r ≡ true → RecordGivenBy r
 record-given class r low good =

@@ -7,10 +7,10 @@ use mathlib.Core.Logic.{_↔_}
 use Prim.Native.Nat.{ℕ, _≤_}
 use native.Mathlib.Omega.{arith}
 use native.Mathlib.Nat.{mul-zero}
-use lib.ListN.{length, take, drop, take-append-drop}
+use lib.ListN.{length, drop, take-append-drop}
 use Rattle.oamd.specs.declared.Programme.{Programme}
 use Rattle.oamd.specs.Programme.{hasReserved}
-use Rattle.oamd.specs.Trim.{TrimTable, trimBytesOf, trimNeeded}
+use Rattle.oamd.specs.Trim.{TrimTable, trimNeeded}
 use Rattle.oamd.specs.Payload.{Tables, noTiming, tables}
 use Rattle.form.specs.Valid.{programmeValid, firstBad, trimValid, Valid}
 use Rattle.form.specs.Answer.{trimAt}
@@ -19,20 +19,9 @@ use Rattle.form.specs.Lemmas.Facts.{programme-facts}
 use Rattle.roundtrip.specs.Lemmas.TrimBack.{trim-facts}
 use Rattle.roundtrip.specs.Lemmas.TableBytes.{trim-bytes, trim-again}
 use Rattle.roundtrip.specs.Accepted.{no-timing-valid, accepted-valid}
-use Rattle.roundtrip.specs.Given.{GivenBy, form-gives}
+use Rattle.roundtrip.specs.Given.{form-gives}
 use Rattle.roundtrip.specs.GivenRecord.{few-fit}
-
--- this programme, and a trim table of which Q holds
-abbrev pub TrimGiven : Programme → (TrimTable → Type 0) → Type 0
-TrimGiven p Q = GivenBy (λ t. (t .programme ≡ p) × Q (t .trim))
-
--- this trim table
-abbrev pub TrimGivenBy : Programme → TrimTable → Type 0
-TrimGivenBy p x = TrimGiven p (λ t. t ≡ x)
-
--- the trim table that has these bytes
-abbrev pub TrimBytesGivenBy : Programme → List ℕ → Type 0
-TrimBytesGivenBy p s = TrimGiven p (λ t. trimBytesOf t ≡ take (trimNeeded (p .objects)) s)
+use Rattle.roundtrip.specs.Promises.{TrimGiven, TrimGivenBy, TrimBytesGivenBy}
 
 module _ (p : Programme) (v : programmeValid p ≡ true) where
   -- no update, no record, and this trim table

@@ -1,3 +1,4 @@
+pub mod Promises
 pub mod Lemmas
 pub mod RoundTrip
 pub mod WriteRead

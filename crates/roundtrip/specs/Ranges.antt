@@ -7,7 +7,7 @@ use Prim.Native.Nat.{ℕ, zero, suc, _+_, _*_, _/_, _%_, _≤_, _<_}
 use native.Mathlib.Omega.{arith}
 use lib.ListN.{length, getD, drop, List·getD-append}
 use Rattle.bits.specs.Language.{ok, run, bit, pastPayload}
-use Rattle.bits.specs.Ensures.{Every}
+use Rattle.bits.specs.Terms.{Every}
 use Rattle.oamd.specs.declared.Timing.{Timing}
 use Rattle.oamd.specs.Tables.{recordStride}
 use Rattle.oamd.specs.Timing.{noUpdate}
@@ -32,33 +32,7 @@ use Rattle.roundtrip.specs.Lemmas.TrimBack.{trim-facts}
 use Rattle.roundtrip.specs.Lemmas.AcceptedTiming.{entry-le}
 use Rattle.roundtrip.specs.Lemmas.RangeFacts.{most, least, class-le, entry-used, entry-unused, trim-small, small-at}
 use Rattle.roundtrip.specs.AcceptedRecords.{accepted-records, accepted-timing, accepted-trim, read-records}
-
--- a record, byte by byte
-pub record InRange (r : Record) : Type 0 where
-  pub active : r .scene .active ≤ 1
-  pub class : r .scene .class ≤ 2
-  pub gain : r .scene .gain ≤ 65
-  pub priority : r .scene .priority ≤ 32
-  pub x : r .scene .location .x ≤ 62
-  pub y : r .scene .location .y ≤ 62
-  pub z : (49 ≤ r .scene .location .z) × (r .scene .location .z ≤ 79)
-  pub distance : r .scene .location .distance ≤ 17
-  pub width : r .scene .volume .width ≤ 31
-  pub depth : r .scene .volume .depth ≤ 31
-  pub height : r .scene .volume .height ≤ 31
-  pub zone : r .scene .zone .index ≤ 5
-  pub elevation : r .scene .zone .elevation ≤ 1
-  pub screen : r .scene .screen .used ≤ 1
-  pub factor : r .scene .screen .factor ≤ 7
-  pub depth-index : r .scene .screen .depth ≤ 3
-  pub snap : r .scene .snap ≤ 1
-  pub divergence : r .divergence .used ≤ 1
-  pub mode : r .divergence .mode ≤ 2
-  pub value : r .divergence .value ≤ 63
-  pub presence : r .precise .presence ≤ 7
-  pub code-x : r .precise .x ≤ 3
-  pub code-y : r .precise .y ≤ 3
-  pub code-z : r .precise .z ≤ 3
+use Rattle.roundtrip.specs.Promises.{mostByte, InRange, UpdatesInRange, ReadInRange}
 
 -- by the class of its object
 in-range : (class : ℕ) (r : Record) → class ≤ 2 → recordValid class r ≡ true → InRange r
@@ -98,10 +72,6 @@ in-range class r few v =
       code-z = most (p .z) (omega arith);
     }
 
--- what the bytes of a record are at the most, by their place in it
-abbrev pub mostByte : List ℕ
-mostByte = 1 ∷ 2 ∷ 65 ∷ 32 ∷ 62 ∷ 62 ∷ 79 ∷ 17 ∷ 31 ∷ 31 ∷ 31 ∷ 5 ∷ 1 ∷ 1 ∷ 7 ∷ 3 ∷ 1 ∷ 1 ∷ 2 ∷ 63 ∷ 7 ∷ 3 ∷ 3 ∷ 3 ∷ []
-
 -- f from i on, each up to the entry of a list
 data UpTo (f : ℕ → ℕ) : ℕ → List ℕ → Type 0 where
   none : {i : ℕ} → UpTo f i []
@@ -128,13 +98,6 @@ bytes-in-range b at r k l =
     rw f at (up-to all k l)
 
 -- ---- the tables
-
--- an update, used or not
-pub record UpdatesInRange (t : Timing) : Type 0 where
-  pub eight : length (t .updates) ≡ 8
-  pub starts : (i : ℕ) → i < t .blocks → getD (t .updates) i noUpdate .start .0 ≤ 2047
-  pub ramps : (i : ℕ) → i < t .blocks → getD (t .updates) i noUpdate .ramp .0 ≤ 2048
-  pub unused : (i : ℕ) → t .blocks ≤ i → i < 8 → getD (t .updates) i noUpdate ≡ noUpdate
 
 updates-in-range : (t : Timing) → timingValid t ≡ true → UpdatesInRange t
 updates-in-range t v =
@@ -166,15 +129,6 @@ accepted-in-range s q to h =
     )
 
 -- ---- the answer and the buffers
-
--- byte k of record i, and all bytes that were laid
-pub record ReadInRange (o : Outcome) : Type 0 where
-  pub records : (i : ℕ) → i < recordCount (o .answer .programme) (o .answer .timing) → InRange (recordAt (o .buffer) (recordStride * i))
-  pub bytes : (i k : ℕ) → i < recordCount (o .answer .programme) (o .answer .timing) → k < 24
-      → getD (o .buffer) (recordStride * i + k) 0 ≤ getD mostByte k 0
-  pub updates : UpdatesInRange (o .answer .timing)
-  pub laid : (n : ℕ) → n < recordStride * recordCount (o .answer .programme) (o .answer .timing) → getD (o .buffer) n 0 < 256
-  pub trim-laid : (n : ℕ) → n < trimNeeded (o .answer .programme .objects) → getD (o .trim) n 0 < 256
 
 -- the bytes of a valid trim table, whatever stands behind them
 trim-bytes-small : (objects : ℕ) (t : TrimTable) (trim : List ℕ) → trimValid objects t ≡ true → (n : ℕ) → n < trimNeeded objects

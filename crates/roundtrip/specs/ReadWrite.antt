@@ -23,6 +23,7 @@ use Rattle.roundtrip.specs.Lemmas.TrimBack.{TrimFacts, trim-facts}
 use Rattle.roundtrip.specs.Lemmas.TableBytes.{records-again, trim-again}
 use Rattle.roundtrip.specs.WriteRead.{writes-valid}
 use Rattle.roundtrip.specs.Accepted.{accepted-valid}
+use Rattle.roundtrip.specs.Promises.{tablesGiven}
 
 -- ---- the tables of an accepted read, from its answer and its buffers
 
@@ -60,10 +61,6 @@ module _ (t : Tables) (buffer trim : List ℕ) (v : Valid t) where
       )
 
 -- ---- the statements
-
--- the tables that a read has given: the programme and the timing of its answer, and the bytes in its buffers
-abbrev pub tablesGiven : Outcome → Tables
-tablesGiven o = tablesOf (o .answer .programme) (o .answer .timing) (o .buffer) (o .trim)
 
 -- of every accepted read, if the reserved content flag is clear
 module _ (s buffer trim : List ℕ) (accepted : reading s buffer trim .answer .refusal ≡ 0)

@@ -8,9 +8,10 @@ use native.Mathlib.Omega.{arith}
 use native.Mathlib.Nat.{zero-mul, mul-zero, mul-le-mul}
 use lib.ListN.{length}
 use borrow.Author.Tests.{lt-ltb, ltb-true, ltb-false}
-use Rattle.bits.specs.Language.{ok, from, for, asFlag}
+use Rattle.bits.specs.Language.{from, for, asFlag}
 use Rattle.bits.specs.Writes.{toBits, only, eachBits}
-use Rattle.bits.specs.Back.{Writes, w-give, w-bits, w-bind, w-end, w-each, from-bytes}
+use Rattle.bits.specs.Back.{w-give, w-bits, w-bind, w-end, w-each, from-bytes}
+use Rattle.bits.specs.Terms.{Writes}
 use Rattle.oamd.specs.declared.Scene.{Scene}
 use Rattle.oamd.specs.declared.Kind.the-variants.{Object, Trim, Extended}
 use Rattle.oamd.specs.Tables.{mostBytes, mostObjects, mostBlocks}
@@ -20,9 +21,8 @@ use Rattle.oamd.specs.Extended.{Extension}
 use Rattle.oamd.specs.Trim.{trimNeeded}
 use Rattle.oamd.specs.Record.{Record, plainRecords, extendedRecords}
 use Rattle.oamd.specs.Element.{kind, Known, nothing, scenes, fields, State, readKnown, oa-element, oa-element-md, elements}
-use Rattle.oamd.specs.Payload.{oa-element-count, Payload, object-audio-metadata-payload, Tables, timing, records, tables}
+use Rattle.oamd.specs.Payload.{oa-element-count, object-audio-metadata-payload, Tables, timing, records, tables}
 use Rattle.oamd.specs.Answer.{accepted, needed, housed, reading}
-use Rattle.demands.specs.Terms.{parsed}
 use Rattle.demands.specs.Assembly.{countBits}
 use Rattle.demands.specs.Lemmas.Reading.{reading-ok, housed-fits}
 use Rattle.demands.specs.Lemmas.Assembled.{count-writes}
@@ -38,6 +38,7 @@ use Rattle.roundtrip.specs.Lemmas.ExtendedBack.{flag-lt, all-carried, co
 use Rattle.roundtrip.specs.Lemmas.TrimBack.{TrimFacts, trim-facts, trim-writes, carriedTrim, trim-means}
 use Rattle.roundtrip.specs.Lemmas.ElementBack.{element-writes}
 use Rattle.roundtrip.specs.Lemmas.Lengths.{object-element-short, extended-element-short, trim-element-short}
+use Rattle.roundtrip.specs.Promises.{ReadAs}
 
 -- what is read of an object element
 abbrev pub codedElement : Tables → ObjectElement
@@ -241,14 +242,6 @@ module _ (t : Tables) (v : Valid t) where
       })
 
 -- ---- the statements
-
--- the bytes s are read as the tables t, and none of their elements is unknown
-pub record ReadAs (s : List ℕ) (t : Tables) : Type 0 where
-  pub payload : Payload
-  pub end : ℕ
-  pub reads : parsed s ≡ ok payload end
-  pub same : tables (payload .programme) (payload .known) ≡ t
-  pub unknown : payload .unknown ≡ 0
 
 -- the form of valid tables, whatever its length, is read as these tables
 pub round-trip : (t : Tables) → Valid t → ReadAs (form t) t

@@ -21,6 +21,7 @@ use Rattle.form.specs.Answer.{recordsAt, trimAt, tablesOf, writtenTo, fitted, t
 use Rattle.form.specs.Lemmas.Tests.{halves, by-test}
 use Rattle.roundtrip.specs.Lemmas.TableBytes.{from-first, records-bytes, records-count, trim-bytes}
 use Rattle.roundtrip.specs.RoundTrip.{reads-back}
+use Rattle.roundtrip.specs.Promises.{Accepts}
 
 -- ---- an accepted write
 
@@ -31,15 +32,6 @@ first-bad-le sh blocks i [] = omega arith
 first-bad-le sh blocks i (r ∷ rs) =
     let l = first-bad-le sh blocks (suc i) rs in
     by-test (recordValid (classOf sh (i / blocks)) r) (λ q. rw q (omega arith)) (λ q. rw q (omega arith))
-
--- its tables are valid, there are bytes enough for them, and it has written their form
-pub record Accepts (p : Programme) (t : Timing) (s x out : List ℕ) : Type 0 where
-  pub valid : Valid (tablesOf p t s x)
-  pub enough : needed (tablesOf p t s x) ≤ length s
-  pub trim-enough : trimNeeded (p .objects) ≤ length x
-  pub room : length (form (tablesOf p t s x)) ≤ length out
-  pub short : length (form (tablesOf p t s x)) ≤ mostBytes
-  pub written : writing p t s x out ≡ writtenTo out (form (tablesOf p t s x))
 
 pub accepts : (p : Programme) (t : Timing) (s x out : List ℕ) → writing p t s x out .answer .refusal ≡ 0 → Accepts p t s x out
 unfolding writing judged trimmed fitted

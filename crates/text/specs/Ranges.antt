@@ -8,7 +8,8 @@ use borrow.Author.Tests.{leb-true, eqb-true, not-false}
 use lib.ListN.{length}
 use Rattle.bits.specs.Language.{bit, pastPayload}
 use Rattle.bits.specs.Bytes.{bit-lt}
-use Rattle.bits.specs.Ensures.{Ensures, ensured, e-give, e-bind, e-any, e-then, e-pass}
+use Rattle.bits.specs.Ensures.{ensured, e-give, e-bind, e-any, e-then, e-pass}
+use Rattle.bits.specs.Terms.{Ensures}
 use Rattle.oamd.specs.declared.Programme.{Programme}
 use Rattle.oamd.specs.declared.ReadAnswer.{ReadAnswer}
 use Rattle.oamd.specs.Tables.{mostElements, mostObjects, mostBlocks, roomBytes, mostTrim}
@@ -21,7 +22,8 @@ use Rattle.demands.specs.Missing.{missing-most}
 use Rattle.demands.specs.Numbers.{numbers, roomy}
 use Rattle.demands.specs.Lemmas.Reading.{Case, long, stopped, full, read, case, refusal-of}
 use Rattle.form.specs.Lemmas.Tests.{by-test}
-use Rattle.roundtrip.specs.Ranges.{UpdatesInRange, read-in-range}
+use Rattle.roundtrip.specs.Ranges.{read-in-range}
+use Rattle.roundtrip.specs.Promises.{UpdatesInRange}
 
 -- ---- the objects of each class
 

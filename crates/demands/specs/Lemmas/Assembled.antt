@@ -12,10 +12,11 @@ use Rattle.bits.specs.Language.{ok, pick, Bits, slice, P, run, bit, pastPayload
 use Rattle.bits.specs.Steps.{ok-at, give-ok, bind-ok, slice-get, slice-at, length-slice}
 use Rattle.bits.specs.Laws.{local}
 use Rattle.bits.specs.Writes.{Binary, listed, toBits, only, toBytes, Spells}
-use Rattle.bits.specs.Lists.{Holds, holds-left, binary-slice}
+use Rattle.bits.specs.Lists.{holds-left, binary-slice}
 use Rattle.bits.specs.Bytes.{bit-lt}
-use Rattle.bits.specs.Back.{Writes, w-give, w-bits, w-bind, w-end, w-is, w-exact, from-padded}
-use Rattle.bits.specs.Spells.{taken, taken-join, spelled, s-give, s-bind, s-bits, s-if}
+use Rattle.bits.specs.Back.{w-give, w-bits, w-bind, w-end, w-is, w-exact, from-padded}
+use Rattle.bits.specs.Spells.{taken-join, spelled, s-give, s-bind, s-bits, s-if}
+use Rattle.bits.specs.Terms.{Holds, taken, Writes}
 use Rattle.oamd.specs.Tables.{mostElements}
 use Rattle.oamd.specs.Payload.{oa-element-count, header}
 use Rattle.demands.specs.Terms.{runs}

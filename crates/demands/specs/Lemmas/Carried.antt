@@ -11,7 +11,8 @@ use lib.ListN.{length, replicate}
 use borrow.Author.Tests.{eqb-true}
 use Rattle.bits.specs.Language.{ok, both, P, each, from, when, bit, pastPayload}
 use Rattle.bits.specs.Bytes.{bit-lt}
-use Rattle.bits.specs.Ensures.{Ensures, All, ensured, e-give, e-bind, e-any, e-then, e-when, e-pass, e-if, e-unless, e-within, e-each}
+use Rattle.bits.specs.Ensures.{ensured, e-give, e-bind, e-any, e-then, e-when, e-pass, e-if, e-unless, e-within, e-each}
+use Rattle.bits.specs.Terms.{Ensures, All}
 use Rattle.oamd.specs.declared.Kind.{Kind}
 use Rattle.oamd.specs.declared.Kind.the-variants.{Unknown, Object, Trim, Extended}
 use Rattle.oamd.specs.declared.Programme.{Programme}

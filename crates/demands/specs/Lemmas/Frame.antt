@@ -8,9 +8,10 @@ use lib.Dec.{eqb}
 use borrow.Author.Tests.{lt-leb}
 use Rattle.bits.specs.declared.Size.{Size}
 use Rattle.bits.specs.Language.{Res, ok, no, pick, Bits, P, give, within, andThen, run, number, bits, bitsIf, pastDeclared}
-use Rattle.bits.specs.Laws.{Says, saying, numbered}
+use Rattle.bits.specs.Laws.{saying, numbered}
 use Rattle.bits.specs.Size.{sizeFrom, variable-bits-max}
 use Rattle.bits.specs.Steps.{no-ok, by-order, field-ok, field-no, give-ok, bind-ok, bind-is, bind-stops, within-is, within-stops}
+use Rattle.bits.specs.Terms.{Says}
 use Rattle.oamd.specs.declared.Kind.{Kind}
 use Rattle.oamd.specs.Programme.{set?}
 use Rattle.oamd.specs.Element.{kind, declaredLength, sizeLength, headLength, backToId, framed}

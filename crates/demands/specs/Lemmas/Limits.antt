@@ -10,7 +10,8 @@ use lib.ListN.{length}
 use Rattle.bits.specs.Language.{ok, bit, from, pastPayload}
 use Rattle.bits.specs.Bytes.{bit-lt}
 use Rattle.bits.specs.Laws.{length-from}
-use Rattle.bits.specs.Ensures.{Ensures, All, ensured, e-give, e-bits, e-bind, e-any, e-then, e-pass, e-if, e-within, e-each}
+use Rattle.bits.specs.Ensures.{ensured, e-give, e-bits, e-bind, e-any, e-then, e-pass, e-if, e-within, e-each}
+use Rattle.bits.specs.Terms.{Ensures, All}
 use Rattle.oamd.specs.declared.Kind.{Kind}
 use Rattle.oamd.specs.declared.Kind.the-variants.{Unknown, Object, Trim, Extended}
 use Rattle.oamd.specs.declared.Programme.{Programme}

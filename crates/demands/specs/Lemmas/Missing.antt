@@ -1,16 +1,16 @@
 -- The bits that are missing where a reader is refused for passing an end: laws over every reader, and what they say of the payload's.
 use mathlib.Core.Path.{_≡_, refl, sym, ap, ap₂, _∙_}
-use mathlib.Core.Bool.{Bool, true, false}
-use mathlib.Core.List.{List, [], _∷_, _++_}
-use Prim.Native.Nat.{ℕ, zero, suc, _+_, _-_, _*_, _≤_, _<_}
+use mathlib.Core.List.{List, _++_}
+use Prim.Native.Nat.{ℕ, _+_, _-_, _*_, _≤_, _<_}
 use native.Mathlib.Omega.{arith}
 use lib.ListN.{length, length-append}
 use borrow.Author.Tests.{le-leb, ne-eqb}
-use Rattle.bits.specs.Language.{Res, ok, no, pick, Bits, P, give, refuse, field, within, _>>=_, run, bit, bits, bitsIf, each, pastPayload, pastDeclared}
+use Rattle.bits.specs.Language.{Res, no, Bits, P, give, refuse, field, within, _>>=_, run, bit, pastPayload, pastDeclared}
 use Rattle.bits.specs.Steps.{no-ok, by-order, give-no, refuse-no, bind-no, field-is, bind-is, bind-stops}
-use Rattle.bits.specs.Laws.{Same, local, still, Says, numbered}
+use Rattle.bits.specs.Laws.{local, still, numbered}
 use Rattle.bits.specs.Reached.{field-passes, size-passes}
 use Rattle.bits.specs.ReachedLaws.{stop-refuses, element-no}
+use Rattle.bits.specs.Terms.{Same, Says}
 use Rattle.oamd.specs.Answer.{missingOf}
 use Rattle.oamd.specs.Payload.{object-audio-metadata-payload}
 use Rattle.demands.specs.Terms.{parsed}

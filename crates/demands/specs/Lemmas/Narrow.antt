@@ -10,9 +10,10 @@ use borrow.Author.Tests.{leb-true, eqb-true, eqb-false}
 use Rattle.bits.specs.Language.{no, pick, Bits, P, give, refuse, field, within, _>>=_, run, bit, skip, each, pastPayload, pastDeclared}
 use Rattle.bits.specs.Bytes.{bit-lt}
 use Rattle.bits.specs.Steps.{give-no, refuse-no, bind-no}
-use Rattle.bits.specs.Laws.{local, Says, numbered}
+use Rattle.bits.specs.Laws.{local, numbered}
 use Rattle.bits.specs.Size.{sizeFrom}
-use Rattle.bits.specs.Ensures.{Ensures, ensured, e-give, e-bits, e-bind, e-any, e-then, e-pick, e-if}
+use Rattle.bits.specs.Ensures.{ensured, e-give, e-bits, e-bind, e-any, e-then, e-pick, e-if}
+use Rattle.bits.specs.Terms.{Says, Ensures}
 use Rattle.oamd.specs.declared.Programme.{Programme}
 use Rattle.oamd.specs.Programme.{hasReserved, bed-assignment, bed-instances, intermediate-spatial-format, num-dynamic-objects, reserved-data, program-assignment}
 use Rattle.oamd.specs.Element.{framed, State, oa-element-md, elements}

@@ -2,8 +2,9 @@
 use mathlib.Core.Bool.{Bool}
 use mathlib.Core.List.{List}
 use Prim.Native.Nat.{ℕ, zero, suc}
-use Rattle.bits.specs.Laws.{Says, saying}
+use Rattle.bits.specs.Laws.{saying}
 use Rattle.bits.specs.Size.{sizeFrom}
+use Rattle.bits.specs.Terms.{Says}
 use Rattle.oamd.specs.declared.Kind.{Kind}
 use Rattle.oamd.specs.declared.Kind.the-variants.{Unknown, Object, Trim, Extended}
 use Rattle.oamd.specs.declared.Programme.{Programme}

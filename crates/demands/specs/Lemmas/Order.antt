@@ -10,7 +10,8 @@ use lib.ListN.{length}
 use borrow.Author.Tests.{eqb-false, ne-eqb, not-true}
 use Rattle.bits.specs.Language.{Res, ok, no, pick, Bits, P, give, andThen, run, number, bitsIf, refuseIf, bit, pastPayload, pastDeclared}
 use Rattle.bits.specs.Steps.{no-ok, value, place, andThen-ok, bind-ok, bind-no, bind-is, bind-stops, field-ok, field-no, give-ok, give-no, give-is, refuse-no}
-use Rattle.bits.specs.Laws.{Says, says-pick, saying, numbered}
+use Rattle.bits.specs.Laws.{says-pick, saying, numbered}
+use Rattle.bits.specs.Terms.{Says}
 use Rattle.oamd.specs.declared.Kind.{Kind}
 use Rattle.oamd.specs.declared.Programme.{Programme}
 use Rattle.oamd.specs.Programme.{agrees}

@@ -11,7 +11,8 @@ use borrow.Author.Tests.{leb-true, leb-false, le-leb, lt-leb}
 use Rattle.bits.specs.declared.Refusal.the-variants.{TooLong, Room}
 use Rattle.bits.specs.Refusals.{numberOf}
 use Rattle.bits.specs.Language.{Res, ok, no, bit, pastPayload}
-use Rattle.bits.specs.Laws.{Same, local, still, stays, numbered}
+use Rattle.bits.specs.Laws.{local, still, stays, numbered}
+use Rattle.bits.specs.Terms.{Same}
 use Rattle.oamd.specs.Tables.{mostBytes}
 use Rattle.oamd.specs.Trim.{trimNeeded}
 use Rattle.oamd.specs.Payload.{Payload, object-audio-metadata-payload, Tables}

@@ -11,7 +11,7 @@ use lib.ListN.{length, replicate, length-append, length-replicate}
 use Rattle.bits.specs.Language.{ok, Bits, P, give, _>>=_, run, bits, when, each}
 use Rattle.bits.specs.Steps.{value, andThen-ok, bind-ok, give-ok}
 use Rattle.bits.specs.Laws.{each-long, length-from}
-use Rattle.bits.specs.Ensures.{Every}
+use Rattle.bits.specs.Terms.{Every}
 use Rattle.oamd.specs.declared.Block.{Block}
 use Rattle.oamd.specs.declared.Kind.{Kind}
 use Rattle.oamd.specs.declared.Kind.the-variants.{Unknown, Object, Trim, Extended}

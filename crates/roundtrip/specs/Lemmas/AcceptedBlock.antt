@@ -5,7 +5,8 @@ use Prim.Native.Nat.{ℕ, suc, _≤_, _<_}
 use native.Mathlib.Omega.{arith}
 use lib.Dec.{eqb}
 use Rattle.bits.specs.Language.{pick, both}
-use Rattle.bits.specs.Ensures.{Ensures, e-give, e-bits, e-bind, e-any, e-then, e-pick, e-if}
+use Rattle.bits.specs.Ensures.{e-give, e-bits, e-bind, e-any, e-then, e-pick, e-if}
+use Rattle.bits.specs.Terms.{Ensures}
 use Rattle.oamd.specs.declared.Status.{Status}
 use Rattle.oamd.specs.declared.Status.the-variants.{Default}
 use Rattle.oamd.specs.declared.Basic.{Basic}

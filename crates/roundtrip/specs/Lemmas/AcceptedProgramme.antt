@@ -9,7 +9,8 @@ use lib.Dec.{leb, eqb}
 use borrow.Author.Tests.{eqb-true, eq-eqb, le-leb, not-false}
 use Rattle.bits.specs.Language.{pick, both, from}
 use Rattle.bits.specs.Laws.{length-from}
-use Rattle.bits.specs.Ensures.{Ensures, All, Every, e-give, e-bits, e-bind, e-any, e-then, e-pass, e-if, e-each}
+use Rattle.bits.specs.Ensures.{e-give, e-bits, e-bind, e-any, e-then, e-pass, e-if, e-each}
+use Rattle.bits.specs.Terms.{Ensures, All, Every}
 use Rattle.oamd.specs.declared.Programme.{Programme}
 use Rattle.oamd.specs.Tables.{mostObjects, mostBeds}
 use Rattle.oamd.specs.Programme.{set?, clear?, hasBeds, hasIsf, hasDynamic, hasReserved, bedInstances, bedOf, bed-assignment, filled, noBed, Beds, bed-instances, intermediate-spatial-format, num-dynamic-objects, program-assignment, agrees}

@@ -10,7 +10,8 @@ use borrow.Author.Tests.{eqb-true}
 use Rattle.bits.specs.Language.{both, each}
 use Rattle.bits.specs.Writes.{toBits, only, Spells}
 use Rattle.bits.specs.Spells.{s-give, s-bind, s-if}
-use Rattle.bits.specs.Ensures.{Ensures, All, e-spells, e-give, e-bind, e-any, e-then, e-when, e-if, e-each}
+use Rattle.bits.specs.Ensures.{e-spells, e-give, e-bind, e-any, e-then, e-when, e-if, e-each}
+use Rattle.bits.specs.Terms.{Ensures, All}
 use Rattle.oamd.specs.declared.Shares.{Shares}
 use Rattle.oamd.specs.declared.Scene.{Scene}
 use Rattle.oamd.specs.declared.Divergence.{Divergence}

@@ -10,7 +10,7 @@ use lib.ListN.{length, length-append}
 use lib.Dec.{ltb, eqb}
 use borrow.Author.Tests.{eq-eqb, ltb-false}
 use Rattle.bits.specs.Language.{from, between}
-use Rattle.bits.specs.Ensures.{All, Every}
+use Rattle.bits.specs.Terms.{All, Every}
 use Rattle.oamd.specs.declared.Status.{Status}
 use Rattle.oamd.specs.declared.Status.the-variants.{Default, Full, Reuse, Mixed}
 use Rattle.oamd.specs.declared.Position.{Position}

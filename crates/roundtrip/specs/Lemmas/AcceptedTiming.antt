@@ -9,7 +9,8 @@ use lib.Dec.{leb, eqb}
 use borrow.Author.Tests.{leb-true, eq-eqb}
 use Rattle.bits.specs.Language.{pick, both, from}
 use Rattle.bits.specs.Laws.{length-from}
-use Rattle.bits.specs.Ensures.{Ensures, Every, e-give, e-bits, e-bind, e-any, e-then, e-if, e-each}
+use Rattle.bits.specs.Ensures.{e-give, e-bits, e-bind, e-any, e-then, e-if, e-each}
+use Rattle.bits.specs.Terms.{Ensures, Every}
 use Rattle.oamd.specs.declared.Offset.{Offset}
 use Rattle.oamd.specs.declared.BlockUpdate.{BlockUpdate}
 use Rattle.oamd.specs.declared.Update.{Update}

@@ -12,7 +12,8 @@ use Rattle.bits.specs.Steps.{free-above}
 use Rattle.bits.specs.Laws.{length-from}
 use Rattle.bits.specs.Writes.{toBits, only, Spells}
 use Rattle.bits.specs.Spells.{s-give, s-bind, s-bits, s-if}
-use Rattle.bits.specs.Ensures.{Ensures, e-spells, e-give, e-bits, e-bind, e-any, e-then, e-when, e-each}
+use Rattle.bits.specs.Ensures.{e-spells, e-give, e-bits, e-bind, e-any, e-then, e-when, e-each}
+use Rattle.bits.specs.Terms.{Ensures}
 use Rattle.oamd.specs.Tables.{trimConfigs}
 use Rattle.oamd.specs.Programme.{set?, clear?}
 use Rattle.oamd.specs.Reserved.{WarpMode, GlobalTrimMode, TrimSurround, TrimHeight}

@@ -8,7 +8,8 @@ use lib.Dec.{eqb}
 use borrow.Author.Tests.{eqb-true}
 use Rattle.bits.specs.Language.{pick, between}
 use Rattle.bits.specs.Writes.{toBits, only}
-use Rattle.bits.specs.Back.{Writes, w-give, w-bits, w-bind, w-end}
+use Rattle.bits.specs.Back.{w-give, w-bits, w-bind, w-end}
+use Rattle.bits.specs.Terms.{Writes}
 use Rattle.oamd.specs.declared.Status.{Status}
 use Rattle.oamd.specs.declared.Status.the-variants.{Default, Full}
 use Rattle.oamd.specs.declared.Position.the-variants.{Absolute}

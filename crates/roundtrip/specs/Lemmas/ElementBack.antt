@@ -11,7 +11,8 @@ use Rattle.bits.specs.Steps.{by-order}
 use Rattle.bits.specs.Size.{sizeOf, sizeFrom, variable-bits-max}
 use Rattle.bits.specs.Writes.{toBits}
 use Rattle.bits.specs.Lists.{length-toBits}
-use Rattle.bits.specs.Back.{Writes, w-give, w-bits, w-bind, w-end, w-list, w-within}
+use Rattle.bits.specs.Back.{w-give, w-bits, w-bind, w-end, w-list, w-within}
+use Rattle.bits.specs.Terms.{Writes}
 use Rattle.oamd.specs.declared.Kind.{Kind}
 use Rattle.oamd.specs.Element.{kind, framed}
 use Rattle.form.specs.Form.{groupBits, sizeBits, sizeFor, framedBits, elementBits}

@@ -8,8 +8,7 @@ use lib.ListN.{length, replicate, take}
 use lib.Dec.{leb}
 use borrow.Author.Tests.{le-leb}
 use Rattle.bits.specs.Language.{from}
-use Rattle.bits.specs.Back.{Along}
-use Rattle.bits.specs.Ensures.{Every}
+use Rattle.bits.specs.Terms.{Along, Every}
 use Rattle.oamd.specs.declared.Shares.{Shares}
 use Rattle.oamd.specs.Programme.{classOf}
 use Rattle.form.specs.Valid.{entriesValid}

@@ -11,8 +11,8 @@ use borrow.Author.Tests.{eqb-false, ltb-false}
 use Rattle.bits.specs.Language.{pick, both, P, when, bitsIf, asFlag}
 use Rattle.bits.specs.Steps.{above-free}
 use Rattle.bits.specs.Writes.{toBits, only}
-use Rattle.bits.specs.Back.{Along, Writes, w-give, w-bits, w-bind, w-end, w-is, w-if, w-when, w-each}
-use Rattle.bits.specs.Ensures.{Every}
+use Rattle.bits.specs.Back.{w-give, w-bits, w-bind, w-end, w-is, w-if, w-when, w-each}
+use Rattle.bits.specs.Terms.{Along, Writes, Every}
 use Rattle.oamd.specs.declared.Shares.{Shares}
 use Rattle.oamd.specs.declared.Divergence.{Divergence}
 use Rattle.oamd.specs.declared.Precise.{Precise}

@@ -8,7 +8,8 @@ use lib.Dec.{eqb}
 use borrow.Author.Tests.{ne-eqb, eq-eqb}
 use Rattle.bits.specs.Language.{pick, number, between}
 use Rattle.bits.specs.Writes.{toBits, First}
-use Rattle.bits.specs.First.{first?, first-of, first-same, first-append, first-cancel}
+use Rattle.bits.specs.First.{first-of, first-same, first-append, first-cancel}
+use Rattle.bits.specs.Terms.{first?}
 use Rattle.oamd.specs.declared.Offset.{Offset}
 use Rattle.oamd.specs.declared.BlockUpdate.{BlockUpdate}
 use Rattle.oamd.specs.declared.Gain.{Gain}

@@ -7,7 +7,8 @@ use native.Mathlib.Omega.{arith}
 use lib.Dec.{eqb}
 use Rattle.bits.specs.Language.{bits, between}
 use Rattle.bits.specs.Writes.{toBits, only}
-use Rattle.bits.specs.Back.{Writes, w-give, w-bits, w-bind, w-end, w-list, w-if}
+use Rattle.bits.specs.Back.{w-give, w-bits, w-bind, w-end, w-list, w-if}
+use Rattle.bits.specs.Terms.{Writes}
 use Rattle.oamd.specs.declared.Offset.{Offset}
 use Rattle.oamd.specs.declared.BlockUpdate.{BlockUpdate}
 use Rattle.oamd.specs.declared.Gain.{Gain}
@@ -23,7 +24,7 @@ use Rattle.oamd.specs.Programme.{set?}
 use Rattle.oamd.specs.Reserved.{SampleOffsetCode, ZoneConstraintsIdx, ObjectSizeIdx}
 use Rattle.oamd.specs.Timing.{sample-offset, block-update-info}
 use Rattle.oamd.specs.Block.{object-basic-info, coordinates, position, distance, zone, extent, screen}
-use Rattle.form.specs.Valid.{betweenIf, _and_}
+use Rattle.form.specs.Valid.{betweenIf}
 use Rattle.roundtrip.specs.Lemmas.Codable.{offsetCodable, updateCodable, gainCodable, priorityCodable, distanceCodable, extentCodable}
 use Rattle.form.specs.Form.{offsetBits, updateBits, gainBits, priorityBits, distanceBits, zoneBits, extentBits, screenBits}
 use Rattle.form.specs.Lemmas.Tests.{halves, Ranged, in-range, always-ranged}

@@ -10,7 +10,7 @@ use lib.Dec.{leb, ltb, eqb}
 use Rattle.bits.specs.Language.{both}
 use Rattle.bits.specs.Writes.{toBits, only, eachBits}
 use Rattle.bits.specs.Lists.{length-toBits}
-use Rattle.bits.specs.Ensures.{Every}
+use Rattle.bits.specs.Terms.{Every}
 use Rattle.oamd.specs.declared.Programme.{Programme}
 use Rattle.oamd.specs.declared.Bed.{Bed}
 use Rattle.oamd.specs.declared.Offset.{Offset}

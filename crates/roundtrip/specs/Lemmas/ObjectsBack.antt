@@ -10,8 +10,8 @@ use lib.ListN.{length, take, drop, length-drop, take-append-drop}
 use lib.Seq.{length-take-le}
 use lib.Dec.{eqb}
 use Rattle.bits.specs.Language.{from}
-use Rattle.bits.specs.Back.{Along, Writes, w-each}
-use Rattle.bits.specs.Ensures.{Every}
+use Rattle.bits.specs.Back.{w-each}
+use Rattle.bits.specs.Terms.{Along, Writes, Every}
 use Rattle.oamd.specs.declared.Shares.{Shares}
 use Rattle.oamd.specs.declared.Block.{Block}
 use Rattle.oamd.specs.declared.Scene.{Scene}

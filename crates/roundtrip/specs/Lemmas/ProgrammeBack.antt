@@ -8,18 +8,19 @@ use native.Mathlib.Omega.{arith}
 use lib.ListN.{length, take}
 use lib.Seq.{length-take-le}
 use lib.Dec.{eqb}
-use borrow.Author.Tests.{eqb-true, eq-eqb, ne-eqb, lt-ltb, le-ltb, not-true}
+use borrow.Author.Tests.{eq-eqb, ne-eqb, lt-ltb, le-ltb}
 use Rattle.bits.specs.Language.{pick, both, give, _>>=_, bits, bitsIf, from, for, between}
 use Rattle.bits.specs.Steps.{by-order}
 use Rattle.bits.specs.Writes.{toBits, only, eachBits}
-use Rattle.bits.specs.Back.{Writes, w-give, w-bits, w-bind, w-end, w-is, w-pass, w-each}
+use Rattle.bits.specs.Back.{w-give, w-bits, w-bind, w-end, w-is, w-pass, w-each}
+use Rattle.bits.specs.Terms.{Writes}
 use Rattle.oamd.specs.declared.Bed.{Bed}
 use Rattle.oamd.specs.declared.Programme.{Programme}
-use Rattle.oamd.specs.Tables.{mostObjects, mostBeds}
-use Rattle.oamd.specs.Programme.{set?, clear?, hasBeds, hasIsf, hasDynamic, hasReserved, bedInstances, bedOf, bed-assignment, filled, noBed, Beds, bed-instances, intermediate-spatial-format, num-dynamic-objects, reserved-data, program-assignment, agrees}
+use Rattle.oamd.specs.Tables.{mostBeds}
+use Rattle.oamd.specs.Programme.{set?, clear?, hasIsf, hasDynamic, bedInstances, bedOf, bed-assignment, filled, noBed, Beds, bed-instances, intermediate-spatial-format, num-dynamic-objects, reserved-data, program-assignment, agrees}
 use Rattle.oamd.specs.Reserved.{IntermediateSpatialFormatIdx}
 use Rattle.oamd.specs.Payload.{oa-md-version, object-count, header}
-use Rattle.form.specs.Valid.{betweenIf, bedValid, entriesValid, programmeValid}
+use Rattle.form.specs.Valid.{betweenIf, bedValid}
 use Rattle.form.specs.Form.{countBits, bedBits, bedsBits, assignmentBits, headerBits}
 use Rattle.form.specs.Lemmas.Facts.{ProgrammeFacts, beds-le}
 use Rattle.form.specs.Lemmas.Tests.{halves, by-test, by-flag, Ranged, in-range, always-ranged}

@@ -5,7 +5,8 @@ use Prim.Native.Nat.{ℕ, _^_, _<_}
 use native.Mathlib.Omega.{arith}
 use Rattle.bits.specs.Language.{pick, bitsIf}
 use Rattle.bits.specs.Writes.{toBits, only}
-use Rattle.bits.specs.Back.{Writes, w-give, w-bits, w-if}
+use Rattle.bits.specs.Back.{w-give, w-bits, w-if}
+use Rattle.bits.specs.Terms.{Writes}
 use Rattle.form.specs.Lemmas.Tests.{Ranged}
 
 -- a field that is carried if the test holds

@@ -10,20 +10,20 @@ use lib.Dec.{eqb}
 use borrow.Author.Tests.{eqb-true}
 use Rattle.bits.specs.Language.{pick, from, for, between}
 use Rattle.bits.specs.Writes.{eachBits}
-use Rattle.bits.specs.Back.{Writes, w-give, w-bits, w-bind, w-end, w-each}
-use Rattle.bits.specs.Ensures.{Every}
+use Rattle.bits.specs.Back.{w-give, w-bits, w-bind, w-end, w-each}
+use Rattle.bits.specs.Terms.{Writes, Every}
 use Rattle.oamd.specs.declared.Update.{Update}
 use Rattle.oamd.specs.declared.Timing.{Timing}
 use Rattle.oamd.specs.Tables.{mostBlocks}
 use Rattle.oamd.specs.Programme.{filled}
 use Rattle.oamd.specs.Timing.{block-update-info, MdUpdateInfo, md-update-info, samples, offsetOf, updateOf, noUpdate, timingOf}
 use Rattle.oamd.specs.Payload.{noTiming}
-use Rattle.form.specs.Valid.{betweenIf, entriesValid, sampleOffset, updateValid, timingValid}
+use Rattle.form.specs.Valid.{betweenIf, sampleOffset, updateValid}
 use Rattle.form.specs.Coded.{codedOffset, codedUpdate}
 use Rattle.roundtrip.specs.Lemmas.Codable.{updateCodable}
 use Rattle.form.specs.Form.{updateBits, timingBits}
 use Rattle.form.specs.Lemmas.Facts.{TimingFacts}
-use Rattle.form.specs.Lemmas.Tests.{halves, whole, Ranged, in-range, always-ranged, always}
+use Rattle.form.specs.Lemmas.Tests.{halves, whole, Ranged, in-range, always}
 use Rattle.roundtrip.specs.Lemmas.Entries.{entries-used, entries-filled, along}
 use Rattle.roundtrip.specs.Lemmas.Means.{offset-codable, offset-means, ramp-codable, ramp-means, start-means}
 use Rattle.roundtrip.specs.Lemmas.Fields.{offset-writes, update-writes}

@@ -12,8 +12,8 @@ use lib.Dec.{eqb}
 use borrow.Author.Tests.{eqb-true, eqb-false}
 use Rattle.bits.specs.Language.{pick, P, bits, when, from, for, between}
 use Rattle.bits.specs.Writes.{toBits, only, eachBits}
-use Rattle.bits.specs.Back.{Writes, w-give, w-bits, w-bind, w-end, w-is, w-when, w-each}
-use Rattle.bits.specs.Ensures.{Every}
+use Rattle.bits.specs.Back.{w-give, w-bits, w-bind, w-end, w-is, w-when, w-each}
+use Rattle.bits.specs.Terms.{Writes, Every}
 use Rattle.oamd.specs.declared.TrimConfig.{TrimConfig}
 use Rattle.oamd.specs.Tables.{trimConfigs}
 use Rattle.oamd.specs.Programme.{set?, clear?}

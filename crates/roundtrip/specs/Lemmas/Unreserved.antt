@@ -9,9 +9,10 @@ use Rattle.bits.specs.declared.Refusal.the-variants.{Reserved}
 use Rattle.bits.specs.Refusals.{numberOf}
 use Rattle.bits.specs.Steps.{free-below, free-above, below-free, above-free}
 use Rattle.bits.specs.Writes.{toBits, only, Spells}
-use Rattle.bits.specs.Back.{Writes, w-unless}
+use Rattle.bits.specs.Back.{w-unless}
 use Rattle.bits.specs.Spells.{s-unless}
-use Rattle.bits.specs.Ensures.{Ensures, e-unless}
+use Rattle.bits.specs.Ensures.{e-unless}
+use Rattle.bits.specs.Terms.{Writes, Ensures}
 use Rattle.oamd.specs.Reserved.{Field, widthOf, firstReserved, lastReserved, isReserved, unreserved, unreservedIf}
 use Rattle.form.specs.Lemmas.Tests.{Ranged}
 
