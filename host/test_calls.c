@@ -3,7 +3,7 @@
 #include "lent.h"
 #include "test.h"
 
-/* samples/three-objects.oamd is given by name; the others are from document 01. */
+/* samples/three-objects.oamd is given by name; the others are from the requirements. */
 static const uint8_t small[4] = {0x01, 0x07, 0xC1, 0x00};
 
 static int is_zero(const void *p, size_t n)

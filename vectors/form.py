@@ -1,4 +1,4 @@
-"""The one form of document 01, "The written form": tables to the fields of a payload, from document 01 and clause 5.5.
+"""The one form of docs/DECISIONS.md, "The written form": tables to the fields of a payload, from the requirements and clause 5.5.
 
 Tables: a programme (class Programme), the timing as a list of (start, ramp) for each block, the records as a list of
 24 bytes each, objects outermost, blocks within, and the bytes of the trim table.  `form` gives the fields of the payload,

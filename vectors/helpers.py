@@ -420,7 +420,7 @@ def object_trims(flags):
 
 def rec(active, class_, gain=0, prio=0, x=31, y=31, z=64, dist=0, w=0, d=0, h=0, zone=0, elev=1,
         scr=0, sf=0, df=0, snap=0, div=0, mode=0, dval=0, pres=0, ex=0, ey=0, ez=0):
-    """The 24 bytes of document 01 as 48 hex digits, byte values as they stand in the record (gain: dB + 50,
+    """The 24 bytes of the requirements as 48 hex digits, byte values as they stand in the record (gain: dB + 50,
     z: numerator + 64, dist: 0, 1 or 2 + index).  The keyword defaults are those of Tables 28 and 29:
     gain minus infinity (0), priority 0, x = y = 0,5 (31 of 62), z = 0 (64), no distance, sizes 0, zone 0,
     elevation true, no screen, no snap; and 0 for what is not carried (bytes 17 to 23)."""
@@ -438,7 +438,7 @@ def C(default=0, disable=0, pres=0, centre=0, surround=0, height=0, tb=(0, 0), l
 
 
 def T(objects, warp, mode, configs=(), flags=None):
-    """The trim table of document 02 where there is a trim element: 94 + objects bytes.  configs: nine C(), or none if they are
+    """the trim table where there is a trim element: 94 + objects bytes.  configs: nine C(), or none if they are
     not carried; flags: those of the objects, None if they are not carried."""
     assert len(configs) in (0, 9) and (flags is None or len(flags) == objects)
     rows = [b for c in configs for b in c] or [0] * 90

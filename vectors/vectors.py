@@ -1,5 +1,5 @@
 #!/usr/bin/env python3
-"""Test vectors for a reader and a writer of OAMD payloads (ETSI TS 103 420 clauses 5.5, 5.6, document 01).
+"""Test vectors for a reader and a writer of OAMD payloads (ETSI TS 103 420 clauses 5.5, 5.6, the requirements).
 
   python3 vectors.py              write crates/vectors/data/payloads, crates/vectors/data/written, crates/vectors/stdout
                                   and docs/VECTORS.md
@@ -9,7 +9,7 @@
 
 payloads: per vector 2 bytes big-endian length, then the payload.  written: likewise the written form of the vector's tables;
 length 0 where the payload is refused, has the reserved content flag set, or has a form above 4,096 bytes.  stdout: per vector
-a line vector=N, then the lines of the listing program of document 01, then, of a payload with a trim element, its trim table,
+a line vector=N, then the lines of the listing program of the requirements, then, of a payload with a trim element, its trim table,
 then, of an accepted payload without that flag, the written form.  The buffers are taken to be large enough, so refusal 9 does
 not occur, and 11 only above 4,096 bytes.
 Nothing here decodes a payload: the expected text stands in the vectors_*.py files, derived by hand; form.py writes the forms,
@@ -36,7 +36,7 @@ from form import form, tables_of  # noqa: E402
 from helpers import VECTORS, count_, dyn_only, pack, version  # noqa: E402
 from written import HAND, TABLES, check_hand, check_tables  # noqa: E402
 
-# The programme of the vectors whose payload is given as bytes: that of document 01's example, one dynamic object.
+# The programme of the vectors whose payload is given as bytes: that of the requirements' example, one dynamic object.
 EXAMPLE = [version(), count_(0), dyn_only()]
 EXAMPLE = [field for part in EXAMPLE for field in part]
 
@@ -110,7 +110,7 @@ def write_docs(f):
     for n, v in enumerate(VECTORS):
         f.write("| %d | %s | %s | %s |\n" % (n, cell(v.name), cell(v.exercises), cell(v.how)))
     f.write("\n## Written forms\n\nThe form of the tables of each accepted vector whose reserved content flag is clear stands in `written`, "
-            "from the writer in form.py, which follows document 01 and clause 5.5. The bits of these %d were derived by hand from the tables, "
+            "from the writer in form.py, which follows the requirements and clause 5.5. The bits of these %d were derived by hand from the tables, "
             "field by field (vectors/written.py); both agree in every field.\n" % len(HAND))
     number = {v.name: n for n, v in enumerate(VECTORS)}
     for name, shows, parts, hexa in HAND:

@@ -1,4 +1,4 @@
-"""Group 8: alternate ids of the extended and of the trim element, which are read and ignored (5.6.4.4, Table 27; document 02, item 2).
+"""Group 8: alternate ids of the extended and of the trim element, which are read and ignored (5.6.4.4, Table 27; docs/DECISIONS.md, point 16).
 
 Header of dynamic objects only (14 bits) with the alternate flag set: id 14-17, size 18-22, alternate id 23-26, discard flag 27, fields
 from 28 on.  Elements with their ids and sizes: OBJ 4 + 5 + 24 = 33 bits (21 used), EXT 4 + 5 + 8 = 17 (7 used), TRIM 4 + 5 + 16 = 25

@@ -1,4 +1,4 @@
-"""Group 1: the payload header and the program assignment (5.5.2, 5.5.3) and the examples of document 01.
+"""Group 1: the payload header and the program assignment (5.5.2, 5.5.3) and the examples of the requirements.
 
 Bit positions used below: version 0-1, object_count_bits 2-6, b_dyn_object_only_program 7; then either
 b_lfe_present 8, alternate flag 9, element count 10-13 (header of 14 bits), or content_description 8-11 and the
@@ -12,22 +12,22 @@ WHOLE = flat([dyn_header(1, 1), unknown(15, discard=1)])
 assert pack(WHOLE, 0)[0] == EXAMPLE
 ONE_DYNAMIC = "refusal=0 place=0 objects=1 bed=0 isf=0 dynamic=1 blocks=0 unknown="
 
-# ------------------------------------------------------------------------------- examples of document 01
+# ------------------------------------------------------------------------------- examples of the requirements
 
-vector("example", "the worked example of document 01", "printed in document 01",
+vector("example", "the worked example of the requirements", "printed in the requirements",
        EXAMPLE,
        lines("refusal=0 place=0 objects=1 bed=0 isf=0 dynamic=1 blocks=0 unknown=1"))
 
 # The element's size group is at 18, its flag at 22, so the element takes bits 23-30 of 24 bits.
-vector("example-3-bytes", "declared size does not fit (refusal 2 at the size)", "printed in document 01",
+vector("example-3-bytes", "declared size does not fit (refusal 2 at the size)", "printed in the requirements",
        EXAMPLE[:3], refused(2, 18), whole=WHOLE)
 # The id is at 14-17 of 16 bits.
-vector("example-2-bytes", "element id passes the end", "printed in document 01", EXAMPLE[:2], refused(2, 14), whole=WHOLE)
+vector("example-2-bytes", "element id passes the end", "printed in the requirements", EXAMPLE[:2], refused(2, 14), whole=WHOLE)
 # b_lfe_present is at 8 of 8 bits.
-vector("example-1-byte", "b_lfe_present passes the end", "printed in document 01", EXAMPLE[:1], refused(2, 8), whole=WHOLE)
-vector("example-0-bytes", "the empty payload", "printed in document 01", b"", refused(2, 0), whole=WHOLE)
+vector("example-1-byte", "b_lfe_present passes the end", "printed in the requirements", EXAMPLE[:1], refused(2, 8), whole=WHOLE)
+vector("example-0-bytes", "the empty payload", "printed in the requirements", b"", refused(2, 0), whole=WHOLE)
 
-vector("version-1", "version 1 (41 00)", "printed in document 01", bytes.fromhex("4100"), refused(3, 0))
+vector("version-1", "version 1 (41 00)", "printed in the requirements", bytes.fromhex("4100"), refused(3, 0))
 
 # The example and 4,092 bytes more: all bits after the element (31 on) are padding.
 vector("4096-bytes", "4,096 bytes accepted, the rest being padding of ones",
@@ -39,7 +39,7 @@ vector("4097-bytes", "4,097 bytes refused with 1", "refusal 1; its place is the 
 # ------------------------------------------------------------------------------- version
 
 vector("4097-bytes-version-1", "refusal 1 comes before refusal 3",
-       "order of document 01: 1 first; place is the length 4097",
+       "order of the requirements: 1 first; place is the length 4097",
        bytes.fromhex("4100"), refused(1, 4097), extra=b"\x00" * 4095)
 vector("version-2", "version 2", "bits 10 are version 2: refusal 3, place 0 always",
        [version(2), count_(0), dyn_only(), tail(0)], refused(3, 0))

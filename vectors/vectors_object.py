@@ -13,7 +13,7 @@ def objects(n, body, blocks=1):
 
 # 0 dB 50; minus infinity 0; bits 0: +15 -> 65; 14: +1 -> 51; 15: -1 -> 49; 63: -49 -> 1; idx 3: the object before, 1.
 vector("gain-each", "gain index 0, 1, 2 with bits 0, 14, 15, 63, then index 3 twice",
-       "document 01: +15, +1, -1, -49 for the bits; byte = dB + 50; index 3 repeats the object before (1)",
+       "the requirements: +15, +1, -1, -49 for the bits; byte = dB + 50; index 3 repeats the object before (1)",
        objects(8, [block0(g, PRIO_DEFAULT, PLAIN) for g in (gain(0), gain(1), gain(2, 0), gain(2, 14), gain(2, 15),
                                                           gain(2, 63), gain(3), gain(3))]),
        lines("refusal=0 place=0 objects=8 bed=0 isf=0 dynamic=8 blocks=1 unknown=0 block=0,0,0",

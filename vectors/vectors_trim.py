@@ -1,4 +1,4 @@
-"""Group 7: the trim element (5.5.12, 5.6.5; document 02, item 1).
+"""Group 7: the trim element (5.5.12, 5.6.5; docs/DECISIONS.md, "The trim element").
 
 Header of dynamic objects only (14 bits): id 14-17, size 18-22, discard flag 23, warp_mode 24-25, reserved 26-27, global_trim_mode
 28-29; then b_disable_trim_per_obj 30 and the objects' flags from 31 on, or in mode 2 the first configuration: b_default_trim 30,

@@ -1,5 +1,5 @@
-"""Written forms derived by hand, bit by bit, from the tables of a vector and document 01, "The written form"; and trim tables
-derived by hand, byte by byte, from the fields of a vector and document 02, item 1.
+"""Written forms derived by hand, bit by bit, from the tables of a vector and docs/DECISIONS.md, "The written form"; and trim tables
+derived by hand, byte by byte, from the fields of a vector and docs/DECISIONS.md, "The trim element".
 
 `hand` takes the vector's name, what its form shows, the fields in the order of clause 5.5 (a line for each part, `N x` before
 a part that stands N times), and the bytes.  The bits were all derived by hand; the bytes of the forms above 17 bytes were

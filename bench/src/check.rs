@@ -1,4 +1,4 @@
-//! The promises of document 01 held against answers, without a second reader.
+//! The promises of the requirements held against answers, without a second reader.
 
 pub mod length;
 

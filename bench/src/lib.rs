@@ -2,8 +2,8 @@
 //! payloads, and a generator of test payloads.
 //!
 //! `plain` was written from the documents alone: ETSI TS 103 420 V1.2.1
-//! clauses 5.5 and 5.6 ("the standard"), the scope paper (document 01), the
-//! change requests (document 02) and the paper of open points. Clause and table
+//! clauses 5.5 and 5.6 ("the standard"), the requirements and
+//! the paper of open points. Clause and table
 //! numbers in comments are those of the standard; "point n" is a number of the
 //! open points.
 

@@ -35,7 +35,7 @@ pub const MAX_OBJECTS: usize = 159;
 /// A buffer of this many bytes holds the trim table of every payload.
 pub const MAX_TRIM_BYTES: usize = trim::FIRST_FLAG + MAX_OBJECTS;
 
-/// The numbers of the refusals (document 01, "What a call answers").
+/// The numbers of the refusals (docs/DECISIONS.md, "The refusals").
 pub mod refusal {
     pub const ACCEPTED: u32 = 0;
     pub const TOO_LONG: u32 = 1;
@@ -176,7 +176,7 @@ pub fn read(payload: &[u8], records: &mut [u8], trim: &mut [u8]) -> Answer {
     }
 }
 
-/// Writes the one form of the tables (document 01, "The written form"). If it
+/// Writes the one form of the tables (docs/DECISIONS.md, "The written form"). If it
 /// is accepted, the first `length` bytes of `out` hold the payload and no other
 /// byte is changed; if it is refused, no byte is changed.
 pub fn write(

@@ -1,4 +1,4 @@
-//! The trim element (5.5.12, document 02 item 1): tables, forms, refusals and
+//! The trim element (5.5.12, docs/DECISIONS.md, "The trim element"): tables, forms, refusals and
 //! places by hand.
 
 mod common;

@@ -1,4 +1,4 @@
-//! The examples of document 01, "Worked by hand", and what stands about them.
+//! The examples of docs/DECISIONS.md, "Worked by hand", and what stands about them.
 
 mod common;
 

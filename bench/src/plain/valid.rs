@@ -1,4 +1,4 @@
-//! Which tables are valid (document 01, "The written form"; points 24, 25).
+//! Which tables are valid (docs/DECISIONS.md, "The written form"; points 24, 25).
 
 use super::record::*;
 use super::trim::*;
@@ -117,7 +117,7 @@ fn precise(r: &Record) -> bool {
 }
 
 /// A trim table that some accepted payload gives with as many objects as it has
-/// flags (document 02, item 1).
+/// flags (docs/DECISIONS.md, "The trim element").
 pub fn trim(table: &[u8]) -> bool {
     let (configs, rest) = table[FIRST_CONFIG..].split_at(CONFIGS * CONFIG_BYTES);
     let configs = configs.as_chunks::<CONFIG_BYTES>().0;

@@ -1,4 +1,4 @@
-//! The one written form (document 01, "The written form").
+//! The one written form (docs/DECISIONS.md, "The written form").
 
 use super::bits::Refusal;
 use super::extended::extends;

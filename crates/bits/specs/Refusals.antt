@@ -1,4 +1,4 @@
--- The refusals of document 01, by their numbers.
+-- The refusals (docs/DECISIONS.md, "The refusals"), by their numbers.
 use Prim.Native.Nat.{ℕ}
 use Rattle.bits.specs.declared.Refusal.{Refusal}
 use Rattle.bits.specs.declared.Refusal.the-variants.{TooLong, EndsEarly, Version, Counts, Reserved, Second, Early, PastElement, Room, NotValid, NoFit}

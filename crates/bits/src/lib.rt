@@ -53,7 +53,7 @@ pub struct SizeStep {
     pub cur: Cur,
 }
 
-// What a call can refuse, in the order of document 01's table.
+// What a call can refuse, in the order of the table of docs/DECISIONS.md.
 pub enum Refusal {
     TooLong,
     EndsEarly,

@@ -1,4 +1,4 @@
--- The numbers of document 01: how many objects, blocks and unknown elements there can be, and the room that holds the tables of every payload. They
+-- The numbers of docs/DECISIONS.md: how many objects, blocks and unknown elements there can be, and the room that holds the tables of every payload. They
 -- hold of every payload that is accepted, with the reserved content flag or without it.
 use mathlib.Core.Path.{_≡_, refl, ap}
 use mathlib.Core.Bool.{true, false, true≢false, false≢true}

@@ -1,4 +1,4 @@
--- When a refusal is given, in the words of document 01: the conditions of 2, 5 and 8, over the bytes of a payload.
+-- When a refusal is given, in the words of docs/DECISIONS.md: the conditions of 2, 5 and 8, over the bytes of a payload.
 use mathlib.Core.Path.{_≡_}
 use mathlib.Core.Bool.{Bool, true}
 use mathlib.Core.List.{List, [], _∷_, _++_}

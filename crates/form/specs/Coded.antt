@@ -1,4 +1,4 @@
--- The written form's choices (document 01): from a value of the tables to the coded fields that carry it.
+-- The written form's choices (docs/DECISIONS.md, "The written form"): from a value of the tables to the coded fields that carry it.
 use Prim.Native.Nat.{ℕ, _+_, _-_, _/_}
 use lib.Dec.{ltb, eqb}
 use Rattle.bits.specs.Language.{pick, both, asFlag}

@@ -1,4 +1,4 @@
--- The written form (document 01): the bits of valid tables, clause by clause in the order in which they are read, and the bytes that hold them.
+-- The written form (docs/DECISIONS.md, "The written form"): the bits of valid tables, clause by clause in the order in which they are read, and the bytes that hold them.
 use mathlib.Core.Bool.{Bool, true, false, not}
 use mathlib.Core.List.{List, [], _∷_, _++_}
 use Prim.Native.Nat.{ℕ, zero, suc, _+_, _-_, _*_, _/_, _%_}

@@ -1,5 +1,5 @@
--- Valid tables (document 01, "The written form"): programme and timing such as some accepted payload gives, the reserved content flag clear; each
--- record, by its own bytes and its class, such as some payload gives it; and the trim table (document 02, item 1) such as some payload with that
+-- Valid tables (docs/DECISIONS.md, "The written form"): programme and timing such as some accepted payload gives, the reserved content flag clear; each
+-- record, by its own bytes and its class, such as some payload gives it; and the trim table such as some payload with that
 -- programme gives it. What is not carried, and an entry that is not used, is 0.
 use mathlib.Core.Path.{_≡_}
 use mathlib.Core.Bool.{Bool, true, not}

@@ -4,6 +4,7 @@ ghost use Prim.Native.Nat.{_≤_};
 ghost use Rattle.oamd.specs.Tables.{bedLabels, nonstdLabels};
 ghost use Rattle.oamd.specs.Programme.{labels, bedObjects, allBeds, named, agrees, shares, classOf};
 use oamd::Bed;
+use oamd::MOST_BEDS;
 use oamd::Programme;
 use oamd::Shares;
 
@@ -49,12 +50,12 @@ fn bed_objects(b: Bed) -> u32
     nonstd_labels(b.assignment)
 }
 
-fn all_beds(beds: [Bed; 9]) -> u32
+fn all_beds(beds: [Bed; MOST_BEDS]) -> u32
     ensures { λ r. ⌜ (r ≡ allBeds beds) × (r ≤ 180) ⌝ }
 {
     let mut sum: u32 = 0;
     let mut i: usize = 0;
-    while i < 9 {
+    while i < MOST_BEDS {
         let b = beds[i];
         sum = sum + bed_objects(b);
         i = i + 1;

@@ -4,6 +4,7 @@ ghost use Prim.Native.Nat.{_≤_};
 ghost use Rattle.oamd.specs.Timing.{offsetOf, rampOf, startOf, updateOf, noUpdate};
 ghost use Rattle.oamd.specs.Payload.{noTiming};
 use oamd::BlockUpdate;
+use oamd::MOST_BLOCKS;
 use oamd::Offset;
 use oamd::Timing;
 use oamd::Update;
@@ -64,6 +65,6 @@ pub fn no_timing() -> Timing
     };
     Timing {
         blocks: 0,
-        updates: [none; 8],
+        updates: [none; MOST_BLOCKS],
     }
 }

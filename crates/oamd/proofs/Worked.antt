@@ -1,4 +1,4 @@
--- The examples of document 01 that are marked to be proved, two trim elements and a payload with records of each class and each status, worked by hand: one
+-- The examples of docs/DECISIONS.md, "Worked by hand", two trim elements and a payload with records of each class and each status, worked by hand: one
 -- list, one statement, shown by computation.
 use mathlib.Core.Path.{_≡_, refl}
 use mathlib.Core.List.{List, [], _∷_, _++_}

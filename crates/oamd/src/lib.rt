@@ -14,6 +14,7 @@ pub use limits::MOST_BLOCKS;
 pub use limits::MOST_BYTES;
 pub use limits::MOST_TRIM;
 pub use limits::PER_OBJECT_BYTE;
+pub use limits::RECORD_BYTES;
 pub use limits::RECORD_STRIDE;
 pub use limits::ROOM_BYTES;
 pub use limits::TRIM_CONFIGS;

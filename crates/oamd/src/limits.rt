@@ -9,6 +9,9 @@ pub const MOST_BLOCKS: usize = 8;
 // The bed instances, at the most.
 pub const MOST_BEDS: usize = 9;
 
+// The bytes of a record that have a meaning.
+pub const RECORD_BYTES: usize = 24;
+
 // From one record to the next.
 pub const RECORD_STRIDE: usize = 24;
 

@@ -1,4 +1,4 @@
--- The tables of every accepted payload whose reserved content flag is clear are valid (document 01, "The written form").
+-- The tables of every accepted payload whose reserved content flag is clear are valid (docs/DECISIONS.md, "The written form").
 use mathlib.Core.Path.{_≡_, refl, sym, _∙_}
 use mathlib.Core.Bool.{true, false}
 use mathlib.Core.List.{List, []}

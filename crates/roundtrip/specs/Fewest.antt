@@ -1,4 +1,4 @@
--- Where document 01 leaves a choice, the form takes the fewest bits, and of equal length the smallest number: whatever bits a reader takes for a
+-- Where docs/DECISIONS.md leaves the form a choice, the form takes the fewest bits, and of equal length the smallest number: whatever bits a reader takes for a
 -- group of fields, the form's bits of what they mean come first. What the form rules out beforehand is a premise.
 use mathlib.Core.Path.{_≡_, refl}
 use mathlib.Core.Bool.{true}

@@ -1,4 +1,4 @@
--- A trim table is bad exactly when no accepted payload with that programme gives it (document 02, item 1): a valid one is given by the payload of
+-- A trim table is bad exactly when no accepted payload with that programme gives it (docs/DECISIONS.md, point 46): a valid one is given by the payload of
 -- that programme and that trim table alone, and whatever trim table is given is valid.
 use mathlib.Core.Path.{_≡_, refl, sym, ap, _∙_, subst}
 use mathlib.Core.Bool.{true, false, false≢true}

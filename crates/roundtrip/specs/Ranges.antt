@@ -1,4 +1,4 @@
--- The ranges of document 01: whatever is accepted, its reserved content flag set or clear, every byte of every record is in its range, every start up to
+-- The ranges of docs/DECISIONS.md: whatever is accepted, its reserved content flag set or clear, every byte of every record is in its range, every start up to
 -- 2,047, every ramp up to 2,048; and every byte that a read lays is below 256.
 use mathlib.Core.Path.{_≡_, refl, sym, subst}
 use mathlib.Core.Bool.{true}

@@ -8,6 +8,7 @@ use oamd::BlockUpdate;
 use oamd::Distance;
 use oamd::Divergence;
 use oamd::Extent;
+use oamd::MOST_BEDS;
 use oamd::Offset;
 use oamd::Position;
 use oamd::Precise;
@@ -49,7 +50,7 @@ pub struct BedsStep {
     pub multiple: u8,
     pub instances: u8,
     pub count: u8,
-    pub beds: [Bed; 9],
+    pub beds: [Bed; MOST_BEDS],
     pub cur: Cur,
 }
 

@@ -3,6 +3,7 @@ ghost use mathlib.Core.Path.{_≡_};
 ghost use Prim.Native.Nat.{_≤_, _<_};
 ghost use Rattle.bits.specs.Language.{bit};
 ghost use Rattle.bits.specs.View.{Reads, Took, Gave};
+ghost use Rattle.oamd.specs.Tables.{mostBeds};
 ghost use Rattle.oamd.specs.Programme.{bedInstances, bed-assignment, intermediate-spatial-format, num-dynamic-objects, reserved-data, program-assignment};
 ghost use Rattle.syntax.specs.Beds.{BedsRead};
 use crate::BedStep;
@@ -11,6 +12,7 @@ use crate::ProgrammeStep;
 use bits::Cur;
 use bits::Limit;
 use oamd::Bed;
+use oamd::MOST_BEDS;
 use oamd::Programme;
 use units::ByteCount;
 
@@ -34,7 +36,7 @@ fn read_bed(s: &[u8], l: Limit, c: Cur) -> BedStep
 // How many beds there are: 0 to 9.
 fn instances_of(content: u32, multiple: u32, instances: u32) -> u8
     requires { ⌜ instances < 8 ⌝ }
-    ensures { λ r. ⌜ (r ≡ bedInstances content multiple instances) × (r ≤ 9) ⌝ }
+    ensures { λ r. ⌜ (r ≡ bedInstances content multiple instances) × (r ≤ mostBeds) ⌝ }
 {
     if oamd::has_beds(content) {
         if multiple == 1 {
@@ -60,7 +62,7 @@ fn read_beds(s: &[u8], l: Limit, c: Cur, content: u32) -> BedsStep
         lfeonly: 0,
         standard: 0,
     };
-    let mut beds = [none; 9];
+    let mut beds = [none; MOST_BEDS];
     let mut cur = instances;
     let mut i: usize = 0;
     let n = count as usize;

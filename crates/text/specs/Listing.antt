@@ -1,4 +1,4 @@
--- The listing of a payload (document 01, "Listing program"): line by line, in the printed order.
+-- The listing of a payload (docs/DECISIONS.md, "The listing"): line by line, in the printed order.
 use mathlib.Core.List.{List, [], _∷_, _++_}
 use Prim.Native.Nat.{ℕ, _+_, _*_}
 use lib.Dec.{eqb}

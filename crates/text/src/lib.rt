@@ -7,6 +7,8 @@ ghost use Rattle.text.specs.Listing.{listingOf, zeros, listing};
 ghost use Rattle.text.specs.Answer.{textAnswer, texted};
 ghost use Rattle.text.specs.Most.{mostText};
 ghost use Rattle.text.specs.Laying.{Holds};
+use oamd::MOST_TRIM;
+use oamd::ROOM_BYTES;
 use oamd::ReadAnswer;
 use units::ByteCount;
 
@@ -17,12 +19,6 @@ pub use laying::lay_bytes;
 pub use laying::lay_decimal;
 pub use laying::lay_hex;
 pub use laying::lay_line;
-
-// Room for the records of every payload.
-const ROOM: usize = 30720;
-
-// Room for the trim table of every payload.
-const TRIM: usize = 253;
 
 // Refusal 18: the lent buffer is shorter than the text.
 const SHORT_TEXT: u8 = 18;
@@ -35,16 +31,16 @@ pub struct TextAnswer {
     pub refusal: u8,
 }
 
-fn no_records() -> [u8; ROOM]
+fn no_records() -> [u8; ROOM_BYTES]
     ensures { λ r. ⌜ (r ≡ zeros roomBytes) × (length r ≡ roomBytes) ⌝ }
 {
-    [0u8; ROOM]
+    [0u8; ROOM_BYTES]
 }
 
-fn no_trim() -> [u8; TRIM]
+fn no_trim() -> [u8; MOST_TRIM]
     ensures { λ r. ⌜ (r ≡ zeros mostTrim) × (length r ≡ mostTrim) ⌝ }
 {
-    [0u8; TRIM]
+    [0u8; MOST_TRIM]
 }
 
 fn answered(refusal: u8, place: u64, bytes: u32) -> TextAnswer

@@ -11,15 +11,11 @@ use crate::laying::lay_hex;
 use crate::laying::lay_line;
 use crate::laying::lay_number;
 use oamd::Programme;
+use oamd::RECORD_BYTES;
+use oamd::RECORD_STRIDE;
 use oamd::ReadAnswer;
 use oamd::Timing;
 use oamd::Update;
-
-// From one record to the next.
-const STRIDE: usize = 24;
-
-// The bytes of a record that are listed.
-const SHOWN: usize = 24;
 
 fn lay_update(text: &mut [u8], at: usize, blk: usize, u: Update) -> usize
     ensures { λ r. ⌜ Laid (now (text .entry)) (now (text .exit)) at r (blockLine blk u) ⌝ }
@@ -60,7 +56,7 @@ fn lay_record(
     requires { ⌜ from + recordBytes ≤ length (now records) ⌝ }
     ensures { λ r. ⌜ Laid (now (text .entry)) (now (text .exit)) at r (recordLine object blk (take recordBytes (drop from (now (records .entry))))) ⌝ }
 {
-    let end = from + SHOWN;
+    let end = from + RECORD_BYTES;
     let to = lay_bytes(text, at, &keys::RECORD);
     let to = lay_number(text, to, object as u64, b',');
     let to = lay_number(text, to, blk as u64, b',');
@@ -86,7 +82,7 @@ fn lay_object(
     let mut blk: usize = 0;
     while blk < blocks {
         to = lay_record(text, to, object, blk, records, place);
-        place = place + STRIDE;
+        place = place + RECORD_STRIDE;
         blk = blk + 1;
     }
     to
@@ -97,7 +93,7 @@ fn lay_objects(text: &mut [u8], at: usize, objects: usize, blocks: usize, record
     requires { ⌜ recordStride * (objects * blocks) ≤ length (now records) ⌝ }
     ensures { λ r. ⌜ Laid (now (text .entry)) (now (text .exit)) at r (recordLines objects blocks (now (records .entry))) ⌝ }
 {
-    let step = STRIDE * blocks;
+    let step = RECORD_STRIDE * blocks;
     let mut to = at;
     let mut place: usize = 0;
     let mut object: usize = 0;

@@ -2,18 +2,16 @@
 // table follows, if it is not all 0; its tables are written, and what is written is read back; tables with the reserved content flag have no written form.
 ghost use mathlib.Core.Path.{_≡_};
 ghost use Prim.Native.Nat.{_<_};
+use oamd::MOST_BYTES;
+use oamd::MOST_TRIM;
+use oamd::ROOM_BYTES;
 use oamd::ReadAnswer;
+use oamd::TRIM_FIXED;
 
 mod same; // same.rt: whether two tables are the same
 
 // The reserved content flag, the first of the four that are sent.
 const RESERVED: u8 = 8;
-
-// The bytes of a trim table before the flags of the objects.
-const TRIM_FIXED: usize = 94;
-
-// The bytes of a trim table, at the most.
-const TRIM_MOST: usize = 253;
 
 fn wide(x: u8) -> usize
     ensures { λ r. ⌜ (r ≡ x) × (r < 256) ⌝ }
@@ -23,8 +21,8 @@ fn wide(x: u8) -> usize
 
 // Whether a written payload gives the tables that it was written from, and no unknown element.
 fn reads_back(a: ReadAnswer, records: &[u8], trim: &[u8], payload: &[u8]) -> bool {
-    let mut again = [0u8; 30720];
-    let mut trim_again = [255u8; 253];
+    let mut again = [0u8; ROOM_BYTES];
+    let mut trim_again = [255u8; MOST_TRIM];
     let b = reader::read(payload, &mut again, &mut trim_again);
     if b.refusal != 0 {
         return false;
@@ -32,7 +30,7 @@ fn reads_back(a: ReadAnswer, records: &[u8], trim: &[u8], payload: &[u8]) -> boo
     if b.unknown != 0 {
         return false;
     }
-    if !same::same_bytes(trim, &trim_again, TRIM_MOST) {
+    if !same::same_bytes(trim, &trim_again, MOST_TRIM) {
         return false;
     }
     same::tables(a, records, b, &again)
@@ -40,7 +38,7 @@ fn reads_back(a: ReadAnswer, records: &[u8], trim: &[u8], payload: &[u8]) -> boo
 
 // Writes the tables of an accepted payload over ones, and reads them back.
 fn write_back(a: ReadAnswer, records: &[u8], trim: &[u8]) {
-    let mut payload = [255u8; 4096];
+    let mut payload = [255u8; MOST_BYTES];
     let w = writer::write(a.programme, a.timing, records, trim, &mut payload);
     if w.refusal != 0 {
         printing::not_written(w.refusal, w.place);
@@ -48,7 +46,7 @@ fn write_back(a: ReadAnswer, records: &[u8], trim: &[u8]) {
     }
     let length = w.length;
     let n = length.raw() as usize;
-    if 4096 < n {
+    if MOST_BYTES < n {
         return;
     }
     printing::written(&payload[0..n]);
@@ -58,7 +56,7 @@ fn write_back(a: ReadAnswer, records: &[u8], trim: &[u8]) {
 
 // The trim table of so many objects, unless it is all 0, as it is without a trim element.
 fn list_trim(objects: u8, trim: &[u8]) {
-    let none = [0u8; 253];
+    let none = [0u8; MOST_TRIM];
     let n = TRIM_FIXED + wide(objects);
     if same::same_bytes(trim, &none, n) {
         return;
@@ -72,8 +70,8 @@ fn list_trim(objects: u8, trim: &[u8]) {
 // Lists a payload, reads it, and writes its tables again. The trim buffer holds ones before.
 fn list_one(payload: &[u8]) {
     printing::list(payload);
-    let mut records = [0u8; 30720];
-    let mut trim = [255u8; 253];
+    let mut records = [0u8; ROOM_BYTES];
+    let mut trim = [255u8; MOST_TRIM];
     let a = reader::read(payload, &mut records, &mut trim);
     let programme = a.programme;
     if a.refusal == 0 {

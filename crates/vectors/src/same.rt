@@ -1,12 +1,12 @@
 // Whether two tables are the same: programme, timing, records and trim.
 use oamd::Bed;
+use oamd::MOST_BEDS;
+use oamd::MOST_BLOCKS;
 use oamd::Programme;
+use oamd::ROOM_BYTES;
 use oamd::ReadAnswer;
 use oamd::Timing;
 use oamd::Update;
-
-// The bytes that hold the records of every payload.
-const ROOM: usize = 30720;
 
 fn same_bed(a: Bed, b: Bed) -> bool {
     if a.assignment != b.assignment {
@@ -22,7 +22,7 @@ fn same_beds(a: Programme, b: Programme) -> bool {
     let first = a.beds;
     let second = b.beds;
     let mut i: usize = 0;
-    while i < 9 {
+    while i < MOST_BEDS {
         if !same_bed(first[i], second[i]) {
             return false;
         }
@@ -91,7 +91,7 @@ fn same_timing(a: Timing, b: Timing) -> bool {
         return false;
     }
     let mut i: usize = 0;
-    while i < 8 {
+    while i < MOST_BLOCKS {
         if !same_update(first[i], second[i]) {
             return false;
         }
@@ -126,5 +126,5 @@ pub fn tables(a: ReadAnswer, records: &[u8], b: ReadAnswer, others: &[u8]) -> bo
     if !same_timing(a.timing, b.timing) {
         return false;
     }
-    same_bytes(records, others, ROOM)
+    same_bytes(records, others, ROOM_BYTES)
 }
