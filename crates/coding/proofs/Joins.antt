@@ -2,7 +2,7 @@
 use mathlib.Core.Path.{_≡_, refl, sym, ap, ap₂, _∙_, subst}
 use mathlib.Core.Bool.{Bool, true, false}
 use mathlib.Core.List.{List, _++_, append-assoc, append-nil}
-use Prim.Native.Nat.{ℕ, _+_, _-_, _*_, _/_, _%_, _^_, _≤_, _<_}
+use Prim.Native.Nat.{ℕ, suc, _+_, _-_, _*_, _/_, _%_, _^_, _≤_, _<_}
 use native.Mathlib.Nat.{mod-lt, mod-eq-of-lt, lt-of-lt-of-le, pow-le-pow-right, zero-lt-suc}
 use native.Mathlib.Omega.{arith}
 use lib.Arith.{digits-lt}
@@ -85,6 +85,10 @@ _▹_ {m = m} f g = record {
   least = omega arith;
   most = omega arith;
 }
+
+-- some bits, however many at the least
+pub nonempty : {i j : ℕ} {p : Packed} {l : List ℕ} → PacksIn (suc i) j p l → PacksIn 1 j p l
+nonempty h = record { packs = h .packs; least = omega arith; most = h .most }
 
 -- the same bits, said in another way
 pub behind-is : {i j : ℕ} {p r : Packed} {l m : List ℕ} → l ≡ m → Behind i j p r l → Behind i j p r m

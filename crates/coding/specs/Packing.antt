@@ -15,7 +15,7 @@ pub record Packs (p : Packed) (l : List ℕ) : Type 0 where
   pub same : toBits (p .width .0) (p .value) ≡ l
   pub small : p .value < 2 ^ p .width .0
 
--- and they are low to high bits
+-- and they are at least low and at most high in number
 pub record PacksIn (low high : ℕ) (p : Packed) (l : List ℕ) : Type 0 where
   pub packs : Packs p l
   pub least : low ≤ p .width .0
@@ -31,7 +31,7 @@ pub record Room (n : ℕ) (p : Packed) : Type 0 where
   pub fits : p .width .0 + n ≤ mostWidth
   pub small : p .value < 2 ^ p .width .0
 
--- the bits of r are those of p and behind them those of l, which are low to high bits
+-- the bits of r are those of p and behind them those of l, which are at least low and at most high in number
 pub record Behind (low high : ℕ) (p r : Packed) (l : List ℕ) : Type 0 where
   pub same : toBits (r .width .0) (r .value) ≡ toBits (p .width .0) (p .value) ++ l
   pub small : r .value < 2 ^ r .width .0

@@ -1,8 +1,7 @@
 // A block, in five parts of at most 24 bits (5.5.9).
 ghost use mathlib.Core.Bool.{false};
 ghost use mathlib.Core.List.{_++_};
-ghost use Prim.Native.Nat.{_≤_};
-ghost use Rattle.coding.specs.Packing.{Packs, openingBits, positioningBits, aroundBits, sizedBits, endingBits};
+ghost use Rattle.coding.specs.Packing.{PacksIn, openingBits, positioningBits, aroundBits, sizedBits, endingBits};
 use crate::Packed;
 use crate::packing::nothing;
 use crate::packing::pack;
@@ -18,8 +17,7 @@ use oamd::Scene;
 
 // Whether it is active, and gain and priority.
 pub fn opening(first: bool, s: Scene) -> Packed
-    ensures { λ r. ⌜ Packs r (openingBits first s) ⌝ }
-    ensures { λ r. ⌜ (1 ≤ r .width .0) × (r .width .0 ≤ 17) ⌝ }
+    ensures { λ r. ⌜ PacksIn 1 17 r (openingBits first s) ⌝ }
 {
     let idle = less(1, s.active);
     let p = nothing();
@@ -30,8 +28,7 @@ pub fn opening(first: bool, s: Scene) -> Packed
 
 // Where render info is sent: its status and the position.
 pub fn positioning(first: bool, s: Scene) -> Packed
-    ensures { λ r. ⌜ Packs r (positioningBits first s) ⌝ }
-    ensures { λ r. ⌜ (1 ≤ r .width .0) × (r .width .0 ≤ 20) ⌝ }
+    ensures { λ r. ⌜ PacksIn 1 20 r (positioningBits first s) ⌝ }
 {
     let p = nothing();
     let p = status(true, first, p);
@@ -40,8 +37,7 @@ pub fn positioning(first: bool, s: Scene) -> Packed
 
 // The distance and the zone.
 pub fn around(s: Scene) -> Packed
-    ensures { λ r. ⌜ Packs r (aroundBits s) ⌝ }
-    ensures { λ r. ⌜ (1 ≤ r .width .0) × (r .width .0 ≤ 10) ⌝ }
+    ensures { λ r. ⌜ PacksIn 1 10 r (aroundBits s) ⌝ }
 {
     let p = nothing();
     let p = distance(p, s.location.distance);
@@ -50,8 +46,7 @@ pub fn around(s: Scene) -> Packed
 
 // The size.
 pub fn sized(s: Scene) -> Packed
-    ensures { λ r. ⌜ Packs r (sizedBits s) ⌝ }
-    ensures { λ r. ⌜ (1 ≤ r .width .0) × (r .width .0 ≤ 22) ⌝ }
+    ensures { λ r. ⌜ PacksIn 1 22 r (sizedBits s) ⌝ }
 {
     let p = nothing();
     extent(p, s.volume)
@@ -59,8 +54,7 @@ pub fn sized(s: Scene) -> Packed
 
 // Screen and snap where they are sent, and no additional table data.
 pub fn ending(sent: bool, s: Scene) -> Packed
-    ensures { λ r. ⌜ Packs r (endingBits sent s) ⌝ }
-    ensures { λ r. ⌜ (1 ≤ r .width .0) × (r .width .0 ≤ 8) ⌝ }
+    ensures { λ r. ⌜ PacksIn 1 8 r (endingBits sent s) ⌝ }
 {
     let p = nothing();
     let p = screen_if(sent, p, s);
@@ -69,8 +63,7 @@ pub fn ending(sent: bool, s: Scene) -> Packed
 
 // A whole block whose render info is not sent.
 pub fn short(first: bool, s: Scene) -> Packed
-    ensures { λ r. ⌜ Packs r (openingBits first s ++ endingBits false s) ⌝ }
-    ensures { λ r. ⌜ (1 ≤ r .width .0) × (r .width .0 ≤ 18) ⌝ }
+    ensures { λ r. ⌜ PacksIn 1 18 r (openingBits first s ++ endingBits false s) ⌝ }
 {
     let p = opening(first, s);
     pack(p, 1, 0)

@@ -1,7 +1,6 @@
 use borrow.Author.Needs.{needs}
-use native.Mathlib.Omega.{arith}
 use Rattle.coding.specs.Packing.{aroundBits}
-use Rattle.coding.proofs.Joins.{_▸_, _▹_}
+use Rattle.coding.proofs.Joins.{_▸_, _▹_, nonempty}
 use Rattle.coding.proofs.block.around.Statement.{statement}
 use Rattle.coding.proofs.block.around.Tie as tie
 
@@ -10,8 +9,7 @@ unfolding aroundBits
 returns c =
     let distance = c .before in
     let none = distance .before in
-    let all = none .nothing .ensures ▹ distance .distance .ensures ▸ c .zone .ensures in
-    (all .packs, (omega (arith, all .least), all .most))
+    nonempty (none .nothing .ensures ▹ distance .distance .ensures ▸ c .zone .ensures)
 
 pub around-spec : {M : Type 1} → statement M
 around-spec =

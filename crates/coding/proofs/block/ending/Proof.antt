@@ -9,8 +9,7 @@ unfolding endingBits
 returns c =
     let screen = c .before in
     let none = screen .before in
-    let all = none .nothing .ensures ▹ screen .screen-if .ensures ▸ c .pack .ensures in
-    (all .packs, (all .least, all .most))
+    none .nothing .ensures ▹ screen .screen-if .ensures ▸ c .pack .ensures
 
 pub ending-spec : {M : Type 1} → statement M
 ending-spec =

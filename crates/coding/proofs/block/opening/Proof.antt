@@ -14,8 +14,7 @@ returns c =
     let none = flag .before in
     let idle = none .before in
     let active = behind-is (ap (toBits 1) (idle .less .ensures)) (flag .pack .ensures) in
-    let all = none .nothing .ensures ▹ active ▸ status .status .ensures ▸ c .basic-if .ensures in
-    (all .packs, (all .least, all .most))
+    none .nothing .ensures ▹ active ▸ status .status .ensures ▸ c .basic-if .ensures
 
 pub opening-spec : {M : Type 1} → statement M
 opening-spec =

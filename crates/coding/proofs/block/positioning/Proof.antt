@@ -1,7 +1,6 @@
 use borrow.Author.Needs.{needs}
-use native.Mathlib.Omega.{arith}
 use Rattle.coding.specs.Packing.{positioningBits}
-use Rattle.coding.proofs.Joins.{_▸_, _▹_}
+use Rattle.coding.proofs.Joins.{_▸_, _▹_, nonempty}
 use Rattle.coding.proofs.block.positioning.Statement.{statement}
 use Rattle.coding.proofs.block.positioning.Tie as tie
 
@@ -10,8 +9,7 @@ unfolding positioningBits
 returns c =
     let status = c .before in
     let none = status .before in
-    let all = none .nothing .ensures ▹ status .status .ensures ▸ c .position .ensures in
-    (all .packs, (omega (arith, all .least), all .most))
+    nonempty (none .nothing .ensures ▹ status .status .ensures ▸ c .position .ensures)
 
 pub positioning-spec : {M : Type 1} → statement M
 positioning-spec =
