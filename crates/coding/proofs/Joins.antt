@@ -1,18 +1,18 @@
--- The laws of packing: a field, one behind the other, and a field that may be absent. Assumes nothing.
-use mathlib.Core.Path.{_≡_, sym, ap, ap₂, _∙_, subst}
-use mathlib.Core.Bool.{Bool}
-use mathlib.Core.List.{List, _++_}
-use Prim.Native.Nat.{ℕ, _+_, _-_, _*_, _/_, _%_, _^_, _≤_, _<_}
+-- The laws of packing: a field behind the bits that stand, one behind the other, and a field that may be absent. Assumes nothing.
+use mathlib.Core.Path.{_≡_, refl, sym, ap, ap₂, _∙_, subst}
+use mathlib.Core.Bool.{Bool, true, false}
+use mathlib.Core.List.{List, _++_, append-assoc, append-nil}
+use Prim.Native.Nat.{ℕ, suc, _+_, _-_, _*_, _/_, _%_, _^_, _≤_, _<_}
 use native.Mathlib.Nat.{mod-lt, mod-eq-of-lt, lt-of-lt-of-le, pow-le-pow-right, zero-lt-suc}
 use native.Mathlib.Omega.{arith}
 use lib.Arith.{digits-lt}
 use lib.ListN.{length, length-append}
 use lib.Pow.{shl-shr, shl-exact, field, pow-add, pow-pos}
-use Rattle.bits.specs.Language.{number}
+use Rattle.bits.specs.Language.{number, pick}
 use Rattle.bits.specs.Writes.{toBits, only}
 use Rattle.bits.specs.Lists.{length-toBits, number-toBits, binary-toBits, binary-append, bits-number, number-append}
 use Rattle.coding.specs.declared.Packed.{Packed}
-use Rattle.coding.specs.Packing.{Packs}
+use Rattle.coding.specs.Packing.{Packs, PacksIn, Room, Behind, mostWidth}
 
 -- shifting up and down leaves the low w bits
 pub low-bits : (w v : ℕ) → w ≤ 32 → v * 2 ^ (32 - w) % 2 ^ 32 / 2 ^ (32 - w) ≡ v % 2 ^ w
@@ -22,62 +22,92 @@ low-bits w v h =
     ∙ field (v * 2 ^ (32 - w)) w (32 - w)
     ∙ ap (λ (y : ℕ). y % 2 ^ w) (shl-shr v (32 - w))
 
--- and they are what w bits hold of v
-mod-bits : (w v : ℕ) → toBits w (v % 2 ^ w) ≡ toBits w v
-mod-bits w v = ap₂ toBits (sym (length-toBits w v)) (sym (number-toBits w v)) ∙ bits-number (toBits w v) (binary-toBits w v)
+-- a field of n bits, the low bits of v, behind the w bits of u
+module _ (w n u v : ℕ) (small : u < 2 ^ w) where
+  abbrev joined : ℕ
+  joined = u * 2 ^ n + v % 2 ^ n
 
-pub field-packs : (p : Packed) (w v : ℕ) → w ≤ 24 → p .width .0 ≡ w → p .value ≡ v * 2 ^ (32 - w) % 2 ^ 32 / 2 ^ (32 - w) → Packs p (toBits w v)
-field-packs p w v h e f =
-    let g : p .value ≡ v % 2 ^ w = f ∙ low-bits w v (omega arith) in
-    record {
-      same = ap₂ toBits e g ∙ mod-bits w v;
-      small = subst (λ (k : ℕ). p .value < 2 ^ k) (sym e) (subst (λ (k : ℕ). k < 2 ^ w) (sym g) (mod-lt v (pow-pos w)));
-    }
+  abbrev joinedBits : List ℕ
+  joinedBits = toBits w u ++ toBits n v
 
-module _ (w n u v : ℕ) (hu : u < 2 ^ w) (hv : v < 2 ^ n) where
-  abbrev both : List ℕ
-  both = toBits w u ++ toBits n v
-
-  both-bits : toBits (w + n) (u * 2 ^ n + v) ≡ both
-  both-bits =
-      let a : w + n ≡ length both = omega (arith, length-append (toBits w u) (toBits n v), length-toBits w u, length-toBits n v) in
-      let b : u * 2 ^ n + v ≡ number both =
-      ap₂ (λ (x y : ℕ). x * 2 ^ n + y) (sym (number-toBits w u ∙ mod-eq-of-lt hu)) (sym (number-toBits n v ∙ mod-eq-of-lt hv))
+  joined-bits : toBits (w + n) joined ≡ joinedBits
+  joined-bits =
+      let a : w + n ≡ length joinedBits = omega (arith, length-append (toBits w u) (toBits n v), length-toBits w u, length-toBits n v) in
+      let b : joined ≡ number joinedBits =
+      ap₂ (λ (x y : ℕ). x * 2 ^ n + y) (sym (number-toBits w u ∙ mod-eq-of-lt small)) (sym (number-toBits n v))
       ∙ ap (λ (k : ℕ). number (toBits w u) * 2 ^ k + number (toBits n v)) (sym (length-toBits n v))
       ∙ sym (number-append (toBits w u) (toBits n v)) in
-      ap₂ toBits a b ∙ bits-number both (binary-append (toBits w u) (toBits n v) (binary-toBits w u) (binary-toBits n v))
+      ap₂ toBits a b ∙ bits-number joinedBits (binary-append (toBits w u) (toBits n v) (binary-toBits w u) (binary-toBits n v))
 
-  both-small : u * 2 ^ n + v < 2 ^ (w + n)
-  both-small = subst (λ (k : ℕ). u * 2 ^ n + v < k) (sym (pow-add 2 w n)) (digits-lt hu hv)
+  joined-small : joined < 2 ^ (w + n)
+  joined-small = subst (λ (k : ℕ). joined < k) (sym (pow-add 2 w n)) (digits-lt small (mod-lt v (pow-pos n)))
 
-  both-exact : w + n ≤ 24 → u * 2 ^ n % 2 ^ 32 ≡ u * 2 ^ n
-  both-exact h = shl-exact w n 32 hu (omega arith)
+-- what `pack` computes
+module _ (w v : ℕ) (p : Packed) (room : Room w p) where
+  abbrev sum : ℕ
+  sum = p .value * 2 ^ w % 2 ^ 32 + v * 2 ^ (32 - w) % 2 ^ 32 / 2 ^ (32 - w)
+
+  sum-is : sum ≡ joined (p .width .0) w (p .value) v (room .small)
+  sum-is = ap₂ (λ (x y : ℕ). x + y) (shl-exact (p .width .0) w 32 (room .small) (omega arith)) (low-bits w v (omega arith))
 
   -- below 2^24, so below 2^32
-  both-under : w + n ≤ 24 → u * 2 ^ n + v < 2 ^ 24
-  both-under h = lt-of-lt-of-le both-small (pow-le-pow-right (zero-lt-suc 1) h)
+  pub sum-fits : sum < 2 ^ 32
+  sum-fits =
+      let under : joined (p .width .0) w (p .value) v (room .small) < 2 ^ mostWidth =
+      lt-of-lt-of-le (joined-small (p .width .0) w (p .value) v (room .small)) (pow-le-pow-right (zero-lt-suc 1) (room .fits)) in
+      rw sum-is (omega arith)
 
-  pub join-fits : w + n ≤ 24 → u * 2 ^ n % 2 ^ 32 + v < 2 ^ 32
-  join-fits h = let e = both-exact h in let f = both-under h in omega arith
-
-  pub join-packs : (p : Packed) → w + n ≤ 24 → p .width .0 ≡ w + n → p .value ≡ u * 2 ^ n % 2 ^ 32 + v → Packs p both
-  join-packs p h e f =
-      let g : p .value ≡ u * 2 ^ n + v = f ∙ ap (λ (x : ℕ). x + v) (both-exact h) in
-      record {
-        same = ap₂ toBits e g ∙ both-bits;
-        small = subst (λ (k : ℕ). p .value < 2 ^ k) (sym e) (subst (λ (k : ℕ). k < 2 ^ (w + n)) (sym g) both-small);
-      }
+  pub sum-behind : (r : Packed) → r .width .0 ≡ p .width .0 + w → r .value ≡ sum → Behind w w p r (toBits w v)
+  sum-behind r width value = record {
+    same = ap₂ toBits width (value ∙ sum-is) ∙ joined-bits (p .width .0) w (p .value) v (room .small);
+    small = rw (width, value, sum-is) (joined-small (p .width .0) w (p .value) v (room .small));
+    least = omega arith;
+    most = omega arith;
+  }
 
 -- ---- for the functions that pack one after the other
 
-pub packs-is : {p : Packed} {l m : List ℕ} → l ≡ m → Packs p l → Packs p m
-packs-is {p} e h = subst (λ (x : List ℕ). Packs p x) e h
+-- `first ▸ second ▸ .. ▸ last`: one behind the other
+infixr 20 _▸_
+pub _▸_ : {i j h k : ℕ} {p q r : Packed} {l m : List ℕ} → Behind i j p q l → Behind h k q r m → Behind (i + h) (j + k) p r (l ++ m)
+_▸_ {p = p} {l = l} {m} f g = record {
+  same = g .same ∙ ap (λ (x : List ℕ). x ++ m) (f .same) ∙ append-assoc (toBits (p .width .0) (p .value)) l m;
+  small = g .small;
+  least = omega arith;
+  most = omega arith;
+}
 
-pub then-packs : {a b r : Packed} {l m : List ℕ} → Packs a l → Packs b m → Packs r (toBits (a .width .0) (a .value) ++ toBits (b .width .0) (b .value)) → Packs r (l ++ m)
-then-packs {l = l} {m} f g h = packs-is (ap₂ (λ (x y : List ℕ). x ++ y) (f .same) (g .same)) h
+-- `start ▹ first ▸ .. ▸ last`: behind bits that are known
+infixr 19 _▹_
+pub _▹_ : {i j h k : ℕ} {p r : Packed} {l m : List ℕ} → PacksIn i j p l → Behind h k p r m → PacksIn (i + h) (j + k) r (l ++ m)
+_▹_ {m = m} f g = record {
+  packs = record { same = g .same ∙ ap (λ (x : List ℕ). x ++ m) (f .packs .same); small = g .small };
+  least = omega arith;
+  most = omega arith;
+}
 
-pub if-packs : {p r : Packed} {l : List ℕ} (on : Bool) → Packs p l → Packs r (only on (toBits (p .width .0) (p .value))) → Packs r (only on l)
-if-packs on f h = packs-is (ap (λ (x : List ℕ). only on x) (f .same)) h
+-- some bits, however many at the least
+pub nonempty : {i j : ℕ} {p : Packed} {l : List ℕ} → PacksIn (suc i) j p l → PacksIn 1 j p l
+nonempty h = record { packs = h .packs; least = omega arith; most = h .most }
+
+-- the same bits, said in another way
+pub behind-is : {i j : ℕ} {p r : Packed} {l m : List ℕ} → l ≡ m → Behind i j p r l → Behind i j p r m
+behind-is {i} {j} {p} {r} e h = subst (λ (x : List ℕ). Behind i j p r x) e h
+
+-- bits where a test holds: there they are, or nothing is
+pub behind-if : {i j n : ℕ} {p q r : Packed} {l : List ℕ} (on : Bool) → Room n p → Behind i j p q l → r ≡ pick on q p → Behind 0 j p r (only on l)
+behind-if true room h e = rw e (record { same = h .same; small = h .small; least = omega arith; most = h .most })
+behind-if {p = p} false room h e = rw e (record {
+  same = sym (append-nil (toBits (p .width .0) (p .value)));
+  small = room .small;
+  least = omega arith;
+  most = omega arith;
+})
+
+-- three fields under one test are each under that test
+pub each-if : (on : Bool) (l m n : List ℕ) → only on (l ++ (m ++ n)) ≡ only on l ++ (only on m ++ only on n)
+each-if true l m n = refl
+each-if false l m n = refl
 
 pub packs-length : {p : Packed} {l : List ℕ} → Packs p l → p .width .0 ≡ length l
 packs-length {p} h = sym (length-toBits (p .width .0) (p .value)) ∙ ap length (h .same)

@@ -2,7 +2,7 @@
 use mathlib.Core.Path.{_≡_}
 use mathlib.Core.Bool.{Bool, true}
 use mathlib.Core.List.{List, _++_}
-use Prim.Native.Nat.{ℕ, _-_, _^_, _<_}
+use Prim.Native.Nat.{ℕ, _+_, _-_, _^_, _≤_, _<_}
 use Rattle.bits.specs.Writes.{toBits, only}
 use Rattle.oamd.specs.declared.Scene.{Scene}
 use Rattle.oamd.specs.Programme.{set?}
@@ -14,6 +14,29 @@ use Rattle.coding.specs.declared.Packed.{Packed}
 pub record Packs (p : Packed) (l : List ℕ) : Type 0 where
   pub same : toBits (p .width .0) (p .value) ≡ l
   pub small : p .value < 2 ^ p .width .0
+
+-- and they are at least low and at most high in number
+pub record PacksIn (low high : ℕ) (p : Packed) (l : List ℕ) : Type 0 where
+  pub packs : Packs p l
+  pub least : low ≤ p .width .0
+  pub most : p .width .0 ≤ high
+
+-- the most bits that are packed into one number, as many as are laid at once
+abbrev pub mostWidth : ℕ
+mostWidth = 24
+
+-- n more bits, at least one, have room behind those of p
+pub record Room (n : ℕ) (p : Packed) : Type 0 where
+  pub some : 1 ≤ n
+  pub fits : p .width .0 + n ≤ mostWidth
+  pub small : p .value < 2 ^ p .width .0
+
+-- the bits of r are those of p and behind them those of l, which are at least low and at most high in number
+pub record Behind (low high : ℕ) (p r : Packed) (l : List ℕ) : Type 0 where
+  pub same : toBits (r .width .0) (r .value) ≡ toBits (p .width .0) (p .value) ++ l
+  pub small : r .value < 2 ^ r .width .0
+  pub least : p .width .0 + low ≤ r .width .0
+  pub most : r .width .0 ≤ p .width .0 + high
 
 -- ---- a block (5.5.9 to 5.5.11), in parts of at most 24 bits
 

@@ -13,6 +13,12 @@ use oamd::Offset;
 use oamd::Priority;
 use oamd::Volume;
 
+// 0 dB, as a record has it.
+const ZERO_DB: u8 = 50;
+
+// z = 0, as a record has it.
+const ZERO_Z: u8 = 64;
+
 // Code 0 or 2 (Table 22).
 pub fn coded_offset(offset: u8) -> Offset
     ensures { λ r. ⌜ r ≡ codedOffset offset ⌝ }
@@ -61,7 +67,7 @@ fn gain_index(gain: u8) -> u8
     ensures { λ r. ⌜ r ≡ gainIndex gain ⌝ }
 {
     let other = choice(gain == 0, 1, 2);
-    choice(gain == 50, 0, other)
+    choice(gain == ZERO_DB, 0, other)
 }
 
 // Index 0 for 0 dB, 1 for minus infinity, else 2 (Tables 18 and 19).
@@ -69,9 +75,9 @@ pub fn coded_gain(gain: u8) -> Gain
     ensures { λ r. ⌜ r ≡ codedGain gain ⌝ }
 {
     let index = gain_index(gain);
-    let up = less(65, gain);
-    let down = less(64, gain);
-    let db = choice(50 < gain, up, down);
+    let up = less(ZERO_DB + 15, gain);
+    let down = less(ZERO_DB + 14, gain);
+    let db = choice(ZERO_DB < gain, up, down);
     let bits = choice(index == 2, db, 0);
     Gain { index, bits }
 }
@@ -88,15 +94,15 @@ pub fn coded_priority(priority: u8) -> Priority
 pub fn z_sign(z: u8) -> u8
     ensures { λ r. ⌜ r ≡ zSign z ⌝ }
 {
-    as_flag(64 < z)
+    as_flag(ZERO_Z < z)
 }
 
 pub fn z_bits(z: u8) -> u8
     ensures { λ r. ⌜ r ≡ zBits z ⌝ }
 {
-    let up = less(z, 64);
-    let down = less(64, z);
-    choice(64 < z, up, down)
+    let up = less(z, ZERO_Z);
+    let down = less(ZERO_Z, z);
+    choice(ZERO_Z < z, up, down)
 }
 
 // Not given, at infinity, or an index.

@@ -1,49 +1,56 @@
 // Bits packed into a number, one field behind the other.
+ghost use mathlib.Core.List.{[]};
 ghost use mathlib.Core.Path.{_≡_};
-ghost use mathlib.Core.List.{_++_};
-ghost use Prim.Native.Nat.{_+_, _^_, _≤_, _<_};
+ghost use Rattle.bits.specs.Language.{both, pick};
 ghost use Rattle.bits.specs.Writes.{toBits, only};
-ghost use Rattle.coding.specs.Packing.{Packs};
+ghost use Rattle.coding.specs.Packing.{PacksIn, Room, Behind};
 use crate::Packed;
 use units::BitCount;
 
-// A field of w bits, the low bits of v.
-pub fn field(w: u32, v: u32) -> Packed
-    requires { ⌜ (1 ≤ w) × (w ≤ 24) ⌝ }
-    ensures { λ r. ⌜ Packs r (toBits w v) ⌝ }
-    ensures { λ r. ⌜ r .width .0 ≡ w ⌝ }
+// No bits yet.
+pub fn nothing() -> Packed
+    ensures { λ r. ⌜ PacksIn 0 0 r [] ⌝ }
 {
-    Packed {
-        width: BitCount::new(w),
-        value: (v << (32 - w)) >> (32 - w),
-    }
-}
-
-// The bits of a, and those of b behind them.
-pub fn joined(a: Packed, b: Packed) -> Packed
-    requires { ⌜ (a .width .0 + b .width .0 ≤ 24) × (a .value < 2 ^ a .width .0) × (b .value < 2 ^ b .width .0) ⌝ }
-    ensures { λ r. ⌜ Packs r (toBits (a .width .0) (a .value) ++ toBits (b .width .0) (b .value)) ⌝ }
-    ensures { λ r. ⌜ r .width .0 ≡ a .width .0 + b .width .0 ⌝ }
-{
-    let first = a.width;
-    let second = b.width;
-    Packed {
-        width: first.plus(second),
-        value: (a.value << second.raw()) + b.value,
-    }
-}
-
-// The bits of p where the test holds, else none.
-pub fn kept_if(on: bool, p: Packed) -> Packed
-    requires { ⌜ p .value < 2 ^ p .width .0 ⌝ }
-    ensures { λ r. ⌜ Packs r (only on (toBits (p .width .0) (p .value))) ⌝ }
-    ensures { λ r. ⌜ r .width .0 ≤ p .width .0 ⌝ }
-{
-    if on {
-        return p;
-    }
     Packed {
         width: BitCount::new(0),
         value: 0,
     }
+}
+
+// A field of w bits, the low bits of v, behind the bits of p.
+pub fn pack(p: Packed, w: u32, v: u32) -> Packed
+    requires { ⌜ Room w p ⌝ }
+    ensures { λ r. ⌜ Behind w w p r (toBits w v) ⌝ }
+{
+    let width = p.width;
+    Packed {
+        width: width.plus(BitCount::new(w)),
+        value: (p.value << w) + ((v << (32 - w)) >> (32 - w)),
+    }
+}
+
+// The bits of more, which begin with those of p, where a test holds; else those of p. What is not kept is computed all the same: that costs less than a
+// branch that is guessed wrong.
+pub fn kept_if(on: bool, more: Packed, p: Packed) -> Packed
+    ensures { λ r. ⌜ r ≡ pick on more p ⌝ }
+{
+    if on { more } else { p }
+}
+
+// A field where a test holds.
+pub fn pack_if(on: bool, p: Packed, w: u32, v: u32) -> Packed
+    requires { ⌜ Room w p ⌝ }
+    ensures { λ r. ⌜ Behind 0 w p r (only on (toBits w v)) ⌝ }
+{
+    let more = pack(p, w, v);
+    kept_if(on, more, p)
+}
+
+// A field where two tests hold.
+pub fn pack_both(a: bool, b: bool, p: Packed, w: u32, v: u32) -> Packed
+    requires { ⌜ Room w p ⌝ }
+    ensures { λ r. ⌜ Behind 0 w p r (only (both a b) (toBits w v)) ⌝ }
+{
+    let on = bits::both(a, b);
+    pack_if(on, p, w, v)
 }

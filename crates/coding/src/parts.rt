@@ -1,9 +1,9 @@
-// The groups of a block, each packed as it is coded (5.5.10, 5.5.11).
-ghost use mathlib.Core.Path.{_≡_};
-ghost use Prim.Native.Nat.{_≤_};
+// The groups of a block, each packed behind what stands before it, as it is coded (5.5.10, 5.5.11).
+ghost use mathlib.Core.List.{_++_};
+ghost use Rattle.bits.specs.Writes.{toBits, only};
 ghost use Rattle.form.specs.Coded.{codedGain, codedPriority, codedDistance, codedExtent};
 ghost use Rattle.form.specs.Form.{statusBits, gainBits, priorityBits, positionBits, distanceBits, zoneBits, extentBits, screenBits, basicBits};
-ghost use Rattle.coding.specs.Packing.{Packs};
+ghost use Rattle.coding.specs.Packing.{Room, Behind};
 use crate::Packed;
 use crate::choices::coded_distance;
 use crate::choices::coded_extent;
@@ -11,9 +11,11 @@ use crate::choices::coded_gain;
 use crate::choices::coded_priority;
 use crate::choices::z_bits;
 use crate::choices::z_sign;
-use crate::packing::field;
-use crate::packing::joined;
 use crate::packing::kept_if;
+use crate::packing::pack;
+use crate::packing::pack_both;
+use crate::packing::pack_if;
+use oamd::Extent;
 use oamd::Location;
 use oamd::Scene;
 use oamd::Screen;
@@ -21,118 +23,109 @@ use oamd::Volume;
 use oamd::Zone;
 
 // Full status, in a later block of a group that is sent.
-pub fn status(sent: bool, first: bool) -> Packed
-    ensures { λ r. ⌜ Packs r (statusBits sent first) ⌝ }
-    ensures { λ r. ⌜ r .width .0 ≤ 2 ⌝ }
+pub fn status(sent: bool, first: bool, p: Packed) -> Packed
+    requires { ⌜ Room 2 p ⌝ }
+    ensures { λ r. ⌜ Behind 0 2 p r (statusBits sent first) ⌝ }
 {
-    let on = bits::both(sent, !first);
-    let full = field(2, 1);
-    kept_if(on, full)
+    pack_both(sent, !first, p, 2, 1)
 }
 
-fn gain(v: u8) -> Packed
-    ensures { λ r. ⌜ Packs r (gainBits (codedGain v)) ⌝ }
-    ensures { λ r. ⌜ r .width .0 ≤ 8 ⌝ }
+fn gain(p: Packed, v: u8) -> Packed
+    requires { ⌜ Room 8 p ⌝ }
+    ensures { λ r. ⌜ Behind 2 8 p r (gainBits (codedGain v)) ⌝ }
 {
     let g = coded_gain(v);
-    let index = field(2, g.index as u32);
-    let bits = field(6, g.bits as u32);
-    let more = kept_if(g.index == 2, bits);
-    joined(index, more)
+    let p = pack(p, 2, g.index as u32);
+    pack_if(g.index == 2, p, 6, g.bits as u32)
 }
 
-fn priority(v: u8) -> Packed
-    ensures { λ r. ⌜ Packs r (priorityBits (codedPriority v)) ⌝ }
-    ensures { λ r. ⌜ r .width .0 ≤ 6 ⌝ }
+fn priority(p: Packed, v: u8) -> Packed
+    requires { ⌜ Room 6 p ⌝ }
+    ensures { λ r. ⌜ Behind 1 6 p r (priorityBits (codedPriority v)) ⌝ }
 {
-    let p = coded_priority(v);
-    let bydefault = field(1, p.bydefault as u32);
-    let bits = field(5, p.bits as u32);
-    let more = kept_if(p.bydefault == 0, bits);
-    joined(bydefault, more)
+    let c = coded_priority(v);
+    let p = pack(p, 1, c.bydefault as u32);
+    pack_if(c.bydefault == 0, p, 5, c.bits as u32)
 }
 
-pub fn basic(s: Scene) -> Packed
-    ensures { λ r. ⌜ Packs r (basicBits s) ⌝ }
-    ensures { λ r. ⌜ r .width .0 ≤ 14 ⌝ }
+// Gain and priority, of an object that is active.
+pub fn basic_if(active: bool, p: Packed, s: Scene) -> Packed
+    requires { ⌜ Room 14 p ⌝ }
+    ensures { λ r. ⌜ Behind 0 14 p r (only active (basicBits s)) ⌝ }
 {
-    let first = gain(s.gain);
-    let second = priority(s.priority);
-    joined(first, second)
+    let more = gain(p, s.gain);
+    let more = priority(more, s.priority);
+    kept_if(active, more, p)
 }
 
 // An absolute position; in a later block it says that it is one.
-pub fn position(first: bool, p: Location) -> Packed
-    ensures { λ r. ⌜ Packs r (positionBits first p) ⌝ }
-    ensures { λ r. ⌜ (1 ≤ r .width .0) × (r .width .0 ≤ 18) ⌝ }
+pub fn position(first: bool, p: Packed, l: Location) -> Packed
+    requires { ⌜ Room 18 p ⌝ }
+    ensures { λ r. ⌜ Behind 17 18 p r (positionBits first l) ⌝ }
 {
-    let sign = z_sign(p.z);
-    let size = z_bits(p.z);
-    let absolute = field(1, 0);
-    let kind = kept_if(!first, absolute);
-    let x = field(6, p.x as u32);
-    let y = field(6, p.y as u32);
-    let up = field(1, sign as u32);
-    let z = field(4, size as u32);
-    let high = joined(up, z);
-    let rest = joined(y, high);
-    let all = joined(x, rest);
-    joined(kind, all)
+    let sign = z_sign(l.z);
+    let size = z_bits(l.z);
+    let p = pack_if(!first, p, 1, 0);
+    let p = pack(p, 6, l.x as u32);
+    let p = pack(p, 6, l.y as u32);
+    let p = pack(p, 1, sign as u32);
+    pack(p, 4, size as u32)
 }
 
-pub fn distance(v: u8) -> Packed
-    ensures { λ r. ⌜ Packs r (distanceBits (codedDistance v)) ⌝ }
-    ensures { λ r. ⌜ r .width .0 ≤ 6 ⌝ }
+pub fn distance(p: Packed, v: u8) -> Packed
+    requires { ⌜ Room 6 p ⌝ }
+    ensures { λ r. ⌜ Behind 1 6 p r (distanceBits (codedDistance v)) ⌝ }
 {
     let d = coded_distance(v);
-    let near = bits::both(d.given == 1, d.infinite == 0);
-    let given = field(1, d.given as u32);
-    let infinite = field(1, d.infinite as u32);
-    let index = field(4, d.index as u32);
-    let second = kept_if(d.given == 1, infinite);
-    let third = kept_if(near, index);
-    let more = joined(second, third);
-    joined(given, more)
+    let p = pack(p, 1, d.given as u32);
+    let p = pack_if(d.given == 1, p, 1, d.infinite as u32);
+    pack_both(d.given == 1, d.infinite == 0, p, 4, d.index as u32)
 }
 
-pub fn zone(z: Zone) -> Packed
-    ensures { λ r. ⌜ Packs r (zoneBits z) ⌝ }
-    ensures { λ r. ⌜ r .width .0 ≡ 4 ⌝ }
+pub fn zone(p: Packed, z: Zone) -> Packed
+    requires { ⌜ Room 4 p ⌝ }
+    ensures { λ r. ⌜ Behind 4 4 p r (zoneBits z) ⌝ }
 {
-    let index = field(3, z.index as u32);
-    let elevation = field(1, z.elevation as u32);
-    joined(index, elevation)
+    let p = pack(p, 3, z.index as u32);
+    pack(p, 1, z.elevation as u32)
 }
 
-pub fn extent(v: Volume) -> Packed
-    ensures { λ r. ⌜ Packs r (extentBits (codedExtent v)) ⌝ }
-    ensures { λ r. ⌜ (1 ≤ r .width .0) × (r .width .0 ≤ 22) ⌝ }
+// The three sizes, where the index says that all are sent.
+fn sizes_if(on: bool, p: Packed, e: Extent) -> Packed
+    requires { ⌜ Room 15 p ⌝ }
+    ensures { λ r. ⌜ Behind 0 15 p r (only on (toBits 5 (e .width) ++ (toBits 5 (e .depth) ++ toBits 5 (e .height)))) ⌝ }
+{
+    let more = pack(p, 5, e.width as u32);
+    let more = pack(more, 5, e.depth as u32);
+    let more = pack(more, 5, e.height as u32);
+    kept_if(on, more, p)
+}
+
+pub fn extent(p: Packed, v: Volume) -> Packed
+    requires { ⌜ Room 22 p ⌝ }
+    ensures { λ r. ⌜ Behind 2 22 p r (extentBits (codedExtent v)) ⌝ }
 {
     let e = coded_extent(v);
-    let index = field(2, e.index as u32);
-    let one = field(5, e.all as u32);
-    let width = field(5, e.width as u32);
-    let depth = field(5, e.depth as u32);
-    let height = field(5, e.height as u32);
-    let all = kept_if(e.index == 1, one);
-    let w = kept_if(e.index == 2, width);
-    let d = kept_if(e.index == 2, depth);
-    let h = kept_if(e.index == 2, height);
-    let low = joined(d, h);
-    let three = joined(w, low);
-    let sizes = joined(all, three);
-    joined(index, sizes)
+    let p = pack(p, 2, e.index as u32);
+    let p = pack_if(e.index == 1, p, 5, e.all as u32);
+    sizes_if(e.index == 2, p, e)
 }
 
-pub fn screen(s: Screen) -> Packed
-    ensures { λ r. ⌜ Packs r (screenBits s) ⌝ }
-    ensures { λ r. ⌜ r .width .0 ≤ 6 ⌝ }
+fn screen(p: Packed, s: Screen) -> Packed
+    requires { ⌜ Room 6 p ⌝ }
+    ensures { λ r. ⌜ Behind 1 6 p r (screenBits s) ⌝ }
 {
-    let used = field(1, s.used as u32);
-    let factor = field(3, s.factor as u32);
-    let depth = field(2, s.depth as u32);
-    let second = kept_if(s.used == 1, factor);
-    let third = kept_if(s.used == 1, depth);
-    let more = joined(second, third);
-    joined(used, more)
+    let p = pack(p, 1, s.used as u32);
+    let p = pack_if(s.used == 1, p, 3, s.factor as u32);
+    pack_if(s.used == 1, p, 2, s.depth as u32)
+}
+
+// Screen and snap, where render info is sent.
+pub fn screen_if(sent: bool, p: Packed, s: Scene) -> Packed
+    requires { ⌜ Room 7 p ⌝ }
+    ensures { λ r. ⌜ Behind 0 7 p r (only sent (screenBits (s .screen) ++ toBits 1 (s .snap))) ⌝ }
+{
+    let more = screen(p, s.screen);
+    let more = pack(more, 1, s.snap as u32);
+    kept_if(sent, more, p)
 }

@@ -17,7 +17,7 @@ use Rattle.coding.proofs.short as short
 use Rattle.coding.proofs.sized as sized
 use Rattle.coding.specs.declared.Packed.{Packed}
 use Rattle.coding.specs.Packing.{Packs, openingBits, positioningBits, aroundBits, sizedBits, endingBits}
-use Rattle.unique.specs.OneAnswer.{OneAnswer, by-relation, by-equation, said, both-said, result-set}
+use Rattle.unique.specs.OneAnswer.{OneAnswer, by-relation, by-equation, said, result-set}
 
 pub one-coded-offset : OneAnswer coded-offset.ended (λ M. coded-offset.clauses) (λ M. coded-offset.spec) (λ κs a. a) (λ κs a r z. r)
 one-coded-offset = by-equation (result-set coded-offset.ended) (λ w. refl) _ (λ w κs a r z p. said (λ h. h) (p .holds))
@@ -41,29 +41,29 @@ packed-once bits i p q h g = let same = one-packed p q (bits i) h g in λ j. rec
 pub one-opening : OneAnswer opening.ended (λ M. opening.clauses) (λ M. opening.spec) (λ κs a. a) (λ κs a r z. r)
 one-opening =
     by-relation (result-set opening.ended) (λ w. refl) (λ a r. Packs r (openingBits (a .0) (a .1 .0))) (packed-once _)
-    (λ w κs a r z p. both-said (λ h g. h) (p .holds))
+    (λ w κs a r z p. said (λ h. h .packs) (p .holds))
 
 pub one-positioning : OneAnswer positioning.ended (λ M. positioning.clauses) (λ M. positioning.spec) (λ κs a. a) (λ κs a r z. r)
 one-positioning =
     by-relation (result-set positioning.ended) (λ w. refl) (λ a r. Packs r (positioningBits (a .0) (a .1 .0))) (packed-once _)
-    (λ w κs a r z p. both-said (λ h g. h) (p .holds))
+    (λ w κs a r z p. said (λ h. h .packs) (p .holds))
 
 pub one-around : OneAnswer around.ended (λ M. around.clauses) (λ M. around.spec) (λ κs a. a) (λ κs a r z. r)
 one-around =
     by-relation (result-set around.ended) (λ w. refl) (λ a r. Packs r (aroundBits (a .0))) (packed-once _)
-    (λ w κs a r z p. both-said (λ h g. h) (p .holds))
+    (λ w κs a r z p. said (λ h. h .packs) (p .holds))
 
 pub one-sized : OneAnswer sized.ended (λ M. sized.clauses) (λ M. sized.spec) (λ κs a. a) (λ κs a r z. r)
 one-sized =
     by-relation (result-set sized.ended) (λ w. refl) (λ a r. Packs r (sizedBits (a .0))) (packed-once _)
-    (λ w κs a r z p. both-said (λ h g. h) (p .holds))
+    (λ w κs a r z p. said (λ h. h .packs) (p .holds))
 
 pub one-ending : OneAnswer ending.ended (λ M. ending.clauses) (λ M. ending.spec) (λ κs a. a) (λ κs a r z. r)
 one-ending =
     by-relation (result-set ending.ended) (λ w. refl) (λ a r. Packs r (endingBits (a .0) (a .1 .0))) (packed-once _)
-    (λ w κs a r z p. both-said (λ h g. h) (p .holds))
+    (λ w κs a r z p. said (λ h. h .packs) (p .holds))
 
 pub one-short : OneAnswer short.ended (λ M. short.clauses) (λ M. short.spec) (λ κs a. a) (λ κs a r z. r)
 one-short =
     by-relation (result-set short.ended) (λ w. refl) (λ a r. Packs r (openingBits (a .0) (a .1 .0) ++ endingBits false (a .1 .0))) (packed-once _)
-    (λ w κs a r z p. both-said (λ h g. h) (p .holds))
+    (λ w κs a r z p. said (λ h. h .packs) (p .holds))

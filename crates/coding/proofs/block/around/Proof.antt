@@ -1,16 +1,15 @@
 use borrow.Author.Needs.{needs}
-use native.Mathlib.Omega.{arith}
-use Rattle.coding.proofs.Joins.{then-packs}
 use Rattle.coding.specs.Packing.{aroundBits}
+use Rattle.coding.proofs.Joins.{_▸_, _▹_, nonempty}
 use Rattle.coding.proofs.block.around.Statement.{statement}
 use Rattle.coding.proofs.block.around.Tie as tie
 
 returns : tie.Need-returns
 unfolding aroundBits
-returns c = (
-  then-packs (c .before .before .distance .ensures .0) (c .before .zone .ensures .0) (c .joined .ensures .0),
-  (omega (arith, c .joined .ensures .1, c .before .zone .ensures .1, c .before .before .distance .ensures .1), omega (arith, c .joined .ensures .1, c .before .zone .ensures .1, c .before .before .distance .ensures .1)),
-)
+returns c =
+    let distance = c .before in
+    let none = distance .before in
+    nonempty (none .nothing .ensures ▹ distance .distance .ensures ▸ c .zone .ensures)
 
 pub around-spec : {M : Type 1} → statement M
 around-spec =

@@ -5,7 +5,10 @@ use Rattle.coding.proofs.choices.coded_distance.Tie as tie
 
 returns : tie.Need-returns
 unfolding codedDistance
-returns c = rw (c .less .ensures, c .before .as-flag2 .ensures, c .before .before .as-flag .ensures)
+returns c =
+    let infinite = c .before in
+    let given = infinite .before in
+    rw (c .less .ensures, infinite .as-flag2 .ensures, given .as-flag .ensures)
 
 pub coded-distance-spec : {M : Type 1} → statement M
 coded-distance-spec =

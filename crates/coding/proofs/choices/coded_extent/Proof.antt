@@ -5,7 +5,12 @@ use Rattle.coding.proofs.choices.coded_extent.Tie as tie
 
 returns : tie.Need-returns
 unfolding codedExtent
-returns c = rw (c .choice4 .ensures, c .before .choice3 .ensures, c .before .before .choice2 .ensures, c .before .before .before .choice .ensures, c .before .before .before .before .size-index .ensures)
+returns c =
+    let depth = c .before in
+    let width = depth .before in
+    let all = width .before in
+    let index = all .before in
+    rw (c .choice4 .ensures, depth .choice3 .ensures, width .choice2 .ensures, all .choice .ensures, index .size-index .ensures)
 
 pub coded-extent-spec : {M : Type 1} → statement M
 coded-extent-spec =

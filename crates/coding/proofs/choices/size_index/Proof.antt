@@ -5,7 +5,10 @@ use Rattle.coding.proofs.choices.size_index.Tie as tie
 
 returns : tie.Need-returns
 unfolding sizeIndex
-returns c = rw (c .choice2 .ensures, c .before .choice .ensures, c .before .before .before .both .ensures)
+returns c =
+    let one = c .before in
+    let even = one .before .before in
+    rw (c .choice2 .ensures, one .choice .ensures, even .both .ensures)
 
 pub size-index-spec : {M : Type 1} → statement M
 size-index-spec = tie.close (tie.spec (λ c κs. search needs) (λ c κs. search needs) (λ c κs. search needs) returns)

@@ -1,18 +1,16 @@
 use borrow.Author.Needs.{needs}
-use native.Mathlib.Omega.{arith}
-use lib.Dec.{eqb}
-use Rattle.coding.proofs.Joins.{then-packs, if-packs, packs-is}
 use mathlib.Core.Path.{ap}
 use Rattle.form.specs.Form.{gainBits}
+use Rattle.coding.proofs.Joins.{_▸_, behind-is}
 use Rattle.coding.proofs.parts.gain.Statement.{statement}
 use Rattle.coding.proofs.parts.gain.Tie as tie
 
 returns : tie.Need-returns
 unfolding gainBits
-returns c = (
-  packs-is (ap gainBits (c .before .before .before .before .before .before .before .coded-gain .ensures)) (then-packs (c .before .before .before .before .before .field .ensures .0) (if-packs (eqb (c .before .before .before .before .before .before .before .coded-gain .result .index) 2) (c .before .before .before .field2 .ensures .0) (c .before .kept-if .ensures .0)) (c .joined .ensures .0)),
-  omega (arith, c .joined .ensures .1, c .before .before .before .before .before .field .ensures .1, c .before .kept-if .ensures .1, c .before .before .before .field2 .ensures .1),
-)
+returns c =
+    let first = c .before .before .before in
+    let coded = first .before .before in
+    behind-is (ap gainBits (coded .coded-gain .ensures)) (first .pack .ensures ▸ c .pack-if .ensures)
 
 pub gain-spec : {M : Type 1} → statement M
 gain-spec =
@@ -22,7 +20,5 @@ gain-spec =
     (λ c. search needs)
     (λ c κs. search needs)
     (λ c. search needs)
-    (λ c κs. search needs)
-    (λ c κs. search needs)
     (λ c κs. search needs)
     returns)

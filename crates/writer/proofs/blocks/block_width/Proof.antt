@@ -16,10 +16,11 @@ returns c =
     let sent = opening .before in
     let a = sent .before .args in
     let total : c .plus2 .result .0 ≡ opening .opening .result .width .0 + middle .middle-width .result .0 + ending .ending .result .width .0 =
-    omega (arith, c .plus2 .ensures, sum .plus .ensures, middle .middle-width .ensures .1, opening .opening .ensures .1 .1, ending .ending .ensures .1 .1) in (
+    omega (arith, c .plus2 .ensures, sum .plus .ensures, middle .middle-width .ensures .1, opening .opening .ensures .most, ending .ending .ensures .most) in (
       total
-          ∙ block-length (a .first) (a .s) (sent .carries .result) _ _ _ (sent .carries .ensures) (packs-length (opening .opening .ensures .0)) (middle .middle-width .ensures .0) (packs-length (ending .ending .ensures .0)),
-      omega (arith, total, middle .middle-width .ensures .1, opening .opening .ensures .1 .1, ending .ending .ensures .1 .1),
+          ∙ block-length (a .first) (a .s) (sent .carries .result) _ _ _ (sent .carries .ensures) (packs-length (opening .opening .ensures .packs))
+          (middle .middle-width .ensures .0) (packs-length (ending .ending .ensures .packs)),
+      omega (arith, total, middle .middle-width .ensures .1, opening .opening .ensures .most, ending .ending .ensures .most),
     )
 
 pub block-width-spec : {M : Type 1} → statement M

@@ -16,11 +16,11 @@ returns c =
     let test = position .before in
     let a = test .before .args in
     let total : c .plus2 .result .0 ≡ position .positioning .result .width .0 + around .around .result .width .0 + size .sized .result .width .0 =
-    omega (arith, c .plus2 .ensures, sum .plus .ensures, position .positioning .ensures .1 .1, around .around .ensures .1 .1, size .sized .ensures .1 .1) in (
+    omega (arith, c .plus2 .ensures, sum .plus .ensures, position .positioning .ensures .most, around .around .ensures .most, size .sized .ensures .most) in (
       total
-          ∙ middle-length (a .on) (a .first) (a .s) _ _ _ (test .if1 .taken) (packs-length (position .positioning .ensures .0))
-          (packs-length (around .around .ensures .0)) (packs-length (size .sized .ensures .0)),
-      omega (arith, total, position .positioning .ensures .1 .1, around .around .ensures .1 .1, size .sized .ensures .1 .1),
+          ∙ middle-length (a .on) (a .first) (a .s) _ _ _ (test .if1 .taken) (packs-length (position .positioning .ensures .packs))
+          (packs-length (around .around .ensures .packs)) (packs-length (size .sized .ensures .packs)),
+      omega (arith, total, position .positioning .ensures .most, around .around .ensures .most, size .sized .ensures .most),
     )
 
 returns-2 : tie.Need-returns-2

@@ -15,10 +15,15 @@ returns c =
 
 returns-2 : tie.Need-returns-2
 returns-2 c =
-    let a = c .before .before .before .before .before .before .before .before .args in
-    let all = c .before .before .before .before .short .ensures in
-    let h = c .before .before .put-packed .ensures in
-    (laid-is (all .0 .same ∙ block-parts (a .first) (a .s) false (sym (c .before .before .before .before .before .if1 .left) ∙ c .before .before .before .before .before .before .carries .ensures)) (h .0), omega (arith, h .1, all .1 .1))
+    let laid = c .before .before in
+    let whole = laid .before .before in
+    let test = whole .before in
+    let sent = test .before in
+    let start = sent .before .before in
+    let a = start .args in
+    let all = whole .short .ensures in
+    let h = laid .put-packed .ensures in
+    (laid-is (all .packs .same ∙ block-parts (a .first) (a .s) false (sym (test .if1 .left) ∙ sent .carries .ensures)) (h .0), omega (arith, h .1, all .most))
 
 pub put-block-spec : {M : Type 1} → statement M
 put-block-spec =

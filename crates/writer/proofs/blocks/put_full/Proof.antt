@@ -11,7 +11,7 @@ returns c =
     let a = c .before .before .before .before .before .before .before .before .before .before .put-packed .ensures in
     let b = c .before .before .before .before .before .before .put-middle .ensures in
     let d = c .before .before .put-packed2 .ensures in
-    (laid-bind (laid-is (opening .0 .same) (a .0)) (laid-bind (b .0) (laid-is (ending .0 .same) (d .0))), omega (arith, a .1, b .1, d .1, opening .1 .1, ending .1 .1))
+    (laid-bind (laid-is (opening .packs .same) (a .0)) (laid-bind (b .0) (laid-is (ending .packs .same) (d .0))), omega (arith, a .1, b .1, d .1, opening .most, ending .most))
 
 pub put-full-spec : {M : Type 1} → statement M
 put-full-spec =

@@ -12,8 +12,8 @@ returns c =
     let a = c .before .before .before .before .before .before .before .before .before .before .put-packed .ensures in
     let b = c .before .before .before .before .before .before .put-packed2 .ensures in
     let d = c .before .before .put-packed3 .ensures in (
-      laid-bind (laid-is (position .0 .same) (a .0)) (laid-bind (laid-is (around .0 .same) (b .0)) (laid-is (size .0 .same) (d .0))),
-      omega (arith, a .1, b .1, d .1, position .1 .1, around .1 .1, size .1 .1),
+      laid-bind (laid-is (position .packs .same) (a .0)) (laid-bind (laid-is (around .packs .same) (b .0)) (laid-is (size .packs .same) (d .0))),
+      omega (arith, a .1, b .1, d .1, position .most, around .most, size .most),
     )
 
 pub put-middle-spec : {M : Type 1} → statement M
