@@ -21,7 +21,7 @@ use Rattle.oamd.specs.Answer.{Outcome, reading}
 use Rattle.demands.specs.Terms.{tablesOf}
 use Rattle.demands.specs.Lemmas.Reading.{read-of}
 use Rattle.form.specs.Valid.{sampleOffset, updateValid, timingValid, sceneValid, mostDivergence, divergenceValid, recordValid, trimValid, recordCount}
-use Rattle.form.specs.Answer.{sceneAt, divergenceAt, preciseAt, recordAt}
+use Rattle.record.specs.Bytes.{sceneAt, divergenceAt, preciseAt, recordAt}
 use Rattle.form.specs.Lemmas.Tests.{halves}
 use Rattle.form.specs.Lemmas.Facts.{timing-facts}
 use Rattle.roundtrip.specs.Lemmas.TimingBack.{UpdateFacts, update-facts, no-update}

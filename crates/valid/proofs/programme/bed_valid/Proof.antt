@@ -5,11 +5,7 @@ use Rattle.valid.proofs.programme.bed_valid.Tie as tie
 
 returns : tie.Need-returns
 unfolding bedValid
-returns c =
-    let values = c .before .before in
-    rw (c .both3 .ensures, c .before .both2 .ensures, values .wide-between-if .ensures, values .before .between-if2 .ensures)
-    (rw (values .before .before .between-if .ensures, values .before .before .before .most-assignment .ensures)
-    (rw (values .before .before .before .before .both .ensures)))
+returns c = cc
 
 pub bed-valid-spec : {M : Type 1} → statement M
 bed-valid-spec =

@@ -5,11 +5,7 @@ use Rattle.valid.proofs.scenes.divergence_valid.Tie as tie
 
 returns : tie.Need-returns
 unfolding divergenceValid
-returns c =
-    let values = c .before .before in
-    let bounds = values .before .before .before .before .before in
-    rw (c .both2 .ensures, c .before .both .ensures, values .between-if3 .ensures, values .before .before .between-if2 .ensures)
-    (rw (values .before .before .before .before .between-if .ensures, bounds .most-divergence .ensures, bounds .before .least-divergence .ensures))
+returns c = cc
 
 pub divergence-valid-spec : {M : Type 1} → statement M
 divergence-valid-spec =

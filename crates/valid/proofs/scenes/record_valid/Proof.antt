@@ -5,9 +5,7 @@ use Rattle.valid.proofs.scenes.record_valid.Tie as tie
 
 returns : tie.Need-returns
 unfolding recordValid
-returns c =
-    let values = c .before .before in
-    rw (c .both2 .ensures, c .before .both .ensures, values .precise-valid .ensures, values .before .divergence-valid .ensures, values .before .before .scene-valid .ensures, values .before .before .before .carries .ensures)
+returns c = cc
 
 pub record-valid-spec : {M : Type 1} → statement M
 record-valid-spec =

@@ -5,12 +5,7 @@ use Rattle.valid.proofs.timing.update_valid.Tie as tie
 
 returns : tie.Need-returns
 unfolding updateValid
-returns c =
-    let found = c .before .before .before in
-    let started = found .before .before .before in
-    rw (c .both2 .ensures, c .before .both .ensures, c .before .before .raw4 .ensures, found .raw3 .ensures)
-    (rw (found .before .wide-between-if2 .ensures, found .before .before .raw2 .ensures, started .wide-between-if .ensures, started .before .raw .ensures)
-    (rw (started .before .before .offset-if .ensures, started .before .before .before .behind-step .ensures)))
+returns c = cc
 
 pub update-valid-spec : {M : Type 1} → statement M
 update-valid-spec =

@@ -5,12 +5,7 @@ use Rattle.valid.proofs.trim.trims_valid.Tie as tie
 
 returns : tie.Need-returns
 unfolding trimsValid
-returns c =
-    let values = c .before .before .before in
-    let flags = values .before .before .before .before in
-    rw (c .both3 .ensures, c .before .both2 .ensures, c .before .before .both .ensures, values .balances-valid .ensures, values .before .between-if3 .ensures)
-    (rw (values .before .before .between-if2 .ensures, values .before .before .before .between-if .ensures, flags .has-height .ensures)
-    (rw (flags .before .before .has-surround .ensures, flags .before .before .before .before .has-centre .ensures)))
+returns c = cc
 
 pub trims-valid-spec : {M : Type 1} → statement M
 trims-valid-spec =
