@@ -112,7 +112,7 @@ up-to none k l = absurd (omega arith)
 up-to {i = i} (more h rest) zero l = let e : i + 0 ≡ i = omega arith in rw e h
 up-to {i = i} (more h rest) (suc k) l = let e : i + suc k ≡ suc i + k = omega arith in rw e (up-to rest k (omega arith))
 
-bytes-in-range : (b : List ℕ) (at : ℕ) → InRange (recordAt b at) → (k : ℕ) → k < 24 → getD b (at + k) 0 ≤ getD mostByte k 0
+bytes-in-range : (b : List ℕ) (at : ℕ) → InRange (recordAt b at) → (k : ℕ) → k < recordStride → getD b (at + k) 0 ≤ getD mostByte k 0
 unfolding sceneAt divergenceAt preciseAt
 bytes-in-range b at r k l =
     let e : at + 0 ≡ at = omega arith in
@@ -170,7 +170,7 @@ accepted-in-range s q to h =
 -- byte k of record i, and all bytes that were laid
 pub record ReadInRange (o : Outcome) : Type 0 where
   pub records : (i : ℕ) → i < recordCount (o .answer .programme) (o .answer .timing) → InRange (recordAt (o .buffer) (recordStride * i))
-  pub bytes : (i k : ℕ) → i < recordCount (o .answer .programme) (o .answer .timing) → k < 24
+  pub bytes : (i k : ℕ) → i < recordCount (o .answer .programme) (o .answer .timing) → k < recordStride
       → getD (o .buffer) (recordStride * i + k) 0 ≤ getD mostByte k 0
   pub updates : UpdatesInRange (o .answer .timing)
   pub laid : (n : ℕ) → n < recordStride * recordCount (o .answer .programme) (o .answer .timing) → getD (o .buffer) n 0 < 256
@@ -195,7 +195,7 @@ read-in-range s buffer trim z =
     let t = tablesOf (r .payload) in
     let records : (i : ℕ) → i < recordCount (o .answer .programme) (o .answer .timing) → InRange (recordAt (o .buffer) (recordStride * i)) =
     λ i l. in-range _ _ (class-le (shares (o .answer .programme)) (i / o .answer .timing .blocks)) (v .records i l) in
-    let bytes : (i k : ℕ) → i < recordCount (o .answer .programme) (o .answer .timing) → k < 24
+    let bytes : (i k : ℕ) → i < recordCount (o .answer .programme) (o .answer .timing) → k < recordStride
     → getD (o .buffer) (recordStride * i + k) 0 ≤ getD mostByte k 0 =
     λ i k l m. bytes-in-range (o .buffer) (recordStride * i) (records i l) k m in
     record {
@@ -203,9 +203,9 @@ read-in-range s buffer trim z =
       bytes = bytes;
       updates = updates-in-range (o .answer .timing) (v .timing);
       laid = λ n l.
-          let e : recordStride * (n / 24) + n % 24 ≡ n = omega arith in
-          let low = entry-le 79 mostByte (n % 24) refl in
-          let high = rw e at (bytes (n / 24) (n % 24) (omega arith) (omega arith)) in
+          let e : recordStride * (n / recordStride) + n % recordStride ≡ n = omega arith in
+          let low = entry-le 79 mostByte (n % recordStride) refl in
+          let high = rw e at (bytes (n / recordStride) (n % recordStride) (omega arith) (omega arith)) in
           omega arith;
       trim-laid = subst (λ (o : Outcome). (n : ℕ) → n < trimNeeded (o .answer .programme .objects) → getD (o .trim) n 0 < 256) (sym (r .is))
           (trim-bytes-small (t .programme .objects) (t .trim) trim (accepted-trim s (r .payload) (r .to) (r .ran)));

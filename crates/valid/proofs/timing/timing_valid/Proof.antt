@@ -6,7 +6,11 @@ use Rattle.valid.proofs.timing.timing_valid.Tie as tie
 
 returns : tie.Need-returns
 unfolding timingValid sampleOffset updatesValid
-returns c = cc
+returns c =
+    let entries = c .before in
+    let blocks = entries .before in
+    let offset = blocks .before in
+    rw (c .both .ensures, entries .updates-valid .ensures, blocks .between .ensures, offset .sample-offset .ensures)
 
 pub timing-valid-spec : {M : Type 1} → statement M
 timing-valid-spec =
