@@ -20,40 +20,11 @@ use Rattle.oamd.specs.Trim.{TrimTable, trimNeeded}
 use Rattle.oamd.specs.Record.{Record, recordOf, onto}
 use Rattle.oamd.specs.Payload.{Tables}
 use Rattle.oamd.specs.Answer.{needed}
+use Rattle.record.specs.Bytes.{bytesAt, recordsAt}
 use Rattle.form.specs.Valid.{_and_, programmeValid, timingValid, firstBad, trimValid, recordCount}
 use Rattle.form.specs.Form.{form}
 
 -- ---- the tables of a programme, a timing, record bytes and the bytes of a trim table
-
--- bytes 0 to 16 of the record that begins at a byte
-unfoldable pub sceneAt : List ℕ → ℕ → Scene
-sceneAt s at = record {
-  active = getD s at 0;
-  class = getD s (at + 1) 0;
-  gain = getD s (at + 2) 0;
-  priority = getD s (at + 3) 0;
-  location = record { x = getD s (at + 4) 0; y = getD s (at + 5) 0; z = getD s (at + 6) 0; distance = getD s (at + 7) 0 };
-  volume = record { width = getD s (at + 8) 0; depth = getD s (at + 9) 0; height = getD s (at + 10) 0 };
-  zone = record { index = getD s (at + 11) 0; elevation = getD s (at + 12) 0 };
-  screen = record { used = getD s (at + 13) 0; factor = getD s (at + 14) 0; depth = getD s (at + 15) 0 };
-  snap = getD s (at + 16) 0;
-}
-
--- bytes 17 to 19
-unfoldable pub divergenceAt : List ℕ → ℕ → Divergence
-divergenceAt s at = record { used = getD s (at + 17) 0; mode = getD s (at + 18) 0; value = getD s (at + 19) 0 }
-
--- bytes 20 to 23
-unfoldable pub preciseAt : List ℕ → ℕ → Precise
-preciseAt s at = record { presence = getD s (at + 20) 0; x = getD s (at + 21) 0; y = getD s (at + 22) 0; z = getD s (at + 23) 0 }
-
-abbrev pub recordAt : List ℕ → ℕ → Record
-recordAt s at = recordOf (sceneAt s at) (divergenceAt s at) (preciseAt s at)
-
--- n records, the first of which begins at a byte
-unfoldable pub recordsAt : List ℕ → ℕ → ℕ → List Record
-recordsAt s zero at = []
-recordsAt s (suc n) at = recordAt s at ∷ recordsAt s n (at + recordStride)
 
 -- the trim configuration that begins at a byte
 unfoldable pub configAt : List ℕ → ℕ → TrimConfig
@@ -74,11 +45,6 @@ configAt s at = record {
 unfoldable pub configsAt : List ℕ → ℕ → ℕ → List TrimConfig
 configsAt s zero at = []
 configsAt s (suc n) at = configAt s at ∷ configsAt s n (at + configBytes)
-
--- n bytes, from a byte on
-unfoldable pub bytesAt : List ℕ → ℕ → ℕ → List ℕ
-bytesAt s zero at = []
-bytesAt s (suc n) at = getD s at 0 ∷ bytesAt s n (at + 1)
 
 -- the trim table of so many objects
 unfoldable pub trimAt : ℕ → List ℕ → TrimTable

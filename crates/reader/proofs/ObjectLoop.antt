@@ -4,7 +4,7 @@ use mathlib.Core.List.{List, [], _∷_, _++_, append-assoc, append-nil}
 use Prim.Native.Nat.{ℕ, _+_, _-_, _*_, _≤_, _<_}
 use native.Mathlib.Omega.{arith}
 use native.Mathlib.Nat.{mul-le-mul-right, add-mul, one-mul, sub-zero}
-use lib.ListN.{length, getD, set, length-append, length-set}
+use lib.ListN.{length, length-append}
 use lib.Dec.{leb}
 use Rattle.bits.specs.declared.Cur.{Cur}
 use Rattle.bits.specs.declared.Limit.{Limit}
@@ -14,18 +14,19 @@ use Rattle.bits.proofs.Sticky.{Alike, Left, start, done, turned, broken, turns,
 use Rattle.oamd.specs.declared.Block.{Block}
 use Rattle.oamd.specs.declared.Scene.{Scene}
 use Rattle.oamd.specs.declared.Shares.{Shares}
-use Rattle.oamd.specs.Tables.{recordStride, roomBytes}
+use Rattle.oamd.specs.Tables.{mostObjects, mostBlocks, recordStride, roomBytes}
 use Rattle.oamd.specs.Programme.{clear?, classOf}
 use Rattle.oamd.specs.Block.{object-info-block}
 use Rattle.oamd.specs.ObjectElement.{object-data, object-element}
 use Rattle.oamd.specs.Meaning.{resolve, nothingBefore, zeroDb, allScenes}
 use Rattle.oamd.specs.Record.{recordOf, plainRecords, recordBytesOf, bytesOf, onto}
 use Rattle.oamd.specs.Extended.{noDivergence, noPrecise}
-use Rattle.reader.specs.Layout.{setFrom}
+use Rattle.record.specs.Bytes.{setFrom, sceneAt}
+pub use Rattle.record.specs.Stored.{length-setFrom}
 use Rattle.reader.specs.Running.{gainOfObjectBefore, withBlocks, withObjects}
 use Rattle.reader.specs.declared.TimingStep.{TimingStep}
 use Rattle.reader.specs.Steps.{TimingRead, Standing, ObjectRead, ObjectsRead, ElementRead}
-use Rattle.reader.proofs.Bytes.{stored, above-is}
+use Rattle.reader.proofs.Bytes.{stored, gain-before}
 use Rattle.reader.proofs.Structure.{Each, same}
 
 -- a reader whose value is given on is that reader
@@ -40,10 +41,6 @@ unit {A} p b at e o = go (run p b at e o)
 -- a loop that gives its list begins
 pub begun : {A : Type 0} (n : ℕ) (f : ℕ → P A) {b : Bits} {c : Cur} {l : Limit} → Left (for n f) b c l (turns n f (λ vs. give vs) 0 []) c
 begun n f = rw (sub-zero n) (turned (unit (for n f)) start)
-
-pub length-setFrom : (at k : ℕ) (xs s : List ℕ) → length (setFrom at k xs s) ≡ length s
-length-setFrom at k [] s = refl
-length-setFrom at k (x ∷ xs) s = length-setFrom at (k + 1) xs (set s (at + k) x) ∙ length-set s (at + k) x
 
 length-withBlocks : (k : ℕ) (ss : List Scene) (before : Scene) (bs : List Block) → length (withBlocks k ss before bs) ≡ length ss + length bs
 unfolding withBlocks
@@ -62,6 +59,8 @@ pub record Stands (k : ℕ) (ss : List Scene) (t : List ℕ) (vs : List Block) (
 module _ (class k at₀ : ℕ) (b : Bits) (l : Limit) (c : Cur) (out₀ : List ℕ) where
   -- before block i of an object
   pub record Inside (i at : ℕ) (scene : Scene) (cur : Cur) (out : List ℕ) : Type 0 where
+    pub within : i ≤ k
+    pub place : at ≡ at₀ + recordStride * i
     pub vs : List Block
     pub many : length vs ≡ i
     pub size : length out ≡ roomBytes
@@ -71,6 +70,8 @@ module _ (class k at₀ : ℕ) (b : Bits) (l : Limit) (c : Cur) (out₀ : List �
 pub enter : (class k at₀ : ℕ) (b : Bits) (l : Limit) (c : Cur) (out₀ : List ℕ) → length out₀ ≡ roomBytes → Inside class k at₀ b l c out₀ 0 at₀ nothingBefore c out₀
 unfolding object-data
 enter class k at₀ b l c out₀ h = record {
+  within = omega arith;
+  place = omega arith;
   vs = [];
   many = refl;
   size = h;
@@ -79,21 +80,23 @@ enter class k at₀ b l c out₀ h = record {
 }
 
 module _ {class k at₀ : ℕ} {b : Bits} {l : Limit} {c : Cur} {out₀ : List ℕ} {i at : ℕ} {scene : Scene} {cur : Cur} {out : List ℕ} where
-  pub turn : {next : Scene} {v : Block} {cur' : Cur} (above : ℕ) → Inside class k at₀ b l c out₀ i at scene cur out → i < k → at ≡ at₀ + recordStride * i
-      → at + recordStride ≤ roomBytes → Reads (object-info-block class i) b cur l v cur'
-      → above ≡ pick (leb (recordStride * k) at) (getD out (at - recordStride * k + 2) 0) zeroDb → next ≡ resolve scene above v
+  pub turn : {next : Scene} {v : Block} {cur' : Cur} (above : ℕ) → Inside class k at₀ b l c out₀ i at scene cur out → i < k → at + recordStride ≤ roomBytes
+      → Reads (object-info-block class i) b cur l v cur'
+      → above ≡ pick (leb (recordStride * k) at) (sceneAt out (at - recordStride * k) .gain) zeroDb → next ≡ resolve scene above v
       → Inside class k at₀ b l c out₀ (i + 1) (at + recordStride) next cur' (setFrom at 0 (recordBytesOf (recordOf next noDivergence noPrecise)) out)
   unfolding withBlocks
-  turn {next} {v} above x h place fits reads a q = record {
+  turn {next} {v} above x h fits reads a q = record {
+    within = omega arith;
+    place = omega (arith, x .place);
     vs = x .vs ++ (v ∷ []);
     many = length-append (x .vs) (v ∷ []) ∙ omega (arith, x .many);
     size = length-setFrom at 0 (recordBytesOf (recordOf next noDivergence noPrecise)) out ∙ x .size;
     left = for-step k (object-info-block class) (λ vs. give vs) i (x .vs) h (x .left) reads;
     stands = λ ss t s e n.
         let y = x .stands ss t s e n in
-        let m : at ≡ recordStride * length (y .us) = omega (arith, x .many, y .more) in
+        let m : at ≡ recordStride * length (y .us) = omega (arith, x .place, x .many, y .more) in
         let g : above ≡ gainOfObjectBefore k (y .us) =
-        a ∙ ap (λ (o : List ℕ). pick (leb (recordStride * k) at) (getD o (at - recordStride * k + 2) 0) zeroDb) (y .stand) ∙ above-is (y .us) t k at (omega arith) m in
+        a ∙ ap (λ (o : List ℕ). pick (leb (recordStride * k) at) (sceneAt o (at - recordStride * k) .gain) zeroDb) (y .stand) ∙ gain-before (y .us) t k at (omega arith) m in
         let r : next ≡ resolve scene (gainOfObjectBefore k (y .us)) v = q ∙ ap (λ (u : ℕ). resolve scene u v) g in
         record {
           us = y .us ++ (next ∷ []);
@@ -104,12 +107,12 @@ module _ {class k at₀ : ℕ} {b : Bits} {l : Limit} {c : Cur} {out₀ : List �
         };
   }
 
-  pub leave : Inside class k at₀ b l c out₀ i at scene cur out → i ≡ k → ObjectRead class k at₀ b c l out₀ cur out
+  pub leave : Inside class k at₀ b l c out₀ i at scene cur out → k ≤ i → ObjectRead class k at₀ b c l out₀ cur out
   unfolding withBlocks
   leave x h = record {
     value = x .vs;
-    reads = done (for-stop k (object-info-block class) (λ vs. give vs) i (x .vs) (omega arith) (x .left));
-    long = x .many ∙ h;
+    reads = done (for-stop k (object-info-block class) (λ vs. give vs) i (x .vs) (omega (arith, x .within)) (x .left));
+    long = x .many ∙ omega (arith, x .within);
     size = x .size;
     stand = λ ss t s e n.
         let y = x .stands ss t s e n in
@@ -127,7 +130,9 @@ module _ (n : ℕ) (s : Shares) (k : ℕ) (b : Bits) (l : Limit) (c : Cur) (out�
   oneObject j = object-data k (classOf s j)
 
   -- before object j
-  pub record Among (j : ℕ) (cur : Cur) (out : List ℕ) : Type 0 where
+  pub record Among (j at : ℕ) (cur : Cur) (out : List ℕ) : Type 0 where
+    pub within : j ≤ n
+    pub place : at ≡ recordStride * (j * k)
     pub vs : List (List Block)
     pub whole : Each k vs
     pub size : length out ≡ roomBytes
@@ -137,9 +142,11 @@ module _ (n : ℕ) (s : Shares) (k : ℕ) (b : Bits) (l : Limit) (c : Cur) (out�
     pub more : length ss ≡ j * k
     pub rest : (os : List (List Block)) → withObjects k [] (vs ++ os) ≡ withObjects k ss os
 
-pub first : (n : ℕ) (s : Shares) (k : ℕ) (b : Bits) (l : Limit) (c : Cur) (out₀ : List ℕ) → length out₀ ≡ roomBytes → Among n s k b l c out₀ 0 c out₀
+pub first : (n : ℕ) (s : Shares) (k : ℕ) (b : Bits) (l : Limit) (c : Cur) (out₀ : List ℕ) → length out₀ ≡ roomBytes → Among n s k b l c out₀ 0 0 c out₀
 unfolding bytesOf plainRecords onto
 first n s k b l c out₀ h = record {
+  within = omega arith;
+  place = omega arith;
   vs = [];
   whole = tt;
   size = h;
@@ -150,44 +157,46 @@ first n s k b l c out₀ h = record {
   rest = λ os. refl;
 }
 
-module _ {n : ℕ} {s : Shares} {k : ℕ} {b : Bits} {l : Limit} {c : Cur} {out₀ : List ℕ} {j : ℕ} {cur : Cur} {out : List ℕ} where
-  pub further : {cur' : Cur} {out' : List ℕ} (class at : ℕ) → Among n s k b l c out₀ j cur out → j < n → length out₀ ≡ roomBytes → at ≡ recordStride * (j * k)
-      → class ≡ classOf s j → ObjectRead class k at b cur l out cur' out' → Among n s k b l c out₀ (j + 1) cur' out'
+module _ {n : ℕ} {s : Shares} {k : ℕ} {b : Bits} {l : Limit} {c : Cur} {out₀ : List ℕ} {j at : ℕ} {cur : Cur} {out : List ℕ} where
+  pub further : {cur' : Cur} {out' : List ℕ} (class : ℕ) → Among n s k b l c out₀ j at cur out → j < n → length out₀ ≡ roomBytes
+      → class ≡ classOf s j → ObjectRead class k at b cur l out cur' out' → Among n s k b l c out₀ (j + 1) (at + recordStride * k) cur' out'
   unfolding withObjects
-  further class at x h m place e o =
+  further class x h m e o =
       let f : ℕ → P (List Block) = λ j. object-data k (classOf s j) in
       let r : Reads (f j) b cur l (o .value) _ = rw e at (o .reads) in
       let w = length-withBlocks k (x .ss) nothingBefore (o .value) in
       let d = add-mul j 1 k in
       record {
+        within = omega arith;
+        place = omega (arith, x .place, d, one-mul k);
         vs = x .vs ++ (o .value ∷ []);
         whole = each-snoc k (x .vs) (o .value) (x .whole) (o .long);
         size = o .size;
         left = for-step n f (λ vs. give vs) j (x .vs) h (x .left) r;
         ss = withBlocks k (x .ss) nothingBefore (o .value);
-        stand = o .stand (x .ss) out₀ (x .stand) (omega (arith, x .more)) m;
+        stand = o .stand (x .ss) out₀ (x .stand) (omega (arith, x .place, x .more)) m;
         more = omega (arith, w, x .more, o .long, d, one-mul k);
         rest = λ os. ap (withObjects k []) (append-assoc (x .vs) (o .value ∷ []) os) ∙ x .rest (o .value ∷ os);
       }
 
-  pub finish : Among n s k b l c out₀ j cur out → j ≡ n → ObjectsRead n s k b c l out₀ cur out
+  pub finish : Among n s k b l c out₀ j at cur out → n ≤ j → ObjectsRead n s k b c l out₀ cur out
   unfolding withObjects
   finish x h = record {
     value = x .vs;
-    reads = done (for-stop n (λ j. object-data k (classOf s j)) (λ vs. give vs) j (x .vs) (omega arith) (x .left));
+    reads = done (for-stop n (λ j. object-data k (classOf s j)) (λ vs. give vs) j (x .vs) (omega (arith, x .within)) (x .left));
     size = x .size;
-    many = λ z. ap length (sym meant) ∙ x .more ∙ ap (λ (m : ℕ). m * k) h;
+    many = λ z. ap length (sym meant) ∙ x .more ∙ ap (λ (m : ℕ). m * k) (let e : j ≡ n = omega (arith, x .within) in e);
     stand = λ z. x .stand ∙ ap (λ (us : List Scene). onto (bytesOf (plainRecords us)) out₀) meant;
   }
     where
       meant : x .ss ≡ allScenes [] (x .vs)
       meant = sym (x .rest []) ∙ ap (withObjects k []) (append-nil (x .vs)) ∙ same k (x .vs) (x .whole)
 
-  pub stop : Among n s k b l c out₀ j cur out → (cur .no ≡ 0 → ⊥) → ObjectsRead n s k b c l out₀ cur out
+  pub stop : Among n s k b l c out₀ j at cur out → (cur .no ≡ 0 → ⊥) → ObjectsRead n s k b c l out₀ cur out
   stop x h = record { value = x .vs; reads = broken (x .left) h; size = x .size; many = λ z. absurd (h z); stand = λ z. absurd (h z) }
 
 -- the records of object j fit
-pub room : (n k j : ℕ) → n ≤ 159 → k ≤ 8 → j < n → recordStride * (j * k) + recordStride * k ≤ roomBytes
+pub room : (n k j : ℕ) → n ≤ mostObjects → k ≤ mostBlocks → j < n → recordStride * (j * k) + recordStride * k ≤ roomBytes
 room n k j a d f = let h : j * k ≤ 158 * k = mul-le-mul-right k (let z : j ≤ 158 = omega arith in z) in omega arith
 
 -- ---- the element

@@ -5,35 +5,21 @@ use mathlib.Core.Bool.{Bool, true, false}
 use mathlib.Core.List.{List, [], _∷_, _++_, append-assoc, append-nil}
 use Prim.Native.Nat.{ℕ, zero, suc, _+_, _-_, _*_, _≤_, _<_}
 use native.Mathlib.Omega.{arith}
-use native.Mathlib.Nat.{suc-add, zero-add}
-use lib.ListN.{length, getD, set, drop, replicate, length-append}
-use lib.Seq.{getD-append-add}
-use lib.Dec.{eqb}
+use lib.ListN.{length, drop, replicate, length-append}
 use Rattle.bits.specs.declared.Cur.{Cur}
 use Rattle.bits.specs.declared.Limit.{Limit}
-use Rattle.bits.specs.Language.{both, Bits, P, give, _>>=_, each}
+use Rattle.bits.specs.Language.{Bits, P, give, _>>=_, each}
 use Rattle.bits.specs.View.{Reads}
 use Rattle.bits.proofs.Sticky.{Left, start, done, turned, broken, each-step, each-stop, plain}
 use Rattle.oamd.specs.Tables.{recordStride, roomBytes}
 use Rattle.oamd.specs.Record.{Record, carries, recordBytesOf, bytesOf, onto}
 use Rattle.oamd.specs.Lengths.{length-bytes}
-use Rattle.reader.specs.Layout.{setFrom}
+use Rattle.record.specs.Bytes.{setFrom, sceneAt}
+use Rattle.record.specs.Laws.{record-among}
+use Rattle.record.specs.Stored.{length-setFrom, setFrom-behind}
 use Rattle.reader.specs.Steps.{put, carriers, Went, Passed, PassedIf}
-use Rattle.reader.proofs.Bytes.{bytes-append, byte-front}
-use Rattle.reader.proofs.ObjectLoop.{unit, length-setFrom}
-
-set-behind : (front ys : List ℕ) (k x : ℕ) → set (front ++ ys) (length front + k) x ≡ front ++ set ys k x
-set-behind [] ys k x = ap (λ (n : ℕ). set ys n x) (zero-add k)
-set-behind (y ∷ front) ys k x =
-    ap (λ (n : ℕ). set (y ∷ (front ++ ys)) n x) (suc-add (length front) k) ∙ ap (λ (t : List ℕ). y ∷ t) (set-behind front ys k x)
-
-setFrom-behind : (xs front ys : List ℕ) (at k : ℕ) → at ≡ length front → setFrom at k xs (front ++ ys) ≡ front ++ setFrom 0 k xs ys
-setFrom-behind [] front ys at k e = refl
-setFrom-behind (x ∷ xs) front ys at k e =
-    ap (λ (n : ℕ). setFrom at (k + 1) xs (set (front ++ ys) (n + k) x)) e
-    ∙ ap (setFrom at (k + 1) xs) (set-behind front ys k x)
-    ∙ setFrom-behind xs front (set ys k x) at (k + 1) e
-    ∙ ap (λ (n : ℕ). front ++ setFrom 0 (k + 1) xs (set ys n x)) (sym (zero-add k))
+use Rattle.reader.proofs.Bytes.{bytes-append}
+use Rattle.reader.proofs.ObjectLoop.{unit}
 
 -- the bytes around one record
 around : (front rest : List Record) (r : Record) (t : List ℕ)
@@ -114,30 +100,24 @@ module _ {X : Type 0} (p : Bool → P X) (f : Record → X → Record) where
       -- where a record's bytes, with a value put in, are its bytes with some stored over
       pub turn : {cur' : Cur} (at k : ℕ) (carry : Bool) (bytes : X → List ℕ) (v : X) → Mid i cur out → cur .no ≡ 0 → i < length rs → at ≡ recordStride * i
           → ((r : Record) (x : X) (tail : List ℕ) → setFrom 0 k (bytes x) (recordBytesOf r ++ tail) ≡ recordBytesOf (f r x) ++ tail)
-          → carry ≡ both (eqb (getD out (at + 0) 0) 1) (eqb (getD out (at + 1) 0) 2)
+          → carry ≡ carries (sceneAt out at)
           → Reads (p carry) b cur l v cur' → Mid (i + 1) cur' (setFrom at k (bytes v) out)
-      unfolding recordBytesOf
       turn at k carry bytes v x z h e lays q r =
           let y = next rs (x .vs) (omega (arith, x .many)) in
           let o : out ≡ onto (bytesOf (y .front ++ (y .one ∷ y .rest))) t = x .stand (x .begun z) ∙ ap (λ (z : List Record). onto (bytesOf z) t) (y .stands) in
           let at-front : at ≡ length (bytesOf (y .front)) = omega (arith, length-bytes (y .front), y .far, x .many) in
-          let m : length (y .front) < length (y .front ++ (y .one ∷ y .rest)) = omega (arith, length-append (y .front) (y .one ∷ y .rest)) in
-          let mine : getD (y .front ++ (y .one ∷ y .rest)) (length (y .front)) (y .one) ≡ y .one =
-          ap (λ (n : ℕ). getD (y .front ++ (y .one ∷ y .rest)) n (y .one)) (omega arith) ∙ getD-append-add (y .front) (y .one ∷ y .rest) 0 (y .one) in
-          let byte : (j : ℕ) → j < recordStride → getD out (at + j) 0 ≡ getD (recordBytesOf (y .one)) j 0 =
-          λ j lt. ap (λ (z : List ℕ). getD z (at + j) 0) o
-          ∙ ap (λ (n : ℕ). getD (onto (bytesOf (y .front ++ (y .one ∷ y .rest))) t) (n + j) 0) (at-front ∙ length-bytes (y .front))
-          ∙ byte-front (y .front ++ (y .one ∷ y .rest)) t (length (y .front)) j (y .one) m lt ∙ ap (λ (z : Record). getD (recordBytesOf z) j 0) mine in
-          let is : carry ≡ carries (y .one .scene) = q ∙ rw (byte 0 (omega arith), byte 1 (omega arith)) in
+          let tail : List ℕ = bytesOf (y .rest) ++ drop (recordStride * (length (y .front) + suc (length (y .rest)))) t in
+          let stood : out ≡ bytesOf (y .front) ++ (recordBytesOf (y .one) ++ tail) = o ∙ around (y .front) (y .rest) (y .one) t in
+          let is : carry ≡ carries (y .one .scene) =
+          q ∙ ap (λ (z : List ℕ). carries (sceneAt z at)) stood ∙ ap (λ (z : Record). carries (z .scene)) (record-among (bytesOf (y .front)) (y .one) tail at at-front) in
           let one-on : suc (length (x .vs)) ≡ i + 1 = omega (arith, x .many) in
           let w : drop i (carriers rs) ≡ carries (y .one .scene) ∷ drop (i + 1) (carriers rs) =
           ap (λ (n : ℕ). drop n (carriers rs)) (sym (x .many)) ∙ y .waits ∙ ap (λ (n : ℕ). carries (y .one .scene) ∷ drop n (carriers rs)) one-on in
-          let tail : List ℕ = bytesOf (y .rest) ++ drop (recordStride * (length (y .front) + suc (length (y .rest)))) t in
           record {
             vs = x .vs ++ (v ∷ []);
             many = length-append (x .vs) (v ∷ []) ∙ omega (arith, x .many);
             begun = λ n. x .begun z;
-            stand = λ n. ap (setFrom at k (bytes v)) (o ∙ around (y .front) (y .rest) (y .one) t)
+            stand = λ n. ap (setFrom at k (bytes v)) stood
                 ∙ setFrom-behind (bytes v) (bytesOf (y .front)) (recordBytesOf (y .one) ++ tail) at k at-front
                 ∙ ap (λ (z : List ℕ). bytesOf (y .front) ++ z) (lays (y .one) v tail)
                 ∙ sym (around (y .front) (y .rest) (f (y .one) v) t) ∙ ap (λ (z : List Record). onto (bytesOf z) t) (sym (y .given v));
@@ -190,7 +170,7 @@ module _ {X : Type 0} (p : Bool → P X) (f : Record → X → Record) (n : ℕ)
   module _ {i at : ℕ} {cur : Cur} {out : List ℕ} (x : Passing i at cur out) where
     pub go-on : {cur' : Cur} (k : ℕ) (carry : Bool) (bytes : X → List ℕ) (v : X) → cur .no ≡ 0 → i < n
         → ((r : Record) (y : X) (tail : List ℕ) → setFrom 0 k (bytes y) (recordBytesOf r ++ tail) ≡ recordBytesOf (f r y) ++ tail)
-        → carry ≡ both (eqb (getD out (at + 0) 0) 1) (eqb (getD out (at + 1) 0) 2) → Reads (p carry) b cur l v cur'
+        → carry ≡ carries (sceneAt out at) → Reads (p carry) b cur l v cur'
         → Passing (i + 1) (at + recordStride) cur' (setFrom at k (bytes v) out)
     go-on k carry bytes v z h lays q r = record {
       within = omega arith;

@@ -1,13 +1,9 @@
--- Bytes stored one after the other.
-use mathlib.Core.List.{List, [], _∷_}
-use Prim.Native.Nat.{ℕ, _+_}
-use lib.ListN.{set, replicate}
+-- Rooms in which nothing stands yet.
+use mathlib.Core.List.{List}
+use Prim.Native.Nat.{ℕ}
+use lib.ListN.{replicate}
 use Rattle.oamd.specs.Tables.{roomBytes, mostTrim}
-
--- xs in place of what stands from k bytes behind at on
-abbrev pub setFrom : ℕ → ℕ → List ℕ → List ℕ → List ℕ
-setFrom at k [] s = s
-setFrom at k (x ∷ xs) s = setFrom at (k + 1) xs (set s (at + k) x)
+pub use Rattle.record.specs.Bytes.{setFrom}
 
 -- room in which no record stands
 unfoldable pub noRecords : List ℕ

@@ -28,10 +28,12 @@ use Rattle.oamd.specs.Answer.{Outcome, reading}
 use Rattle.demands.specs.Terms.{tablesOf}
 use Rattle.demands.specs.Lemmas.Reading.{read-of}
 use Rattle.form.specs.Valid.{recordValid, timingValid, trimValid, recordCount}
-use Rattle.form.specs.Answer.{recordAt, recordsAt, trimAt}
+use Rattle.record.specs.Bytes.{recordAt, recordsAt}
+use Rattle.form.specs.Answer.{trimAt}
 use Rattle.roundtrip.specs.Lemmas.ObjectsBack.{ValidFrom}
 use Rattle.roundtrip.specs.Lemmas.TrimBack.{trim-facts}
-use Rattle.roundtrip.specs.Lemmas.TableBytes.{records-again, trim-again}
+use Rattle.record.specs.Laws.{records-again}
+use Rattle.roundtrip.specs.Lemmas.TableBytes.{trim-again}
 use Rattle.roundtrip.specs.Lemmas.AcceptedTiming.{timing-valid}
 use Rattle.roundtrip.specs.Lemmas.AcceptedScenes.{all-valid}
 use Rattle.roundtrip.specs.Lemmas.AcceptedRecords.{RecordsValid, plain-valid, extended-valid}

@@ -17,7 +17,8 @@ use Rattle.oamd.specs.Answer.{Outcome, needed}
 use Rattle.demands.specs.Terms.{parsed}
 use Rattle.form.specs.Valid.{timingValid, recordValid, trimValid, recordCount, Valid}
 use Rattle.form.specs.Form.{form}
-use Rattle.form.specs.Answer.{recordAt, trimAt, tablesOf, writtenTo, writing}
+use Rattle.record.specs.Bytes.{recordAt}
+use Rattle.form.specs.Answer.{trimAt, tablesOf, writtenTo, writing}
 
 -- ---- what is read
 
@@ -84,7 +85,7 @@ pub record UpdatesInRange (t : Timing) : Type 0 where
 -- byte k of record i, and all bytes that were laid
 pub record ReadInRange (o : Outcome) : Type 0 where
   pub records : (i : ℕ) → i < recordCount (o .answer .programme) (o .answer .timing) → InRange (recordAt (o .buffer) (recordStride * i))
-  pub bytes : (i k : ℕ) → i < recordCount (o .answer .programme) (o .answer .timing) → k < 24
+  pub bytes : (i k : ℕ) → i < recordCount (o .answer .programme) (o .answer .timing) → k < recordStride
       → getD (o .buffer) (recordStride * i + k) 0 ≤ getD mostByte k 0
   pub updates : UpdatesInRange (o .answer .timing)
   pub laid : (n : ℕ) → n < recordStride * recordCount (o .answer .programme) (o .answer .timing) → getD (o .buffer) n 0 < 256

@@ -21,7 +21,7 @@ use Rattle.oamd.specs.Answer.{Outcome, reading}
 use Rattle.demands.specs.Terms.{tablesOf}
 use Rattle.demands.specs.Lemmas.Reading.{read-of}
 use Rattle.form.specs.Valid.{sampleOffset, updateValid, timingValid, sceneValid, mostDivergence, divergenceValid, recordValid, trimValid, recordCount}
-use Rattle.form.specs.Answer.{sceneAt, divergenceAt, preciseAt, recordAt}
+use Rattle.record.specs.Bytes.{sceneAt, divergenceAt, preciseAt, recordAt}
 use Rattle.form.specs.Lemmas.Tests.{halves}
 use Rattle.form.specs.Lemmas.Facts.{timing-facts}
 use Rattle.roundtrip.specs.Lemmas.TimingBack.{UpdateFacts, update-facts, no-update}
@@ -82,7 +82,7 @@ up-to none k l = absurd (omega arith)
 up-to {i = i} (more h rest) zero l = let e : i + 0 ≡ i = omega arith in rw e h
 up-to {i = i} (more h rest) (suc k) l = let e : i + suc k ≡ suc i + k = omega arith in rw e (up-to rest k (omega arith))
 
-bytes-in-range : (b : List ℕ) (at : ℕ) → InRange (recordAt b at) → (k : ℕ) → k < 24 → getD b (at + k) 0 ≤ getD mostByte k 0
+bytes-in-range : (b : List ℕ) (at : ℕ) → InRange (recordAt b at) → (k : ℕ) → k < recordStride → getD b (at + k) 0 ≤ getD mostByte k 0
 unfolding sceneAt divergenceAt preciseAt
 bytes-in-range b at r k l =
     let e : at + 0 ≡ at = omega arith in
@@ -149,7 +149,7 @@ read-in-range s buffer trim z =
     let t = tablesOf (r .payload) in
     let records : (i : ℕ) → i < recordCount (o .answer .programme) (o .answer .timing) → InRange (recordAt (o .buffer) (recordStride * i)) =
     λ i l. in-range _ _ (class-le (shares (o .answer .programme)) (i / o .answer .timing .blocks)) (v .records i l) in
-    let bytes : (i k : ℕ) → i < recordCount (o .answer .programme) (o .answer .timing) → k < 24
+    let bytes : (i k : ℕ) → i < recordCount (o .answer .programme) (o .answer .timing) → k < recordStride
     → getD (o .buffer) (recordStride * i + k) 0 ≤ getD mostByte k 0 =
     λ i k l m. bytes-in-range (o .buffer) (recordStride * i) (records i l) k m in
     record {
@@ -157,9 +157,9 @@ read-in-range s buffer trim z =
       bytes = bytes;
       updates = updates-in-range (o .answer .timing) (v .timing);
       laid = λ n l.
-          let e : recordStride * (n / 24) + n % 24 ≡ n = omega arith in
-          let low = entry-le 79 mostByte (n % 24) refl in
-          let high = rw e at (bytes (n / 24) (n % 24) (omega arith) (omega arith)) in
+          let e : recordStride * (n / recordStride) + n % recordStride ≡ n = omega arith in
+          let low = entry-le 79 mostByte (n % recordStride) refl in
+          let high = rw e at (bytes (n / recordStride) (n % recordStride) (omega arith) (omega arith)) in
           omega arith;
       trim-laid = subst (λ (o : Outcome). (n : ℕ) → n < trimNeeded (o .answer .programme .objects) → getD (o .trim) n 0 < 256) (sym (r .is))
           (trim-bytes-small (t .programme .objects) (t .trim) trim (accepted-trim s (r .payload) (r .to) (r .ran)));

@@ -18,9 +18,11 @@ use Rattle.demands.specs.Terms.{parsed}
 use Rattle.demands.specs.Lemmas.Reading.{Read, read-of}
 use Rattle.form.specs.Valid.{recordCount, Valid}
 use Rattle.form.specs.Form.{form}
-use Rattle.form.specs.Answer.{recordsAt, tablesOf, writtenTo, writing}
+use Rattle.record.specs.Bytes.{recordsAt}
+use Rattle.form.specs.Answer.{tablesOf, writtenTo, writing}
 use Rattle.roundtrip.specs.Lemmas.TrimBack.{TrimFacts, trim-facts}
-use Rattle.roundtrip.specs.Lemmas.TableBytes.{records-again, trim-again}
+use Rattle.record.specs.Laws.{records-again}
+use Rattle.roundtrip.specs.Lemmas.TableBytes.{trim-again}
 use Rattle.roundtrip.specs.WriteRead.{writes-valid}
 use Rattle.roundtrip.specs.Accepted.{accepted-valid}
 use Rattle.roundtrip.specs.Promises.{tablesGiven}

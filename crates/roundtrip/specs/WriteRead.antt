@@ -17,9 +17,12 @@ use Rattle.oamd.specs.Record.{Record, bytesOf, onto}
 use Rattle.oamd.specs.Answer.{acceptedWith, needed, reading}
 use Rattle.form.specs.Valid.{_and_, programmeValid, timingValid, recordValid, firstBad, trimValid, recordCount, Valid}
 use Rattle.form.specs.Form.{form}
-use Rattle.form.specs.Answer.{recordsAt, trimAt, tablesOf, writtenTo, fitted, trimmed, judged, writing}
+use Rattle.record.specs.Bytes.{recordsAt}
+use Rattle.form.specs.Answer.{trimAt, tablesOf, writtenTo, fitted, trimmed, judged, writing}
 use Rattle.form.specs.Lemmas.Tests.{halves, by-test}
-use Rattle.roundtrip.specs.Lemmas.TableBytes.{from-first, records-bytes, records-count, trim-bytes}
+use Rattle.record.specs.Entries.{from-first}
+use Rattle.record.specs.Laws.{records-bytes, records-count}
+use Rattle.roundtrip.specs.Lemmas.TableBytes.{trim-bytes}
 use Rattle.roundtrip.specs.RoundTrip.{reads-back}
 use Rattle.roundtrip.specs.Promises.{Accepts}
 

@@ -6,7 +6,8 @@ pub mod Bits
 pub mod Oamd
 pub mod Meaning
 pub mod Syntax
-pub mod Checks
+pub mod Record
+pub mod Valid
 pub mod Coding
 pub mod Text
 pub mod Open

@@ -14,7 +14,7 @@ use Rattle.bits.specs.Language.{both}
 use Rattle.bits.specs.Steps.{by-order}
 use Rattle.form.specs.Valid.{entriesValid}
 
-both-assoc : (a b c : Bool) → both (both a b) c ≡ both a (both b c)
+pub both-assoc : (a b c : Bool) → both (both a b) c ≡ both a (both b c)
 both-assoc true b c = refl
 both-assoc false b c = refl
 

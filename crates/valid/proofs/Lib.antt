@@ -1,3 +1,4 @@
 pub mod Entries
 pub mod Search
 pub mod Sent
+pub mod Joined

@@ -7,14 +7,16 @@ use native.Mathlib.Nat.{sub-zero, mul-add-div-right, div-eq-of-lt}
 use native.Mathlib.Numerals.{add-one}
 use native.Mathlib.Omega.{arith}
 use Rattle.oamd.specs.declared.Shares.{Shares}
+use Rattle.oamd.specs.Tables.{recordStride}
 use Rattle.oamd.specs.Programme.{classOf}
 use Rattle.form.specs.Valid.{recordValid, firstBad}
-use Rattle.form.specs.Answer.{recordAt, recordsAt}
+use Rattle.valid.specs.Turns.{NextTurn}
+use Rattle.record.specs.Bytes.{recordAt, recordsAt}
 
 -- before record i of n, which begins at a byte and is a block of an object
 pub record SoFar (s : Shares) (blocks : ℕ) (bytes : List ℕ) (n object block from i : ℕ) : Type 0 where
   pub within : i ≤ n
-  pub place : from ≡ 24 * i
+  pub place : from ≡ recordStride * i
   pub objects : object ≤ i
   pub turn : object * blocks + block ≡ i
   pub below : block ≤ blocks - 1
@@ -32,20 +34,19 @@ module _ {s : Shares} {blocks : ℕ} {bytes : List ℕ} {n : ℕ} where
 
   module _ {object block from i : ℕ} (before : SoFar s blocks bytes n object block from i) (h : i < n) (few : n ≤ 255 * blocks) {valid : Bool}
       (e : valid ≡ recordValid (classOf s object) (recordAt bytes from)) where
-    first : firstBad s blocks i (recordsAt bytes (n - i) from) ≡ firstBad s blocks i (recordAt bytes from ∷ recordsAt bytes (n - (i + 1)) (from + 24))
+    first : firstBad s blocks i (recordsAt bytes (n - i) from) ≡ firstBad s blocks i (recordAt bytes from ∷ recordsAt bytes (n - (i + 1)) (from + recordStride))
     unfolding recordsAt
     first = let m : n - i ≡ suc (n - (i + 1)) = omega arith in rw m
 
     same : recordValid (classOf s (i / blocks)) (recordAt bytes from) ≡ valid
     same = rw (object-of object block blocks i (before .turn) (omega arith)) (sym e)
 
-    next : valid ≡ true → firstBad s blocks i (recordsAt bytes (n - i) from) ≡ firstBad s blocks (i + 1) (recordsAt bytes (n - (i + 1)) (from + 24))
+    next : valid ≡ true → firstBad s blocks i (recordsAt bytes (n - i) from) ≡ firstBad s blocks (i + 1) (recordsAt bytes (n - (i + 1)) (from + recordStride))
     unfolding firstBad
     next v = first ∙ rw (same, v, add-one i)
 
-    pub more : {o b : ℕ} → valid ≡ true → o * blocks + b ≡ object * blocks + block + 1 → b < blocks → o ≤ object + 1
-        → SoFar s blocks bytes n o b (from + 24) (i + 1)
-    more {o} {b} v q l m = record {
+    pub more : {o b : ℕ} → valid ≡ true → NextTurn blocks object block o b → SoFar s blocks bytes n o b (from + recordStride) (i + 1)
+    more {o} {b} v t = record {
       within = omega arith;
       place = omega arith;
       objects = omega arith;

@@ -1,42 +1,40 @@
--- The tails of long tests of written, under names, so that code can make them by parts.
-use mathlib.Core.Path.{_≡_, refl}
-use mathlib.Core.Bool.{Bool, not}
+-- Parts of the long tests of form, under names, so that code can make them one by one; proofs/Joined.antt shows that the parts make the whole.
+use mathlib.Core.Bool.{Bool}
+use mathlib.Core.List.{List}
+use Prim.Native.Nat.{ℕ}
 use lib.Dec.{eqb}
 use lib.ListN.{length}
-use Rattle.bits.specs.Language.{between}
+use Rattle.oamd.specs.declared.Bed.{Bed}
 use Rattle.oamd.specs.declared.Programme.{Programme}
 use Rattle.oamd.specs.declared.Scene.{Scene}
 use Rattle.oamd.specs.declared.TrimConfig.{TrimConfig}
-use Rattle.oamd.specs.Tables.{mostObjects, mostBeds}
-use Rattle.oamd.specs.Programme.{set?, clear?, hasBeds, hasIsf, hasDynamic, hasReserved, bedInstances, agrees}
+use Rattle.oamd.specs.declared.Update.{Update}
+use Rattle.oamd.specs.Tables.{mostBeds, mostBlocks}
+use Rattle.oamd.specs.Programme.{set?, hasBeds, hasIsf, hasDynamic, bedInstances, agrees}
 use Rattle.oamd.specs.Trim.{hasCentre, hasSurround, hasHeight, hasTb, hasLis}
-use Rattle.form.specs.Valid.{_and_, betweenIf, entriesValid, bedValid, programmeValid, locationValid, volumeValid, zoneValid, screenValid}
+use Rattle.form.specs.Valid.{_and_, betweenIf, entriesValid, bedValid, updateValid, locationValid, volumeValid, zoneValid, screenValid}
+
+-- the beds, of which so many are used
+unfoldable pub bedsValid : ℕ → List Bed → Bool
+bedsValid used beds = eqb (length beds) mostBeds and entriesValid bedValid used beds
 
 -- what stands behind the beds, and that all together name the object count
-unfoldable pub othersValid : Programme → Bool
-othersValid p = betweenIf (hasIsf (p .content)) 0 5 (p .isf) and betweenIf (hasDynamic (p .content)) 0 158 (p .dynamics) and agrees p
+unfoldable pub behindBedsValid : Programme → Bool
+behindBedsValid p = betweenIf (hasIsf (p .content)) 0 5 (p .isf) and betweenIf (hasDynamic (p .content)) 0 158 (p .dynamics) and agrees p
 
--- the beds, and the others
+-- the program assignment
 unfoldable pub assignmentValid : Programme → Bool
 assignmentValid p =
     betweenIf (hasBeds (p .content)) 0 1 (p .distribute)
     and betweenIf (hasBeds (p .content)) 0 1 (p .multiple)
     and betweenIf (set? (p .multiple)) 0 7 (p .instances)
     and eqb (p .bedcount) (bedInstances (p .content) (p .multiple) (p .instances))
-    and eqb (length (p .beds)) mostBeds
-    and entriesValid bedValid (p .bedcount) (p .beds)
-    and othersValid p
+    and bedsValid (p .bedcount) (p .beds)
+    and behindBedsValid p
 
-pub programme-parts : (p : Programme)
-    → programmeValid p
-    ≡ (between 1 mostObjects (p .objects)
-    and between 0 1 (p .dynonly)
-    and betweenIf (set? (p .dynonly)) 0 1 (p .lfe)
-    and betweenIf (clear? (p .dynonly)) 0 15 (p .content)
-    and not (hasReserved (p .content))
-    and assignmentValid p)
-unfolding programmeValid assignmentValid othersValid
-programme-parts p = refl
+-- the updates, of which so many are used
+unfoldable pub updatesValid : ℕ → ℕ → List Update → Bool
+updatesValid offset used updates = eqb (length updates) mostBlocks and entriesValid (updateValid offset) used updates
 
 -- bytes 4 to 16
 unfoldable pub renderedValid : Bool → Scene → Bool

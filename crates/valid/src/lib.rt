@@ -1,20 +1,15 @@
-// Decides whether tables are valid (document 01, "The written form"; document 02, item 1): every test here equals its definition in written, for all
+// Decides whether tables are valid (document 01, "The written form"; document 02, item 1): every test here equals its definition in form, for all
 // tables and all bytes.
 mod ranges; // ranges.rt: one value, by whether it is carried
 mod programme; // programme.rt: the program assignment
 mod timing; // timing.rt: starts and ramps
 mod scenes; // scenes.rt: one record
-mod apart; // apart.rt: one record, out of its bytes
 mod records; // records.rt: all records, in order
 mod trim; // trim.rt: the trim table, out of its bytes
 
-pub use apart::divergence_at;
-pub use apart::precise_at;
-pub use apart::scene_at;
 pub use programme::programme_valid;
 pub use records::first_bad;
 pub use records::record_count;
-pub use scenes::carries;
 pub use timing::sample_offset;
 pub use timing::timing_valid;
 pub use trim::config_at;

@@ -5,12 +5,11 @@ ghost use lib.ListN.{length};
 ghost use Rattle.oamd.specs.Tables.{recordStride};
 ghost use Rattle.oamd.specs.Programme.{shares};
 ghost use Rattle.form.specs.Valid.{recordValid, firstBad, recordCount};
-ghost use Rattle.form.specs.Answer.{recordAt, recordsAt};
-use crate::apart::divergence_at;
-use crate::apart::precise_at;
-use crate::apart::scene_at;
+ghost use Rattle.valid.specs.Turns.{NextTurn};
+ghost use Rattle.record.specs.Bytes.{recordAt, recordsAt};
 use crate::scenes::record_valid;
 use oamd::Programme;
+use oamd::RECORD_STRIDE;
 use oamd::Shares;
 use oamd::Timing;
 
@@ -23,7 +22,7 @@ struct Turn {
 // The turn behind: the next block of the object, or the first of the next object.
 fn next(t: Turn, blocks: u32) -> Turn
     requires { ⌜ (t .object ≤ 65025) × (t .block < blocks) ⌝ }
-    ensures { λ r. ⌜ (r .object * blocks + r .block ≡ t .object * blocks + t .block + 1) × (r .block < blocks) × (r .object ≤ t .object + 1) ⌝ }
+    ensures { λ r. ⌜ NextTurn blocks (t .object) (t .block) (r .object) (r .block) ⌝ }
 {
     let block = t.block + 1;
     if block < blocks {
@@ -40,18 +39,18 @@ fn next(t: Turn, blocks: u32) -> Turn
 
 // The record that begins at `at`, of an object of a class.
 fn valid_at(class: u8, records: &[u8], at: usize) -> bool
-    requires { ⌜ at + 24 ≤ length (now records) ⌝ }
+    requires { ⌜ at + recordStride ≤ length (now records) ⌝ }
     ensures { λ r. ⌜ r ≡ recordValid class (recordAt (now (records .entry)) at) ⌝ }
 {
-    let scene = scene_at(records, at);
-    let divergence = divergence_at(records, at);
-    let precise = precise_at(records, at);
+    let scene = record::scene_at(records, at);
+    let divergence = record::divergence_at(records, at);
+    let precise = record::precise_at(records, at);
     record_valid(class, scene, divergence, precise)
 }
 
 // The index of the first bad record of `count`, or `count`.
 fn first_bad_of(shares: Shares, blocks: u32, records: &[u8], count: usize) -> usize
-    requires { ⌜ (24 * count ≤ length (now records)) × (count ≤ 255 * blocks) × (blocks ≤ 255) ⌝ }
+    requires { ⌜ (recordStride * count ≤ length (now records)) × (count ≤ 255 * blocks) × (blocks ≤ 255) ⌝ }
     ensures { λ r. ⌜ r ≡ firstBad shares blocks 0 (recordsAt (now (records .entry)) count 0) ⌝ }
 {
     let mut turn = Turn {
@@ -64,7 +63,7 @@ fn first_bad_of(shares: Shares, blocks: u32, records: &[u8], count: usize) -> us
         let class = meaning::class_of(shares, turn.object);
         if valid_at(class, records, at) {
             turn = next(turn, blocks);
-            at = at + 24;
+            at = at + RECORD_STRIDE;
             i = i + 1;
         } else {
             return i;
@@ -86,7 +85,7 @@ pub fn first_bad(p: Programme, t: Timing, records: &[u8]) -> usize
     ensures fewer { λ r. ⌜ (length (now (records .entry)) < recordStride * recordCount p t → r ≡ 0) ⌝ }
 {
     let count = record_count(p.objects, t.blocks);
-    if records.len() < 24 * count {
+    if records.len() < RECORD_STRIDE * count {
         return 0;
     }
     let shares = meaning::shares(p);

@@ -1,10 +1,12 @@
 // One record: each of its values by what the record itself carries (Tables 28 and 29, 5.5.14, 5.5.15).
 ghost use mathlib.Core.Path.{_≡_};
-ghost use Rattle.oamd.specs.Record.{carries, recordOf};
-ghost use Rattle.form.specs.Valid.{locationValid, volumeValid, zoneValid, screenValid, sceneValid, leastDivergence, mostDivergence, divergenceValid, preciseValid, recordValid};
+ghost use Rattle.oamd.specs.Record.{recordOf};
+ghost use Rattle.form.specs.Valid.{locationValid, volumeValid, zoneValid, screenValid, sceneValid};
+ghost use Rattle.form.specs.Valid.{leastDivergence, mostDivergence, divergenceValid, preciseValid, recordValid};
 ghost use Rattle.valid.specs.Parts.{renderedValid};
 use crate::ranges::between;
 use crate::ranges::between_if;
+use crate::ranges::between_or;
 use bits::both;
 use oamd::Divergence;
 use oamd::Location;
@@ -14,46 +16,74 @@ use oamd::Screen;
 use oamd::Volume;
 use oamd::Zone;
 
-// An active block of a dynamic object carries all that a record can hold.
-pub fn carries(s: Scene) -> bool
-    ensures { λ r. ⌜ r ≡ carries s ⌝ }
-{
-    both(s.active == 1, s.class == 2)
-}
+// x and y in 62nds: at the most, and the default.
+const MOST_ACROSS: u8 = 62;
+
+const MIDDLE: u8 = 31;
+
+// z in 15ths: the byte of 0, which is the default, and those of -15 and 15.
+const LEVEL: u8 = 64;
+
+const LEAST_Z: u8 = 49;
+
+const MOST_Z: u8 = 79;
+
+// The codes of Table 15, and 0 and 1 before them.
+const MOST_DISTANCE: u8 = 17;
+
+// Widths, depths and heights in 31sts.
+const MOST_SIZE: u8 = 31;
+
+// Five zones beside none.
+const LAST_ZONE: u8 = 5;
+
+// screen_factor of 3 bits, depth_factor of 2.
+const MOST_FACTOR: u8 = 7;
+
+const MOST_DEPTH: u8 = 3;
+
+// +15 dB.
+const MOST_GAIN: u8 = 65;
+
+// The whole, in 32nds.
+const MOST_PRIORITY: u8 = 32;
+
+// object_div_mode 2 is the last.
+const MOST_MODE: u8 = 2;
+
+// A flag for each axis, and a code of 2 bits.
+const ALL_AXES: u8 = 7;
+
+const MOST_PRECISE: u8 = 3;
 
 // Bytes 4 to 7.
 fn location_valid(sent: bool, p: Location) -> bool
     ensures { λ r. ⌜ r ≡ locationValid sent p ⌝ }
 {
-    let distance = between_if(sent, 0, 17, p.distance);
-    if sent {
-        let x = between(0, 62, p.x);
-        let y = between(0, 62, p.y);
-        let z = between(49, 79, p.z);
-        return both(x, both(y, both(z, distance)));
-    }
-    both(p.x == 31, both(p.y == 31, both(p.z == 64, distance)))
+    let x = between_or(sent, 0, MOST_ACROSS, MIDDLE, p.x);
+    let y = between_or(sent, 0, MOST_ACROSS, MIDDLE, p.y);
+    let z = between_or(sent, LEAST_Z, MOST_Z, LEVEL, p.z);
+    let distance = between_if(sent, 0, MOST_DISTANCE, p.distance);
+    both(x, both(y, both(z, distance)))
 }
 
 // Bytes 8 to 10.
 fn volume_valid(sent: bool, v: Volume) -> bool
     ensures { λ r. ⌜ r ≡ volumeValid sent v ⌝ }
 {
-    let width = between_if(sent, 0, 31, v.width);
-    let depth = between_if(sent, 0, 31, v.depth);
-    let height = between_if(sent, 0, 31, v.height);
+    let width = between_if(sent, 0, MOST_SIZE, v.width);
+    let depth = between_if(sent, 0, MOST_SIZE, v.depth);
+    let height = between_if(sent, 0, MOST_SIZE, v.height);
     both(width, both(depth, height))
 }
 
-// Bytes 11 and 12: five zones beside none.
+// Bytes 11 and 12.
 fn zone_valid(sent: bool, z: Zone) -> bool
     ensures { λ r. ⌜ r ≡ zoneValid sent z ⌝ }
 {
-    let index = between_if(sent, 0, 5, z.index);
-    if sent {
-        return both(index, between(0, 1, z.elevation));
-    }
-    both(index, z.elevation == 1)
+    let index = between_if(sent, 0, LAST_ZONE, z.index);
+    let elevation = between_or(sent, 0, 1, 1, z.elevation);
+    both(index, elevation)
 }
 
 // Bytes 13 to 15: factor and depth only of a screen that is used.
@@ -61,8 +91,8 @@ fn screen_valid(sent: bool, s: Screen) -> bool
     ensures { λ r. ⌜ r ≡ screenValid sent s ⌝ }
 {
     let used = between_if(sent, 0, 1, s.used);
-    let factor = between_if(s.used == 1, 0, 7, s.factor);
-    let depth = between_if(s.used == 1, 0, 3, s.depth);
+    let factor = between_if(s.used == 1, 0, MOST_FACTOR, s.factor);
+    let depth = between_if(s.used == 1, 0, MOST_DEPTH, s.depth);
     both(used, both(factor, depth))
 }
 
@@ -87,9 +117,9 @@ fn scene_valid(class: u8, s: Scene) -> bool
     ensures { λ r. ⌜ r ≡ sceneValid class s ⌝ }
 {
     let active = between(0, 1, s.active);
-    let gain = between_if(s.active == 1, 0, 65, s.gain);
-    let priority = between_if(s.active == 1, 0, 32, s.priority);
-    let sent = carries(s);
+    let gain = between_if(s.active == 1, 0, MOST_GAIN, s.gain);
+    let priority = between_if(s.active == 1, 0, MOST_PRIORITY, s.priority);
+    let sent = record::carries(s);
     let rendered = rendered_valid(sent, s);
     let rest = both(gain, both(priority, rendered));
     both(active, both(s.class == class, rest))
@@ -120,7 +150,7 @@ fn divergence_valid(sent: bool, d: Divergence) -> bool
     let least = least_divergence(d.mode);
     let most = most_divergence(d.mode);
     let used = between_if(sent, 0, 1, d.used);
-    let mode = between_if(d.used == 1, 0, 2, d.mode);
+    let mode = between_if(d.used == 1, 0, MOST_MODE, d.mode);
     let value = between_if(d.used == 1, least, most, d.value);
     both(used, both(mode, value))
 }
@@ -132,10 +162,10 @@ fn precise_valid(sent: bool, p: Precise) -> bool
     let has_x = oamd::has_x(p.presence as u32);
     let has_y = oamd::has_y(p.presence as u32);
     let has_z = oamd::has_z(p.presence as u32);
-    let presence = between_if(sent, 0, 7, p.presence);
-    let x = between_if(has_x, 0, 3, p.x);
-    let y = between_if(has_y, 0, 3, p.y);
-    let z = between_if(has_z, 0, 3, p.z);
+    let presence = between_if(sent, 0, ALL_AXES, p.presence);
+    let x = between_if(has_x, 0, MOST_PRECISE, p.x);
+    let y = between_if(has_y, 0, MOST_PRECISE, p.y);
+    let z = between_if(has_z, 0, MOST_PRECISE, p.z);
     both(presence, both(x, both(y, z)))
 }
 
@@ -143,7 +173,7 @@ fn precise_valid(sent: bool, p: Precise) -> bool
 pub fn record_valid(class: u8, s: Scene, d: Divergence, p: Precise) -> bool
     ensures { λ r. ⌜ r ≡ recordValid class (recordOf s d p) ⌝ }
 {
-    let sent = carries(s);
+    let sent = record::carries(s);
     let scene = scene_valid(class, s);
     let divergence = divergence_valid(sent, d);
     let precise = precise_valid(sent, p);

@@ -7,16 +7,39 @@ ghost use Rattle.bits.specs.Language.{pick};
 ghost use Rattle.oamd.specs.Tables.{trimConfigs, configBytes, trimHead, perObjectByte, trimFixed};
 ghost use Rattle.oamd.specs.Trim.{noConfig, trimNeeded};
 ghost use Rattle.form.specs.Valid.{_and_, betweenIf, entriesValid, configValid, trimValid};
-ghost use Rattle.form.specs.Answer.{configAt, configsAt, bytesAt, trimAt};
+ghost use Rattle.record.specs.Bytes.{bytesAt};
+ghost use Rattle.form.specs.Answer.{configAt, configsAt, trimAt};
 ghost use Rattle.valid.specs.Parts.{balancesValid, trimsValid};
-use crate::apart::whole;
 use crate::ranges::between;
 use crate::ranges::between_if;
 use bits::both;
+use oamd::CONFIG_BYTES;
+use oamd::PER_OBJECT_BYTE;
+use oamd::TRIM_CONFIGS;
+use oamd::TRIM_FIXED;
+use oamd::TRIM_HEAD;
 use oamd::TrimConfig;
 
+// The least code of trim_surround and trim_height that is not reserved, and the greatest of any trim or balance.
+const LEAST_TRIM: u8 = 4;
+
+const MOST_TRIM_CODE: u8 = 15;
+
+// A flag for each of the three trims and the two balances.
+const ALL_PARTS: u8 = 31;
+
+// The bytes before the configurations.
+const PRESENT: usize = 0;
+
+const WARP: usize = 1;
+
+const MODE: usize = 2;
+
+// global_trim_mode 2, the last: the configurations are sent.
+const SENT: u8 = 2;
+
 fn config_of(trim: &[u8], at: usize) -> TrimConfig
-    requires { ⌜ at + 10 ≤ length (now trim) ⌝ }
+    requires { ⌜ at + configBytes ≤ length (now trim) ⌝ }
     ensures { λ r. ⌜ r ≡ configAt (now (trim .entry)) at ⌝ }
 {
     TrimConfig {
@@ -38,7 +61,7 @@ pub fn config_at(trim: &[u8], at: usize) -> TrimConfig
     ensures there { λ r. ⌜ (at + configBytes ≤ length (now (trim .entry)) → r ≡ configAt (now (trim .entry)) at) ⌝ }
     ensures absent { λ r. ⌜ (length (now (trim .entry)) < at + configBytes → r ≡ noConfig) ⌝ }
 {
-    if whole(trim, at, 10) {
+    if record::has_bytes(trim, at, CONFIG_BYTES) {
         return config_of(trim, at);
     }
     TrimConfig {
@@ -62,9 +85,9 @@ fn balances_valid(c: TrimConfig) -> bool
     let has_tb = oamd::has_tb(c.presence as u32);
     let has_lis = oamd::has_lis(c.presence as u32);
     let tbsign = between_if(has_tb, 0, 1, c.tbsign);
-    let tbamount = between_if(has_tb, 0, 15, c.tbamount);
+    let tbamount = between_if(has_tb, 0, MOST_TRIM_CODE, c.tbamount);
     let lissign = between_if(has_lis, 0, 1, c.lissign);
-    let lisamount = between_if(has_lis, 0, 15, c.lisamount);
+    let lisamount = between_if(has_lis, 0, MOST_TRIM_CODE, c.lisamount);
     both(tbsign, both(tbamount, both(lissign, lisamount)))
 }
 
@@ -75,9 +98,9 @@ fn trims_valid(c: TrimConfig) -> bool
     let has_centre = oamd::has_centre(c.presence as u32);
     let has_surround = oamd::has_surround(c.presence as u32);
     let has_height = oamd::has_height(c.presence as u32);
-    let centre = between_if(has_centre, 0, 15, c.centre);
-    let surround = between_if(has_surround, 4, 15, c.surround);
-    let height = between_if(has_height, 4, 15, c.height);
+    let centre = between_if(has_centre, 0, MOST_TRIM_CODE, c.centre);
+    let surround = between_if(has_surround, LEAST_TRIM, MOST_TRIM_CODE, c.surround);
+    let height = between_if(has_height, LEAST_TRIM, MOST_TRIM_CODE, c.height);
     let balances = balances_valid(c);
     both(centre, both(surround, both(height, balances)))
 }
@@ -90,23 +113,23 @@ fn config_valid(sent: bool, c: TrimConfig) -> bool
     let custom = both(sent, both(c.bydefault == 0, c.disabled == 0));
     let bydefault = between_if(sent, 0, 1, c.bydefault);
     let disabled = between_if(chosen, 0, 1, c.disabled);
-    let presence = between_if(custom, 0, 31, c.presence);
+    let presence = between_if(custom, 0, ALL_PARTS, c.presence);
     let trims = trims_valid(c);
     both(bydefault, both(disabled, both(presence, trims)))
 }
 
-// The nine configurations, all sent or none.
+// The configurations, all sent or none.
 fn configs_valid(sent: bool, trim: &[u8]) -> bool
     requires { ⌜ perObjectByte ≤ length (now trim) ⌝ }
     ensures { λ r. ⌜ r ≡ entriesValid configValid (pick sent trimConfigs 0) (configsAt (now (trim .entry)) trimConfigs trimHead) ⌝ }
 {
     let mut valid = true;
-    let mut at: usize = 3;
+    let mut at: usize = TRIM_HEAD;
     let mut i: usize = 0;
-    while i < 9 {
+    while i < TRIM_CONFIGS {
         let c = config_at(trim, at);
         valid = both(valid, config_valid(sent, c));
-        at = at + 10;
+        at = at + CONFIG_BYTES;
         i = i + 1;
     }
     valid
@@ -114,14 +137,14 @@ fn configs_valid(sent: bool, trim: &[u8]) -> bool
 
 // The flags of the objects, all sent or none.
 fn flags_valid(sent: bool, trim: &[u8], objects: u8) -> bool
-    requires { ⌜ 94 + objects ≤ length (now trim) ⌝ }
+    requires { ⌜ trimFixed + objects ≤ length (now trim) ⌝ }
     ensures { λ r. ⌜ r ≡ entriesValid (λ used x. betweenIf used 0 1 x) (pick sent objects 0) (bytesAt (now (trim .entry)) objects trimFixed) ⌝ }
 {
     let count = objects as usize;
     let mut valid = true;
     let mut i: usize = 0;
     while i < count {
-        let flag = trim[94 + i];
+        let flag = trim[TRIM_FIXED + i];
         valid = both(valid, between_if(sent, 0, 1, flag));
         i = i + 1;
     }
@@ -130,16 +153,16 @@ fn flags_valid(sent: bool, trim: &[u8], objects: u8) -> bool
 
 // A table of which there is all.
 fn table_valid(objects: u8, trim: &[u8]) -> bool
-    requires { ⌜ 94 + objects ≤ length (now trim) ⌝ }
+    requires { ⌜ trimFixed + objects ≤ length (now trim) ⌝ }
     ensures { λ r. ⌜ r ≡ trimValid objects (trimAt objects (now (trim .entry))) ⌝ }
 {
-    let there = trim[0] == 1;
-    let present = between(0, 1, trim[0]);
-    let warp = between_if(there, 0, 1, trim[1]);
-    let mode = between_if(there, 0, 2, trim[2]);
-    let configs = configs_valid(trim[2] == 2, trim);
-    let per_object = between_if(there, 0, 1, trim[93]);
-    let flags = flags_valid(trim[93] == 1, trim, objects);
+    let there = trim[PRESENT] == 1;
+    let present = between(0, 1, trim[PRESENT]);
+    let warp = between_if(there, 0, 1, trim[WARP]);
+    let mode = between_if(there, 0, SENT, trim[MODE]);
+    let configs = configs_valid(trim[MODE] == SENT, trim);
+    let per_object = between_if(there, 0, 1, trim[PER_OBJECT_BYTE]);
+    let flags = flags_valid(trim[PER_OBJECT_BYTE] == 1, trim, objects);
     let rest = both(configs, both(per_object, flags));
     both(present, both(warp, both(mode, rest)))
 }
@@ -148,7 +171,7 @@ fn table_valid(objects: u8, trim: &[u8]) -> bool
 pub fn trim_valid(objects: u8, trim: &[u8]) -> bool
     ensures { λ r. ⌜ r ≡ (leb (trimNeeded objects) (length (now (trim .entry))) and trimValid objects (trimAt objects (now (trim .entry)))) ⌝ }
 {
-    if trim.len() < 94 + objects as usize {
+    if trim.len() < TRIM_FIXED + objects as usize {
         return false;
     }
     table_valid(objects, trim)

@@ -15,7 +15,7 @@ use Rattle.oamd.specs.declared.Divergence.{Divergence}
 use Rattle.oamd.specs.declared.Precise.{Precise}
 use Rattle.oamd.specs.Record.{Record, carries}
 use Rattle.form.specs.Form.{divergenceBits, preciseBits, any, diverges, refines, extendedElementBits, hasExtended}
-use Rattle.form.specs.Answer.{sceneAt, divergenceAt, preciseAt, recordAt, recordsAt}
+use Rattle.record.specs.Bytes.{sceneAt, divergenceAt, preciseAt, recordAt, recordsAt}
 
 module _ (s t bytes : List ℕ) (at r k : ℕ) (scene : Scene) (sent : Bool) where
   pub divergence-at : (d : Divergence) → scene ≡ sceneAt bytes k → sent ≡ carries scene → d ≡ divergenceAt bytes k

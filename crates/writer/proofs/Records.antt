@@ -18,7 +18,7 @@ use Rattle.oamd.specs.Record.{Record}
 use Rattle.oamd.specs.Payload.{Tables}
 use Rattle.oamd.specs.Extended.{hasX, hasY, hasZ}
 use Rattle.form.specs.Form.{timingBits, byObject, objectDataBits, objectElementBits, preciseBits}
-use Rattle.form.specs.Answer.{recordAt, recordsAt}
+use Rattle.record.specs.Bytes.{recordAt, recordsAt}
 
 module _ (f : ℕ → Record → List ℕ) (s : List ℕ) (n i k : ℕ) where
   pub records-more : i < n → eachBits f i (recordsAt s (n - i) k) ≡ f i (recordAt s k) ++ eachBits f (i + 1) (recordsAt s (n - (i + 1)) (k + 24))

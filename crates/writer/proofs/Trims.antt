@@ -9,7 +9,8 @@ use Rattle.bits.specs.Writes.{only, toBits, eachBits}
 use Rattle.oamd.specs.declared.TrimConfig.{TrimConfig}
 use Rattle.oamd.specs.Trim.{hasCentre, hasSurround, hasHeight, hasTb, hasLis}
 use Rattle.form.specs.Form.{hasTrim}
-use Rattle.form.specs.Answer.{configAt, configsAt, bytesAt, trimAt}
+use Rattle.record.specs.Bytes.{bytesAt}
+use Rattle.form.specs.Answer.{configAt, configsAt, trimAt}
 use Rattle.writer.specs.Laying.{Laid}
 use Rattle.writer.specs.Parts.{balancesBits, trimsBits}
 use Rattle.writer.proofs.LayLaws.{laid-bind, laid-only}

@@ -21,7 +21,8 @@ use Rattle.oamd.specs.Trim.{trimNeeded}
 use Rattle.oamd.specs.Payload.{Tables}
 use Rattle.form.specs.Form.{headerBits, objectElementBits, extendedElementBits, trimElementBits, sizeBits, sizeFor, framedBits, elementBits, hasObject, hasExtended, hasTrim, formBits, form}
 use Rattle.form.specs.Valid.{_and_, programmeValid, timingValid, firstBad, trimValid, recordCount}
-use Rattle.form.specs.Answer.{Written, recordsAt, trimAt, tablesOf, refusedTo, fitted, trimmed, judged, writing}
+use Rattle.record.specs.Bytes.{recordsAt}
+use Rattle.form.specs.Answer.{Written, trimAt, tablesOf, refusedTo, fitted, trimmed, judged, writing}
 use Rattle.writer.specs.Laying.{Laid, Bytes}
 use Rattle.writer.specs.Parts.{objectBits}
 use Rattle.writer.proofs.LayLaws.{laid-bind, laid-is, laid-only, laid-bytes}

@@ -11,9 +11,9 @@ ghost use Rattle.writer.specs.Laying.{Laid};
 ghost use Rattle.writer.specs.Parts.{middleBits};
 use crate::putting::put_packed;
 use oamd::Scene;
+use record::carries;
 use units::BitCount;
 use units::BitPos;
-use valid::carries;
 
 // Render info up to the size.
 fn put_middle(first: bool, out: &mut [u8], at: BitPos, s: Scene) -> BitPos

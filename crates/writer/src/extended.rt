@@ -13,7 +13,7 @@ ghost use mathlib.Core.Bool.{true};
 ghost use Rattle.bits.specs.Language.{pick};
 ghost use Rattle.form.specs.Form.{divergenceBits, preciseBits, extendedElementBits};
 ghost use Rattle.writer.specs.Parts.{extraBits, Needed};
-ghost use Rattle.form.specs.Answer.{sceneAt, divergenceAt, preciseAt, recordAt, recordsAt};
+ghost use Rattle.record.specs.Bytes.{sceneAt, divergenceAt, preciseAt, recordAt, recordsAt};
 use crate::Groups;
 use crate::putting::put;
 use crate::putting::put_both;
@@ -22,10 +22,10 @@ use bits::as_flag;
 use bits::either;
 use oamd::Divergence;
 use oamd::Precise;
+use record::divergence_at;
+use record::precise_at;
+use record::scene_at;
 use units::BitPos;
-use valid::divergence_at;
-use valid::precise_at;
-use valid::scene_at;
 
 fn put_divergence(sent: bool, out: &mut [u8], at: BitPos, d: Divergence) -> BitPos
     requires { ⌜ at .0 ≤ 2000000 ⌝ }
@@ -69,7 +69,7 @@ fn put_divergence_at(out: &mut [u8], at: BitPos, records: &[u8], k: usize) -> Bi
     ensures { λ r. ⌜ r .0 ≤ at .0 + 11 ⌝ }
 {
     let s = scene_at(records, k);
-    let sent = valid::carries(s);
+    let sent = record::carries(s);
     let d = divergence_at(records, k);
     put_divergence(sent, out, at, d)
 }
@@ -81,7 +81,7 @@ fn put_precise_at(out: &mut [u8], at: BitPos, records: &[u8], k: usize) -> BitPo
     ensures { λ r. ⌜ r .0 ≤ at .0 + 10 ⌝ }
 {
     let s = scene_at(records, k);
-    let sent = valid::carries(s);
+    let sent = record::carries(s);
     let d = precise_at(records, k);
     put_precise(sent, out, at, d)
 }

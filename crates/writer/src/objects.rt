@@ -6,7 +6,7 @@ ghost use Prim.Native.Nat.{_*_};
 ghost use lib.ListN.{length};
 ghost use Rattle.bits.specs.Writes.{eachBits};
 ghost use Rattle.form.specs.Form.{byObject, objectDataBits};
-ghost use Rattle.form.specs.Answer.{recordsAt};
+ghost use Rattle.record.specs.Bytes.{recordsAt};
 ghost use Rattle.writer.specs.Parts.{objectBits};
 use crate::blocks::block_width;
 use crate::blocks::put_block;
@@ -14,9 +14,9 @@ use crate::putting::put;
 use crate::timing::put_timing;
 use oamd::Programme;
 use oamd::Timing;
+use record::scene_at;
 use units::BitCount;
 use units::BitPos;
-use valid::scene_at;
 
 // The blocks of one object, whose records begin at a byte.
 fn put_object_data(out: &mut [u8], at: BitPos, records: &[u8], from: usize, blocks: usize) -> BitPos

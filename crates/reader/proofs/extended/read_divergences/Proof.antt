@@ -1,10 +1,11 @@
 -- `read_divergences` meets its contract (`Pass.antt`). Assumes nothing.
-use mathlib.Core.Path.{refl}
 use Prim.Native.Nat.{_-_}
 use native.Mathlib.Omega.{arith}
 use Rattle.bits.specs.Language.{bit}
 use Rattle.oamd.specs.Extended.{obj-div-block}
-use Rattle.oamd.specs.Record.{recordBytesOf, divergenceBytes}
+use Rattle.oamd.specs.Record.{divergenceBytes}
+use Rattle.record.specs.Bytes.{divergenceByte}
+use Rattle.record.specs.Laws.{divergence-stored}
 use Rattle.reader.specs.Steps.{withDivergence}
 use Rattle.reader.proofs.Pass.{Passing, set-out, go-on, give-up, arrive}
 use borrow.Author.Needs.{needs}
@@ -18,13 +19,15 @@ abbrev μ-loop : tie.MeasureT-loop
 μ-loop s l n out₀ cur₀ at₀ i₀ out cur at i = n - i
 
 loop-again : tie.Need-loop-again Inv-loop μ-loop
-unfolding recordBytesOf
 loop-again c =
-    let r = c .before .before .before .before in
-    let q = r .before in
-    let w = q .before .before .before .before .before .loop in
-    rw (c .before .store-divergence .ensures)
-    (go-on _ _ _ _ _ _ _ (w .inv) 17 _ divergenceBytes _ (q .before .before .if1 .left) (omega arith) (λ r y tail. refl) (q .carries-at .ensures) (r .read-divergence .ensures .reads))
+    let storing = c .before in
+    let reading = storing .before .before .before in
+    let asking = reading .before in
+    let unrefused = asking .before .before .before in
+    let head = unrefused .before .before .before in
+    rw (storing .store-divergence .ensures)
+    (go-on _ _ _ _ _ _ _ (head .loop .inv) divergenceByte _ divergenceBytes _ (unrefused .if1 .left) (omega arith) divergence-stored (asking .carries-at .ensures)
+    (reading .read-divergence .ensures .reads))
 
 pub read-divergences-spec : {M : Type 1} → statement M
 read-divergences-spec =
@@ -33,7 +36,7 @@ read-divergences-spec =
     Inv-loop
     μ-loop
     (λ c. set-out _ _ _ _ _ _ _ (c .before .pre .1))
-    (λ c. give-up _ _ _ _ _ _ _ (c .before .before .before .loop .inv) (c .if1 .taken))
+    (λ c. let head = c .before .before .before in give-up _ _ _ _ _ _ _ (head .loop .inv) (c .if1 .taken))
     (λ c κs. search needs)
     (λ c κs. search needs)
     (λ c κs. search needs)

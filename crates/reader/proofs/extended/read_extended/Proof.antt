@@ -5,9 +5,10 @@ use Rattle.reader.proofs.extended.read_extended.Tie as tie
 
 returns : tie.Need-returns
 returns c =
-    let r = c .before .before .before in
-    let d = r .before in
-    extending (d .before .before .before .take .ensures .reads) (d .read-divergences-if .ensures) (r .take2 .ensures .reads) (c .read-precises-if .ensures)
+    let refined = c .before .before .before in
+    let diverged = refined .before in
+    let diverging = diverged .before .before .before in
+    extending (diverging .take .ensures .reads) (diverged .read-divergences-if .ensures) (refined .take2 .ensures .reads) (c .read-precises-if .ensures)
 
 pub read-extended-spec : {M : Type 1} → statement M
 read-extended-spec =

@@ -1,10 +1,11 @@
 -- `read_precises` meets its contract (`Pass.antt`). Assumes nothing.
-use mathlib.Core.Path.{refl}
 use Prim.Native.Nat.{_-_}
 use native.Mathlib.Omega.{arith}
 use Rattle.bits.specs.Language.{bit}
 use Rattle.oamd.specs.Extended.{ext-prec-pos-block}
-use Rattle.oamd.specs.Record.{recordBytesOf, preciseBytes}
+use Rattle.oamd.specs.Record.{preciseBytes}
+use Rattle.record.specs.Bytes.{preciseByte}
+use Rattle.record.specs.Laws.{precise-stored}
 use Rattle.reader.specs.Steps.{withPrecise}
 use Rattle.reader.proofs.Pass.{Passing, set-out, go-on, give-up, arrive}
 use borrow.Author.Needs.{needs}
@@ -18,13 +19,15 @@ abbrev μ-loop : tie.MeasureT-loop
 μ-loop s l n out₀ cur₀ at₀ i₀ out cur at i = n - i
 
 loop-again : tie.Need-loop-again Inv-loop μ-loop
-unfolding recordBytesOf
 loop-again c =
-    let r = c .before .before .before .before in
-    let q = r .before in
-    let w = q .before .before .before .before .before .loop in
-    rw (c .before .store-precise .ensures)
-    (go-on _ _ _ _ _ _ _ (w .inv) 20 _ preciseBytes _ (q .before .before .if1 .left) (omega arith) (λ r y tail. refl) (q .carries-at .ensures) (r .read-precise .ensures .reads))
+    let storing = c .before in
+    let reading = storing .before .before .before in
+    let asking = reading .before in
+    let unrefused = asking .before .before .before in
+    let head = unrefused .before .before .before in
+    rw (storing .store-precise .ensures)
+    (go-on _ _ _ _ _ _ _ (head .loop .inv) preciseByte _ preciseBytes _ (unrefused .if1 .left) (omega arith) precise-stored (asking .carries-at .ensures)
+    (reading .read-precise .ensures .reads))
 
 pub read-precises-spec : {M : Type 1} → statement M
 read-precises-spec =
@@ -33,7 +36,7 @@ read-precises-spec =
     Inv-loop
     μ-loop
     (λ c. set-out _ _ _ _ _ _ _ (c .before .pre .1))
-    (λ c. give-up _ _ _ _ _ _ _ (c .before .before .before .loop .inv) (c .if1 .taken))
+    (λ c. let head = c .before .before .before in give-up _ _ _ _ _ _ _ (head .loop .inv) (c .if1 .taken))
     (λ c κs. search needs)
     (λ c κs. search needs)
     (λ c κs. search needs)

@@ -4,10 +4,10 @@ use Rattle.reader.proofs.layout.gain_of_object_before.Statement.{statem
 use Rattle.reader.proofs.layout.gain_of_object_before.Tie as tie
 
 returns : tie.Need-returns
-returns c = simp (le-leb _ _ (c .before .if1 .taken))
+returns c = let test = c .before .before in simp (le-leb _ _ (test .if1 .taken)) (c .gain-at .ensures)
 
 returns-2 : tie.Need-returns-2
 returns-2 c = simp (lt-leb _ _ (c .if1 .left))
 
 pub gain-of-object-before-spec : {M : Type 1} → statement M
-gain-of-object-before-spec = tie.close (tie.spec (λ c. search needs) (λ c. search needs) returns returns-2)
+gain-of-object-before-spec = tie.close (tie.spec (λ c κs. search needs) returns returns-2)

@@ -1,9 +1,7 @@
 -- `read_object` meets its contract (`ObjectLoop.antt`). Assumes nothing.
-use Prim.Native.Nat.{_+_, _-_, _*_, _≤_}
+use Prim.Native.Nat.{_-_}
 use native.Mathlib.Omega.{arith}
-use mathlib.Core.Path.{_≡_}
 use Rattle.bits.specs.Language.{bit}
-use Rattle.oamd.specs.Tables.{recordStride}
 use Rattle.oamd.specs.Meaning.{idle}
 use Rattle.reader.proofs.ObjectLoop.{Inside, enter, turn, leave}
 use borrow.Author.Needs.{needs}
@@ -12,28 +10,27 @@ use Rattle.reader.proofs.objects.read_object.Tie as tie
 
 abbrev Inv-loop : tie.InvT-loop
 Inv-loop s l class blocks from out₀ back scene₀ cur₀ at₀ i₀ out scene cur at i =
-    (i ≤ blocks) × (at ≡ from + recordStride * i) × Inside class blocks from (bit s) l cur₀ out₀ i at scene cur out
+    Inside class blocks from (bit s) l cur₀ out₀ i at scene cur out
 
 abbrev μ-loop : tie.MeasureT-loop
 μ-loop s l class blocks from out₀ back scene₀ cur₀ at₀ i₀ out scene cur at i = blocks - i
 
 loop-holds : tie.Need-loop-holds Inv-loop μ-loop
-loop-holds c = (omega arith, omega arith, rw (c .idle .ensures) (enter _ _ _ _ _ _ _ (c .before .before .pre .3)))
+loop-holds c = let entry = c .before .before in rw (c .idle .ensures) (enter _ _ _ _ _ _ _ (entry .pre .size))
 
 loop-again : tie.Need-loop-again Inv-loop μ-loop
 loop-again c =
-    let g = c .before .before .before .before in
-    let r = g .before .before .before in
-    let w = r .before .before .loop in (
-      omega arith,
-      omega arith,
-      rw (c .before .store-scene .ensures)
-          (turn (g .gain-of-object-before .result) (w .inv .2) (omega arith) (omega arith) (omega arith) (r .read-block .ensures .reads)
-          (g .gain-of-object-before .ensures) (c .before .before .before .resolved .ensures)),
-    )
+    let storing = c .before in
+    let resolving = storing .before .before in
+    let above = resolving .before in
+    let reading = above .before .before .before in
+    let head = reading .before .before in
+    rw (storing .store-scene .ensures)
+    (turn (above .gain-of-object-before .result) (head .loop .inv) (omega arith) (omega arith) (reading .read-block .ensures .reads)
+    (above .gain-of-object-before .ensures) (resolving .resolved .ensures))
 
 returns : tie.Need-returns Inv-loop μ-loop
-returns c = leave (c .before .loop .inv .2) (omega arith)
+returns c = leave (c .before .loop .inv) (omega arith)
 
 pub read-object-spec : {M : Type 1} → statement M
 read-object-spec =

@@ -5,9 +5,10 @@ use Rattle.reader.proofs.objects.read_object_element.Tie as tie
 
 returns : tie.Need-returns
 returns c =
-    let r = c .before .before .before in
-    let a = r .before .before in
-    element-read (a .before .before .read-timing .ensures) (a .take .ensures .reads) (r .take-if .ensures .reads) (c .read-objects .ensures)
+    let reserved = c .before .before .before in
+    let absent = reserved .before .before in
+    let timed = absent .before .before in
+    element-read (timed .read-timing .ensures) (absent .take .ensures .reads) (reserved .take-if .ensures .reads) (c .read-objects .ensures)
 
 pub read-object-element-spec : {M : Type 1} → statement M
 read-object-element-spec =

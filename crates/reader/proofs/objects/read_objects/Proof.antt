@@ -1,44 +1,43 @@
 -- `read_objects` meets its contract (`ObjectLoop.antt`). Assumes nothing.
-use mathlib.Core.Path.{_≡_}
-use Prim.Native.Nat.{_-_, _*_, _≤_}
+use Prim.Native.Nat.{_+_, _-_, _*_, _≤_}
 use native.Mathlib.Omega.{arith}
-use native.Mathlib.Nat.{add-mul, one-mul}
 use Rattle.bits.specs.Language.{bit}
-use Rattle.oamd.specs.Tables.{recordStride}
+use Rattle.oamd.specs.Tables.{recordStride, roomBytes}
 use Rattle.reader.proofs.ObjectLoop.{Among, first, further, finish, stop, room}
 use borrow.Author.Needs.{needs}
 use Rattle.reader.proofs.objects.read_objects.Statement.{statement}
 use Rattle.reader.proofs.objects.read_objects.Tie as tie
 
 abbrev Inv-loop : tie.InvT-loop
-Inv-loop s l blocks out₀ shares n cur₀ at₀ j₀ out cur at j = (j ≤ n) × (at ≡ recordStride * (j * blocks)) × Among n shares blocks (bit s) l cur₀ out₀ j cur out
+Inv-loop s l blocks out₀ shares n cur₀ at₀ j₀ out cur at j = Among n shares blocks (bit s) l cur₀ out₀ j at cur out
 
 abbrev μ-loop : tie.MeasureT-loop
 μ-loop s l blocks out₀ shares n cur₀ at₀ j₀ out cur at j = n - j
 
+-- in a turn the records of the object fit
+fits : (c : tie.In-loop Inv-loop μ-loop) → c .before .loop .at + recordStride * c .before .before .before .before .args .blocks ≤ roomBytes
+fits c =
+    let head = c .before in
+    let entry = head .before .before .before in
+    omega (arith, head .loop .inv .place, room (entry .args .w .objects) (entry .args .blocks) (head .loop .j) (entry .pre .many) (entry .pre .few) (omega arith))
+
 read-object-requires : tie.Need-read-object-requires Inv-loop μ-loop
 read-object-requires c κs =
-    let w = c .before .before .before .before .before in
-    let a = w .before .before .before .args in
-    let p = w .before .before .before .pre in
-    let r = room (a .w .objects) (a .blocks) (w .loop .j) (p .0) (p .2) (omega arith) in
-    (p .1, p .2, omega arith, w .loop .inv .2 .size)
+    let turn = c .before .before .before .before in
+    let head = turn .before in
+    let entry = head .before .before .before in
+    record { some = entry .pre .some; few = entry .pre .few; fits = fits turn; size = head .loop .inv .size }
 
 add-at : tie.Need-add-at Inv-loop μ-loop
-add-at c =
-    let w = c .before .before .before .before .before .before in
-    let a = w .before .before .before .args in
-    let p = w .before .before .before .pre in
-    omega (arith, room (a .w .objects) (a .blocks) (w .loop .j) (p .0) (p .2) (omega arith))
+add-at c = let turn = c .before .before .before .before .before in omega (arith, fits turn)
 
 loop-again : tie.Need-loop-again Inv-loop μ-loop
 loop-again c =
-    let w = c .before .before .before .before .before .before in
-    let a = w .before .before .before .args in (
-      omega arith,
-      omega (arith, add-mul (w .loop .j) 1 (a .blocks), one-mul (a .blocks)),
-      further _ _ (w .loop .inv .2) (omega arith) (w .before .before .before .pre .3) (w .loop .inv .1) (c .before .before .class-of .ensures) (c .read-object .ensures),
-    )
+    let classed = c .before .before in
+    let unrefused = classed .before in
+    let head = unrefused .before .before .before in
+    let entry = head .before .before .before in
+    further _ (head .loop .inv) (omega arith) (entry .pre .size) (classed .class-of .ensures) (c .read-object .ensures)
 
 pub read-objects-spec : {M : Type 1} → statement M
 read-objects-spec =
@@ -46,8 +45,8 @@ read-objects-spec =
     (tie.spec
     Inv-loop
     μ-loop
-    (λ c. (omega arith, omega arith, first _ _ _ _ _ _ _ (c .before .before .pre .3)))
-    (λ c. stop (c .before .before .before .loop .inv .2) (c .if1 .taken))
+    (λ c. first _ _ _ _ _ _ _ (c .before .before .pre .size))
+    (λ c. let head = c .before .before .before in stop (head .loop .inv) (c .if1 .taken))
     (λ c. search needs)
     (λ c κs. search needs)
     read-object-requires
@@ -56,4 +55,4 @@ read-objects-spec =
     (λ c. search needs)
     (λ c. search needs)
     loop-again
-    (λ c. finish (c .before .loop .inv .2) (omega arith)))
+    (λ c. finish (c .before .loop .inv) (omega arith)))

@@ -16,18 +16,22 @@ abbrev μ-loop : tie.MeasureT-loop
 
 loop-again : tie.Need-loop-again Inv-loop μ-loop
 loop-again c =
-    let w = c .before .before .before .before .before .loop in
-    let k = c .before .before .before .before .before .before .before .before .take .ensures .small in (
+    let storing = c .before in
+    let reading = storing .before .before in
+    let head = reading .before .before in
+    let counting = head .before .before .before in (
       omega arith,
-      rw (c .before .update-of .ensures) (filling-step (w .inv .1) (omega arith) (omega (arith, k)) (c .before .before .before .read-update .ensures .reads)),
+      rw (storing .update-of .ensures)
+          (filling-step (head .loop .inv .1) (omega arith) (omega (arith, counting .take .ensures .small)) (reading .read-update .ensures .reads)),
     )
 
 returns : tie.Need-returns Inv-loop μ-loop
 returns c =
-    let w = c .before .loop in
-    let k = c .before .before .before .before .take .ensures in
-    let start = c .before .before .before .before .before .before .before in
-    timed (start .read-offset .ensures .reads) (k .reads) (w .inv .1) (omega arith) (k .small) (search needs)
+    let head = c .before in
+    let counting = head .before .before .before in
+    let starting = counting .before .before .before in
+    let count = counting .take .ensures in
+    timed (starting .read-offset .ensures .reads) (count .reads) (head .loop .inv .1) (omega arith) (count .small) (search needs)
 
 pub read-timing-spec : {M : Type 1} → statement M
 read-timing-spec =

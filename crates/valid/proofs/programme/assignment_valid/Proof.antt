@@ -1,5 +1,4 @@
 use borrow.Author.Needs.{needs}
-use borrow.Author.Tests.{eq-eqb}
 use Rattle.valid.specs.Parts.{assignmentValid}
 use Rattle.valid.proofs.programme.assignment_valid.Statement.{statement}
 use Rattle.valid.proofs.programme.assignment_valid.Tie as tie
@@ -7,14 +6,20 @@ use Rattle.valid.proofs.programme.assignment_valid.Tie as tie
 returns : tie.Need-returns
 unfolding assignmentValid
 returns c =
-    let values = c .before .before .before .before .before in
-    let beds = values .before .beds-valid .ensures in
-    let counted = values .before .before .before in
-    let flags = counted .before .before .before .before .before in
-    rw (eq-eqb _ _ (beds .1), c .both5 .ensures, c .before .both4 .ensures, c .before .before .both3 .ensures, c .before .before .before .both2 .ensures)
-    (rw (c .before .before .before .before .both .ensures, values .others-valid .ensures, beds .0, counted .between-if3 .ensures)
-    (rw (counted .before .before .between-if2 .ensures, counted .before .before .before .between-if .ensures, flags .bed-instances .ensures)
-    (rw (flags .before .has-beds .ensures))))
+    let multiple-on = c .before in
+    let instances-on = multiple-on .before in
+    let rest = instances-on .before in
+    let entries-on = rest .before in
+    let behind = entries-on .before in
+    let entries = behind .before in
+    let instances = entries .before .before in
+    let multiple = instances .before .before in
+    let distribute = multiple .before in
+    let count = distribute .before .before in
+    let has-beds = count .before in
+    rw (c .both5 .ensures, multiple-on .both4 .ensures, instances-on .both3 .ensures, rest .both2 .ensures, entries-on .both .ensures)
+    (rw (behind .behind-beds-valid .ensures, entries .beds-valid .ensures, instances .between-if3 .ensures, multiple .between-if2 .ensures)
+    (rw (distribute .between-if .ensures, count .bed-instances .ensures, has-beds .has-beds .ensures)))
 
 pub assignment-valid-spec : {M : Type 1} → statement M
 assignment-valid-spec =

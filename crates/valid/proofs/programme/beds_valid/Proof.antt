@@ -4,7 +4,10 @@ use Prim.Native.Nat.{_-_}
 use native.Mathlib.Omega.{arith}
 use lib.ListN.{length}
 use borrow.Author.Needs.{needs}
+use borrow.Author.Tests.{eq-eqb}
+use Rattle.oamd.specs.Tables.{mostBeds}
 use Rattle.form.specs.Valid.{bedValid}
+use Rattle.valid.specs.Parts.{bedsValid}
 use Rattle.valid.proofs.Entries.{SoFar, none, turn, whole}
 use Rattle.valid.proofs.programme.beds_valid.Statement.{statement}
 use Rattle.valid.proofs.programme.beds_valid.Tie as tie
@@ -13,15 +16,20 @@ abbrev Inv-loop : tie.InvT-loop
 Inv-loop count beds used valid₀ i₀ valid i = SoFar bedValid used beds valid i
 
 abbrev μ-loop : tie.MeasureT-loop
-μ-loop count beds used valid₀ i₀ valid i = 9 - i
+μ-loop count beds used valid₀ i₀ valid i = mostBeds - i
 
 loop-again : tie.Need-loop-again Inv-loop μ-loop
-loop-again c = turn _ (c .before .before .before .before .loop .inv) (search needs) (c .before .bed-valid .ensures) (c .both .ensures)
+loop-again c =
+    let tested = c .before in
+    let taken = tested .before in
+    let head = taken .before .before in
+    turn _ (head .loop .inv) (search needs) (tested .bed-valid .ensures) (c .both .ensures)
 
 returns : tie.Need-returns Inv-loop μ-loop
+unfolding bedsValid
 returns c =
-    let nine : length (c .before .before .args .t1) ≡ 9 = search needs in
-    (whole (c .before .loop .inv) (omega arith), search needs)
+    let all : length (c .before .before .args .t1) ≡ mostBeds = search needs in
+    rw (eq-eqb _ _ all) (whole (c .before .loop .inv) (omega arith))
 
 pub beds-valid-spec : {M : Type 1} → statement M
 beds-valid-spec =

@@ -13,15 +13,18 @@ abbrev μ-loop : tie.MeasureT-loop
 
 loop-again : tie.Need-loop-again Inv-loop μ-loop
 loop-again c =
-    let v = c .before .before in
-    let n = c .next .ensures in
-    more (v .before .before .before .loop .inv) (search needs) (search needs) (rw (v .before .class-of .ensures) at (v .valid-at .ensures))
-    (c .before .if1 .taken) (n .0) (n .1) (n .2)
+    let good = c .before in
+    let tested = good .before in
+    let classed = tested .before in
+    let head = classed .before .before in
+    more (head .loop .inv) (search needs) (search needs) (rw (classed .class-of .ensures) at (tested .valid-at .ensures)) (good .if1 .taken) (c .next .ensures)
 
 returns : tie.Need-returns Inv-loop μ-loop
 returns c =
-    let v = c .before in
-    stop (v .before .before .before .loop .inv) (search needs) (search needs) (rw (v .before .class-of .ensures) at (v .valid-at .ensures)) (c .if1 .left)
+    let tested = c .before in
+    let classed = tested .before in
+    let head = classed .before .before in
+    stop (head .loop .inv) (search needs) (search needs) (rw (classed .class-of .ensures) at (tested .valid-at .ensures)) (c .if1 .left)
 
 returns-2 : tie.Need-returns-2 Inv-loop μ-loop
 returns-2 c = whole (c .before .loop .inv) (search needs)

@@ -4,8 +4,11 @@ use Rattle.valid.proofs.records.valid_at.Tie as tie
 
 returns : tie.Need-returns
 returns c =
-    let h = c .before .before .before .before .before .pre in
-    rw (c .record-valid .ensures, c .before .precise-at .ensures .0 h, c .before .before .divergence-at .ensures .0 h, c .before .before .before .scene-at .ensures .0 h)
+    let precise = c .before in
+    let divergence = precise .before in
+    let scene = divergence .before in
+    let whole = scene .before .before .pre in
+    rw (c .record-valid .ensures, precise .precise-at .ensures .0 whole, divergence .divergence-at .ensures .0 whole, scene .scene-at .ensures .0 whole)
 
 pub valid-at-spec : {M : Type 1} → statement M
 valid-at-spec =

@@ -6,10 +6,14 @@ use Rattle.valid.proofs.scenes.divergence_valid.Tie as tie
 returns : tie.Need-returns
 unfolding divergenceValid
 returns c =
-    let values = c .before .before in
-    let bounds = values .before .before .before .before .before in
-    rw (c .both2 .ensures, c .before .both .ensures, values .between-if3 .ensures, values .before .before .between-if2 .ensures)
-    (rw (values .before .before .before .before .between-if .ensures, bounds .most-divergence .ensures, bounds .before .least-divergence .ensures))
+    let mode-on = c .before in
+    let value = mode-on .before in
+    let mode = value .before .before in
+    let used = mode .before .before in
+    let most = used .before in
+    let least = most .before in
+    rw (c .both2 .ensures, mode-on .both .ensures, value .between-if3 .ensures, mode .between-if2 .ensures, used .between-if .ensures)
+    (rw (most .most-divergence .ensures, least .least-divergence .ensures))
 
 pub divergence-valid-spec : {M : Type 1} → statement M
 divergence-valid-spec =

@@ -6,11 +6,17 @@ use Rattle.valid.proofs.scenes.precise_valid.Tie as tie
 returns : tie.Need-returns
 unfolding preciseValid
 returns c =
-    let values = c .before .before .before in
-    let flags = values .before .before .before .before in
-    rw (c .both3 .ensures, c .before .both2 .ensures, c .before .before .both .ensures, values .between-if4 .ensures, values .before .between-if3 .ensures)
-    (rw (values .before .before .between-if2 .ensures, values .before .before .before .between-if .ensures, flags .has-z .ensures)
-    (rw (flags .before .before .has-y .ensures, flags .before .before .before .before .has-x .ensures)))
+    let x-on = c .before in
+    let y-on = x-on .before in
+    let z = y-on .before in
+    let y = z .before in
+    let x = y .before in
+    let presence = x .before in
+    let has-z = presence .before in
+    let has-y = has-z .before .before in
+    let has-x = has-y .before .before in
+    rw (c .both3 .ensures, x-on .both2 .ensures, y-on .both .ensures, z .between-if4 .ensures, y .between-if3 .ensures)
+    (rw (x .between-if2 .ensures, presence .between-if .ensures, has-z .has-z .ensures, has-y .has-y .ensures, has-x .has-x .ensures))
 
 pub precise-valid-spec : {M : Type 1} → statement M
 precise-valid-spec =

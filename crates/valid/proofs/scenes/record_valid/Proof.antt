@@ -6,8 +6,13 @@ use Rattle.valid.proofs.scenes.record_valid.Tie as tie
 returns : tie.Need-returns
 unfolding recordValid
 returns c =
-    let values = c .before .before in
-    rw (c .both2 .ensures, c .before .both .ensures, values .precise-valid .ensures, values .before .divergence-valid .ensures, values .before .before .scene-valid .ensures, values .before .before .before .carries .ensures)
+    let divergence-on = c .before in
+    let precise = divergence-on .before in
+    let divergence = precise .before in
+    let scene = divergence .before in
+    let sent = scene .before in
+    rw (c .both2 .ensures, divergence-on .both .ensures, precise .precise-valid .ensures, divergence .divergence-valid .ensures, scene .scene-valid .ensures)
+    (rw (sent .carries .ensures))
 
 pub record-valid-spec : {M : Type 1} → statement M
 record-valid-spec =

@@ -6,10 +6,16 @@ use Rattle.valid.proofs.scenes.rendered_valid.Tie as tie
 returns : tie.Need-returns
 unfolding renderedValid
 returns c =
-    let values = c .before .before .before .before in
-    rw (c .both4 .ensures, c .before .both3 .ensures, c .before .before .both2 .ensures, c .before .before .before .both .ensures, values .between-if .ensures)
-    (rw (values .before .screen-valid .ensures, values .before .before .zone-valid .ensures, values .before .before .before .volume-valid .ensures)
-    (rw (values .before .before .before .before .location-valid .ensures)))
+    let sized-on = c .before in
+    let zoned-on = sized-on .before in
+    let screened-on = zoned-on .before in
+    let snapped = screened-on .before in
+    let screened = snapped .before in
+    let zoned = screened .before in
+    let sized = zoned .before in
+    let located = sized .before in
+    rw (c .both4 .ensures, sized-on .both3 .ensures, zoned-on .both2 .ensures, screened-on .both .ensures, snapped .between-if .ensures)
+    (rw (screened .screen-valid .ensures, zoned .zone-valid .ensures, sized .volume-valid .ensures, located .location-valid .ensures))
 
 pub rendered-valid-spec : {M : Type 1} → statement M
 rendered-valid-spec =

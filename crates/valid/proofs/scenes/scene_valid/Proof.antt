@@ -7,11 +7,16 @@ use Rattle.valid.proofs.scenes.scene_valid.Tie as tie
 returns : tie.Need-returns
 unfolding sceneValid renderedValid
 returns c =
-    let values = c .before .before .before .before .before in
-    let basic = values .before .before in
-    rw (c .both4 .ensures, c .before .both3 .ensures, c .before .before .before .both2 .ensures, c .before .before .before .before .both .ensures)
-    (rw (values .rendered-valid .ensures, values .before .carries .ensures, basic .between-if2 .ensures, basic .before .before .between-if .ensures)
-    (rw (basic .before .before .before .before .between .ensures)))
+    let class-on = c .before in
+    let rest = class-on .before .before in
+    let priority-on = rest .before in
+    let rendered = priority-on .before in
+    let sent = rendered .before in
+    let priority = sent .before in
+    let gain = priority .before .before in
+    let active = gain .before .before in
+    rw (c .both4 .ensures, class-on .both3 .ensures, rest .both2 .ensures, priority-on .both .ensures, rendered .rendered-valid .ensures)
+    (rw (sent .carries .ensures, priority .between-if2 .ensures, gain .between-if .ensures, active .between .ensures))
 
 pub scene-valid-spec : {M : Type 1} → statement M
 scene-valid-spec =

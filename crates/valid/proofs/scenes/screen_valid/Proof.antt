@@ -6,8 +6,11 @@ use Rattle.valid.proofs.scenes.screen_valid.Tie as tie
 returns : tie.Need-returns
 unfolding screenValid
 returns c =
-    let values = c .before .before in
-    rw (c .both2 .ensures, c .before .both .ensures, values .between-if3 .ensures, values .before .before .between-if2 .ensures, values .before .before .before .before .between-if .ensures)
+    let factor-on = c .before in
+    let depth = factor-on .before in
+    let factor = depth .before .before in
+    let used = factor .before .before in
+    rw (c .both2 .ensures, factor-on .both .ensures, depth .between-if3 .ensures, factor .between-if2 .ensures, used .between-if .ensures)
 
 pub screen-valid-spec : {M : Type 1} → statement M
 screen-valid-spec =

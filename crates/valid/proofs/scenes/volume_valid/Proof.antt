@@ -6,8 +6,11 @@ use Rattle.valid.proofs.scenes.volume_valid.Tie as tie
 returns : tie.Need-returns
 unfolding volumeValid
 returns c =
-    let values = c .before .before in
-    rw (c .both2 .ensures, c .before .both .ensures, values .between-if3 .ensures, values .before .between-if2 .ensures, values .before .before .between-if .ensures)
+    let depth-on = c .before in
+    let height = depth-on .before in
+    let depth = height .before in
+    let width = depth .before in
+    rw (c .both2 .ensures, depth-on .both .ensures, height .between-if3 .ensures, depth .between-if2 .ensures, width .between-if .ensures)
 
 pub volume-valid-spec : {M : Type 1} → statement M
 volume-valid-spec =

@@ -6,11 +6,17 @@ use Rattle.valid.proofs.timing.update_valid.Tie as tie
 returns : tie.Need-returns
 unfolding updateValid
 returns c =
-    let found = c .before .before .before in
-    let started = found .before .before .before in
-    rw (c .both2 .ensures, c .before .both .ensures, c .before .before .raw4 .ensures, found .raw3 .ensures)
-    (rw (found .before .wide-between-if2 .ensures, found .before .before .raw2 .ensures, started .wide-between-if .ensures, started .before .raw .ensures)
-    (rw (started .before .before .offset-if .ensures, started .before .before .before .behind-step .ensures)))
+    let found-on = c .before in
+    let left-raw = found-on .before in
+    let found-raw = left-raw .before in
+    let ramped = found-raw .before in
+    let ramp-raw = ramped .before in
+    let started = ramp-raw .before in
+    let start-raw = started .before in
+    let left = start-raw .before in
+    let found = left .before in
+    rw (c .both2 .ensures, found-on .both .ensures, left-raw .raw4 .ensures, found-raw .raw3 .ensures, ramped .wide-between-if2 .ensures)
+    (rw (ramp-raw .raw2 .ensures, started .wide-between-if .ensures, start-raw .raw .ensures, left .offset-if .ensures, found .offset-of .ensures))
 
 pub update-valid-spec : {M : Type 1} → statement M
 update-valid-spec =

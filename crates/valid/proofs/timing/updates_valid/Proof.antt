@@ -4,7 +4,10 @@ use Prim.Native.Nat.{_-_}
 use native.Mathlib.Omega.{arith}
 use lib.ListN.{length}
 use borrow.Author.Needs.{needs}
+use borrow.Author.Tests.{eq-eqb}
+use Rattle.oamd.specs.Tables.{mostBlocks}
 use Rattle.form.specs.Valid.{updateValid}
+use Rattle.valid.specs.Parts.{updatesValid}
 use Rattle.valid.proofs.Entries.{SoFar, none, turn, whole}
 use Rattle.valid.proofs.timing.updates_valid.Statement.{statement}
 use Rattle.valid.proofs.timing.updates_valid.Tie as tie
@@ -13,15 +16,20 @@ abbrev Inv-loop : tie.InvT-loop
 Inv-loop offset blocks updates used valid₀ i₀ valid i = SoFar (updateValid (offset .0)) used updates valid i
 
 abbrev μ-loop : tie.MeasureT-loop
-μ-loop offset blocks updates used valid₀ i₀ valid i = 8 - i
+μ-loop offset blocks updates used valid₀ i₀ valid i = mostBlocks - i
 
 loop-again : tie.Need-loop-again Inv-loop μ-loop
-loop-again c = turn _ (c .before .before .before .before .loop .inv) (search needs) (c .before .update-valid .ensures) (c .both .ensures)
+loop-again c =
+    let tested = c .before in
+    let taken = tested .before in
+    let head = taken .before .before in
+    turn _ (head .loop .inv) (search needs) (tested .update-valid .ensures) (c .both .ensures)
 
 returns : tie.Need-returns Inv-loop μ-loop
+unfolding updatesValid
 returns c =
-    let eight : length (c .before .before .args .t2) ≡ 8 = search needs in
-    (whole (c .before .loop .inv) (omega arith), search needs)
+    let all : length (c .before .before .args .t2) ≡ mostBlocks = search needs in
+    rw (eq-eqb _ _ all) (whole (c .before .loop .inv) (omega arith))
 
 pub updates-valid-spec : {M : Type 1} → statement M
 updates-valid-spec =

@@ -6,11 +6,16 @@ use Rattle.valid.proofs.trim.balances_valid.Tie as tie
 returns : tie.Need-returns
 unfolding balancesValid
 returns c =
-    let values = c .before .before .before in
-    let flags = values .before .before .before .before in
-    rw (c .both3 .ensures, c .before .both2 .ensures, c .before .before .both .ensures, values .between-if4 .ensures, values .before .between-if3 .ensures)
-    (rw (values .before .before .between-if2 .ensures, values .before .before .before .between-if .ensures, flags .has-lis .ensures)
-    (rw (flags .before .before .has-tb .ensures)))
+    let tbamount-on = c .before in
+    let lissign-on = tbamount-on .before in
+    let lisamount = lissign-on .before in
+    let lissign = lisamount .before in
+    let tbamount = lissign .before in
+    let tbsign = tbamount .before in
+    let has-lis = tbsign .before in
+    let has-tb = has-lis .before .before in
+    rw (c .both3 .ensures, tbamount-on .both2 .ensures, lissign-on .both .ensures, lisamount .between-if4 .ensures, lissign .between-if3 .ensures)
+    (rw (tbamount .between-if2 .ensures, tbsign .between-if .ensures, has-lis .has-lis .ensures, has-tb .has-tb .ensures))
 
 pub balances-valid-spec : {M : Type 1} → statement M
 balances-valid-spec =

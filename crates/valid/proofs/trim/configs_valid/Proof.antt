@@ -4,6 +4,7 @@ use mathlib.Core.Path.{_≡_, ap, _∙_}
 use Prim.Native.Nat.{_+_, _-_, _*_}
 use native.Mathlib.Omega.{arith}
 use borrow.Author.Needs.{needs}
+use Rattle.oamd.specs.Tables.{trimConfigs, configBytes, trimHead}
 use Rattle.oamd.specs.Trim.{noConfig}
 use Rattle.form.specs.Valid.{configValid}
 use Rattle.form.specs.Answer.{configAt, configsAt}
@@ -12,17 +13,23 @@ use Rattle.valid.proofs.trim.configs_valid.Statement.{statement}
 use Rattle.valid.proofs.trim.configs_valid.Tie as tie
 
 abbrev Inv-loop : tie.InvT-loop
-Inv-loop sent trim valid₀ at₀ i₀ valid at i = (at ≡ 3 + 10 * i) × AllOrNone configValid sent 9 (configsAt trim 9 3) valid i
+Inv-loop sent trim valid₀ at₀ i₀ valid at i =
+    (at ≡ trimHead + configBytes * i) × AllOrNone configValid sent trimConfigs (configsAt trim trimConfigs trimHead) valid i
 
 abbrev μ-loop : tie.MeasureT-loop
-μ-loop sent trim valid₀ at₀ i₀ valid at i = 9 - i
+μ-loop sent trim valid₀ at₀ i₀ valid at i = trimConfigs - i
 
 loop-again : tie.Need-loop-again Inv-loop μ-loop
 loop-again c =
-    let h = c .before .before .before .before .loop in
-    let p = h .inv .0 in
-    let e = c .before .before .config-at .ensures .0 (omega arith) in
-    (search needs, one-more noConfig _ (h .inv .1) (search needs) (config-entry _ _ _ (h .i) _ (search needs)) (c .before .config-valid .ensures ∙ ap (configValid _) (e ∙ ap (configAt _) p)) (c .both .ensures))
+    let tested = c .before in
+    let taken = tested .before in
+    let head = taken .before .before in
+    let at = head .loop .inv .0 in
+    let there = taken .config-at .ensures .0 (omega arith) in (
+      search needs,
+      one-more noConfig _ (head .loop .inv .1) (search needs) (config-entry _ _ _ (head .loop .i) _ (search needs))
+          (tested .config-valid .ensures ∙ ap (configValid _) (there ∙ ap (configAt _) at)) (c .both .ensures),
+    )
 
 returns : tie.Need-returns Inv-loop μ-loop
 returns c = all-of-them (c .before .loop .inv .1) (omega arith)

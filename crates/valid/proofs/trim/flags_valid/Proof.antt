@@ -2,20 +2,25 @@
 use Prim.Native.Nat.{_-_}
 use native.Mathlib.Omega.{arith}
 use borrow.Author.Needs.{needs}
+use Rattle.oamd.specs.Tables.{trimFixed}
 use Rattle.form.specs.Valid.{betweenIf}
-use Rattle.form.specs.Answer.{bytesAt}
+use Rattle.record.specs.Bytes.{bytesAt}
 use Rattle.valid.proofs.Sent.{AllOrNone, untested, one-more, all-of-them, bytes-length, byte-entry}
 use Rattle.valid.proofs.trim.flags_valid.Statement.{statement}
 use Rattle.valid.proofs.trim.flags_valid.Tie as tie
 
 abbrev Inv-loop : tie.InvT-loop
-Inv-loop sent trim objects count valid₀ i₀ valid i = AllOrNone (λ used x. betweenIf used 0 1 x) sent count (bytesAt trim count 94) valid i
+Inv-loop sent trim objects count valid₀ i₀ valid i = AllOrNone (λ used x. betweenIf used 0 1 x) sent count (bytesAt trim count trimFixed) valid i
 
 abbrev μ-loop : tie.MeasureT-loop
 μ-loop sent trim objects count valid₀ i₀ valid i = count - i
 
 loop-again : tie.Need-loop-again Inv-loop μ-loop
-loop-again c = one-more 0 _ (c .before .before .before .before .loop .inv) (search needs) (byte-entry _ _ _ _ (search needs)) (c .before .between-if .ensures) (c .both .ensures)
+loop-again c =
+    let tested = c .before in
+    let taken = tested .before in
+    let head = taken .before .before in
+    one-more 0 _ (head .loop .inv) (search needs) (byte-entry _ _ _ _ (search needs)) (tested .between-if .ensures) (c .both .ensures)
 
 returns : tie.Need-returns Inv-loop μ-loop
 returns c = all-of-them (c .before .loop .inv) (omega arith)

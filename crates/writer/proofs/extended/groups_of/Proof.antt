@@ -10,7 +10,7 @@ use Rattle.bits.specs.Language.{pick}
 use Rattle.oamd.specs.declared.Divergence.{Divergence}
 use Rattle.oamd.specs.declared.Precise.{Precise}
 use Rattle.form.specs.Form.{any, diverges, refines}
-use Rattle.form.specs.Answer.{recordsAt}
+use Rattle.record.specs.Bytes.{recordsAt}
 use Rattle.writer.proofs.Extra.{any-more, any-end}
 use Rattle.writer.proofs.extended.groups_of.Statement.{statement}
 use Rattle.writer.proofs.extended.groups_of.Tie as tie

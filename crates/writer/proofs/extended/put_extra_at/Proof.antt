@@ -3,7 +3,7 @@ use denote.Ref.{now}
 use mathlib.Core.Path.{ap, sym}
 use mathlib.Core.Bool.{Bool}
 use native.Mathlib.Omega.{arith}
-use Rattle.form.specs.Answer.{recordAt}
+use Rattle.record.specs.Bytes.{recordAt}
 use Rattle.writer.specs.Parts.{extraBits}
 use Rattle.writer.proofs.LayLaws.{laid-is}
 use Rattle.writer.proofs.extended.put_extra_at.Statement.{statement}

@@ -7,7 +7,7 @@ use borrow.Author.Needs.{needs}
 use lib.ListN.{length}
 use Rattle.bits.specs.Writes.{eachBits}
 use Rattle.writer.proofs.LayLaws.{Rest, rest-start, rest-step, rest-end}
-use Rattle.form.specs.Answer.{recordsAt}
+use Rattle.record.specs.Bytes.{recordsAt}
 use Rattle.writer.specs.Parts.{extraBits}
 use Rattle.writer.proofs.Records.{records-more, records-none}
 use Rattle.writer.proofs.extended.put_extras.Statement.{statement}

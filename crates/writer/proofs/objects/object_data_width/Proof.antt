@@ -9,7 +9,7 @@ use lib.Dec.{eqb}
 use lib.ListN.{length}
 use Rattle.bits.specs.Writes.{eachBits}
 use Rattle.oamd.specs.declared.Scene.{Scene}
-use Rattle.form.specs.Answer.{sceneAt, recordsAt}
+use Rattle.record.specs.Bytes.{sceneAt, recordsAt}
 use Rattle.form.specs.Form.{blockBits, objectDataBits}
 use Rattle.writer.proofs.Records.{records-more, records-none, count-more, count-none}
 use Rattle.writer.proofs.objects.object_data_width.Statement.{statement}

@@ -7,7 +7,7 @@ use borrow.Author.Needs.{needs}
 use denote.Ref.{now}
 use lib.ListN.{length}
 use Rattle.bits.specs.Writes.{eachBits}
-use Rattle.form.specs.Answer.{recordsAt}
+use Rattle.record.specs.Bytes.{recordsAt}
 use Rattle.form.specs.Form.{byObject, objectDataBits}
 use Rattle.writer.proofs.Records.{objects-more, objects-none, left-more, count-more, count-none}
 use Rattle.writer.proofs.objects.objects_width.Statement.{statement}

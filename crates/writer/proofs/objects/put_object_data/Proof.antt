@@ -7,7 +7,7 @@ use borrow.Author.Needs.{needs}
 use lib.ListN.{length}
 use Rattle.bits.specs.Writes.{eachBits}
 use Rattle.writer.proofs.LayLaws.{Rest, rest-start, rest-step, rest-end, laid-is}
-use Rattle.form.specs.Answer.{recordsAt}
+use Rattle.record.specs.Bytes.{recordsAt}
 use lib.Dec.{eqb}
 use Rattle.oamd.specs.declared.Scene.{Scene}
 use Rattle.form.specs.Form.{blockBits, objectDataBits}

@@ -7,7 +7,7 @@ use borrow.Author.Needs.{needs}
 use lib.ListN.{length}
 use Rattle.bits.specs.Writes.{eachBits}
 use Rattle.writer.proofs.LayLaws.{Rest, rest-start, rest-step, rest-end}
-use Rattle.form.specs.Answer.{recordsAt}
+use Rattle.record.specs.Bytes.{recordsAt}
 use Rattle.form.specs.Form.{byObject, objectDataBits}
 use Rattle.writer.proofs.Records.{objects-more, objects-none, left-more}
 use Rattle.writer.proofs.objects.put_objects.Statement.{statement}

@@ -7,7 +7,8 @@ use Prim.Native.Nat.{ℕ, _+_}
 use native.Mathlib.Omega.{arith}
 use lib.ListN.{length}
 use Rattle.form.specs.Form.{extendedElementBits}
-use Rattle.form.specs.Answer.{recordsAt, tablesOf}
+use Rattle.record.specs.Bytes.{recordsAt}
+use Rattle.form.specs.Answer.{tablesOf}
 use Rattle.writer.proofs.Extra.{needed-of, extended-there}
 use Rattle.writer.proofs.Trims.{trim-there}
 use Rattle.writer.proofs.Whole.{all-bits, object-any, form-length}

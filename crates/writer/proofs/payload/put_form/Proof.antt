@@ -9,7 +9,8 @@ use lib.Dec.{ltb}
 use lib.ListN.{length}
 use Rattle.bits.specs.Writes.{only}
 use Rattle.form.specs.Form.{extendedElementBits, elementBits}
-use Rattle.form.specs.Answer.{recordsAt, tablesOf}
+use Rattle.record.specs.Bytes.{recordsAt}
+use Rattle.form.specs.Answer.{tablesOf}
 use Rattle.writer.proofs.LayLaws.{laid-bind, laid-is, laid-length}
 use Rattle.writer.proofs.Extra.{needed-of, extended-there}
 use Rattle.writer.proofs.Trims.{trim-there}

@@ -6,7 +6,7 @@ use native.Mathlib.Omega.{arith}
 use borrow.Author.Needs.{needs}
 use lib.ListN.{length}
 use Rattle.bits.specs.Writes.{toBits, eachBits}
-use Rattle.form.specs.Answer.{bytesAt}
+use Rattle.record.specs.Bytes.{bytesAt}
 use Rattle.writer.proofs.LayLaws.{Rest, rest-start, rest-step, rest-end}
 use Rattle.writer.proofs.Trims.{bytes-more, bytes-none}
 use Rattle.writer.proofs.trim.put_flags.Statement.{statement}

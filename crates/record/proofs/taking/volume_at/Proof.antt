@@ -1,0 +1,20 @@
+use borrow.Author.Needs.{needs}
+use Rattle.record.specs.Bytes.{sceneAt}
+use Rattle.record.proofs.taking.volume_at.Statement.{statement}
+use Rattle.record.proofs.taking.volume_at.Tie as tie
+
+returns : tie.Need-returns
+unfolding sceneAt
+returns c = search needs
+
+pub volume-at-spec : {M : Type 1} → statement M
+volume-at-spec =
+    tie.close
+    (tie.spec
+    (λ c. search needs)
+    (λ c. search needs)
+    (λ c. search needs)
+    (λ c. search needs)
+    (λ c. search needs)
+    (λ c. search needs)
+    returns)

@@ -1,0 +1,11 @@
+use borrow.Author.Needs.{needs}
+use Rattle.record.specs.Bytes.{sceneAt}
+use Rattle.record.proofs.taking.zone_at.Statement.{statement}
+use Rattle.record.proofs.taking.zone_at.Tie as tie
+
+returns : tie.Need-returns
+unfolding sceneAt
+returns c = search needs
+
+pub zone-at-spec : {M : Type 1} → statement M
+zone-at-spec = tie.close (tie.spec (λ c. search needs) (λ c. search needs) (λ c. search needs) (λ c. search needs) returns)

@@ -1,0 +1,4 @@
+pub mod Bytes
+pub mod Stored
+pub mod Entries
+pub mod Laws

@@ -1,0 +1,15 @@
+// A record's bytes, both ways: laid into a buffer, and taken out of one. Only this crate knows at which byte of a record a value stands.
+mod laying; // laying.rt: values into bytes
+mod taking; // taking.rt: values out of bytes
+mod carrying; // carrying.rt: whether a record can carry what the extended element has
+
+pub use carrying::carries;
+pub use carrying::carries_at;
+pub use laying::store_divergence;
+pub use laying::store_precise;
+pub use laying::store_scene;
+pub use taking::divergence_at;
+pub use taking::gain_at;
+pub use taking::has_bytes;
+pub use taking::precise_at;
+pub use taking::scene_at;
