@@ -19,7 +19,8 @@ use Rattle.oamd.specs.declared.TrimConfig.{TrimConfig}
 use Rattle.oamd.specs.Programme.{set?, hasIsf}
 use Rattle.oamd.specs.Block.{hasZone, hasSize}
 use Rattle.oamd.specs.Trim.{hasSurround, hasHeight}
-use Rattle.oamd.specs.Reserved.{Field, IntermediateSpatialFormatIdx, SampleOffsetCode, ZoneConstraintsIdx, ObjectSizeIdx, WarpMode, GlobalTrimMode, TrimSurround, TrimHeight, ObjectDivMode, ObjectDivCode, unreserved}
+use Rattle.oamd.specs.Reserved.{Field, IntermediateSpatialFormatIdx, SampleOffsetCode, ZoneConstraintsIdx, ObjectSizeIdx, WarpMode, GlobalTrimMode, TrimSurround, TrimHeight}
+use Rattle.oamd.specs.Reserved.{ObjectDivMode, ObjectDivCode, unreserved}
 use Rattle.oamd.specs.Element.{declaredLength, State, fields, oa-element-md}
 use Rattle.oamd.specs.Payload.{Payload, object-audio-metadata-payload}
 use Rattle.demands.specs.Terms.{runs}

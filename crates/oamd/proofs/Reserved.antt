@@ -6,7 +6,8 @@ use mathlib.Core.List.{List, [], _∷_}
 use Prim.Native.Nat.{_^_}
 use lib.Dec.{T, leb, ltb}
 use Rattle.bits.specs.Language.{both}
-use Rattle.oamd.specs.Reserved.{Field, IntermediateSpatialFormatIdx, SampleOffsetCode, ZoneConstraintsIdx, ObjectSizeIdx, WarpMode, GlobalTrimMode, TrimSurround, TrimHeight, ObjectDivMode, ObjectDivCode, widthOf, firstReserved, lastReserved, decoded}
+use Rattle.oamd.specs.Reserved.{Field, IntermediateSpatialFormatIdx, SampleOffsetCode, ZoneConstraintsIdx, ObjectSizeIdx, WarpMode, GlobalTrimMode, TrimSurround, TrimHeight}
+use Rattle.oamd.specs.Reserved.{ObjectDivMode, ObjectDivCode, widthOf, firstReserved, lastReserved, decoded}
 
 abbrev pub Among : Field → List Field → Type 0
 Among f [] = ⊥

@@ -10,7 +10,8 @@ use Rattle.bits.specs.Size.{sizeFrom, sizeOf, variable-bits-max}
 use Rattle.oamd.specs.declared.ReadAnswer.{ReadAnswer}
 use Rattle.oamd.specs.declared.Update.{Update}
 use Rattle.oamd.specs.Tables.{mostTrim}
-use Rattle.oamd.specs.Programme.{bed-assignment, bed-instances, intermediate-spatial-format, num-dynamic-objects, reserved-data, program-assignment, labels, bedObjects, allBeds, named, agrees, shares, classOf}
+use Rattle.oamd.specs.Programme.{bed-assignment, bed-instances, intermediate-spatial-format, num-dynamic-objects, reserved-data, program-assignment, labels, bedObjects}
+use Rattle.oamd.specs.Programme.{allBeds, named, agrees, shares, classOf}
 use Rattle.oamd.specs.Timing.{sample-offset, block-update-info, md-update-info, offsetOf, rampOf, startOf, timingOf}
 use Rattle.oamd.specs.Block.{status-idx, object-basic-info, differences, coordinates, position, distance, zone, extent, screen, object-render-info, additional-table-data, object-info-block}
 use Rattle.oamd.specs.ObjectElement.{object-data, object-element}
@@ -164,5 +165,44 @@ examples =
     ∷ []
 
 pub worked : All examples
-unfolding sizeFrom slice number run bit each from groups gainOf startOf bed-assignment bed-instances intermediate-spatial-format num-dynamic-objects reserved-data program-assignment labels bedObjects allBeds named agrees shares classOf plainRecords extendedRecords recordBytesOf bytesOf onto kind framed scenes fields passOver readKnown oa-element oa-element-md elements oa-md-version object-count oa-element-count header object-audio-metadata-payload timing records tables trim-config trim-element trimOf configsBytesOf trimBytesOf missingOf housed reading sample-offset block-update-info md-update-info offsetOf rampOf timingOf status-idx object-basic-info differences coordinates position distance zone extent screen object-render-info additional-table-data object-info-block object-data object-element obj-div-block ext-prec-pos-block extended-object-element priorityOf distanceOf locationOf volumeOf resolve scenesFrom scenesOf allScenes
-worked = (refl, (refl, (refl, (refl, (refl, (refl, (refl, (refl, (refl, (refl, (refl, (refl, (refl, (refl, (refl, (refl, (refl, (refl, (refl, (refl, (refl, ((refl, refl, refl), tt))))))))))))))))))))))
+unfolding sizeFrom slice number run bit each from groups gainOf startOf bed-assignment bed-instances intermediate-spatial-format num-dynamic-objects
+    reserved-data program-assignment labels bedObjects allBeds named agrees shares classOf plainRecords extendedRecords recordBytesOf bytesOf onto kind framed
+    scenes fields passOver readKnown oa-element oa-element-md elements oa-md-version object-count oa-element-count header object-audio-metadata-payload timing
+    records tables trim-config trim-element trimOf configsBytesOf trimBytesOf missingOf housed reading sample-offset block-update-info md-update-info offsetOf
+    rampOf timingOf status-idx object-basic-info differences coordinates position distance zone extent screen object-render-info additional-table-data
+    object-info-block object-data object-element obj-div-block ext-prec-pos-block extended-object-element priorityOf distanceOf locationOf volumeOf resolve
+    scenesFrom scenesOf allScenes
+worked = (
+  refl,
+  (
+    refl,
+    (
+      refl,
+      (
+        refl,
+        (
+          refl,
+          (
+            refl,
+            (
+              refl,
+              (
+                refl,
+                (
+                  refl,
+                  (
+                    refl,
+                    (
+                      refl,
+                      (refl, (refl, (refl, (refl, (refl, (refl, (refl, (refl, (refl, (refl, ((refl, refl, refl), tt))))))))))),
+                    ),
+                  ),
+                ),
+              ),
+            ),
+          ),
+        ),
+      ),
+    ),
+  ),
+)

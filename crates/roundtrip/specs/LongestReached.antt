@@ -11,9 +11,12 @@ use Rattle.oamd.specs.Timing.{samples}
 use Rattle.oamd.specs.Trim.{TrimTable}
 use Rattle.oamd.specs.Record.{Record}
 use Rattle.oamd.specs.Payload.{Tables}
-use Rattle.form.specs.Valid.{betweenIf, entriesValid, bedValid, programmeValid, sampleOffset, updateValid, timingValid, locationValid, volumeValid, zoneValid, screenValid, sceneValid, divergenceValid, preciseValid, recordValid, firstBad, configValid, trimValid, Valid}
+use Rattle.form.specs.Valid.{betweenIf, entriesValid, bedValid, programmeValid, sampleOffset, updateValid, timingValid, locationValid, volumeValid, zoneValid, screenValid}
+use Rattle.form.specs.Valid.{sceneValid, divergenceValid, preciseValid, recordValid, firstBad, configValid, trimValid, Valid}
 use Rattle.form.specs.Coded.{codedOffset, rampCode, codedUpdate, gainIndex, codedGain, codedPriority, zSign, zBits, codedDistance, sizeIndex, codedExtent}
-use Rattle.form.specs.Form.{countBits, bedBits, bedsBits, assignmentBits, headerBits, offsetBits, updateBits, timingBits, statusBits, gainBits, priorityBits, positionBits, distanceBits, zoneBits, extentBits, screenBits, basicBits, renderBits, blockBits, byObject, objectDataBits, objectElementBits, divergenceBits, preciseBits, any, extendedElementBits, configBits, trimElementBits, groupBits, sizeBits, sizeFor, framedBits, elementBits, hasExtended, formBits, form}
+use Rattle.form.specs.Form.{countBits, bedBits, bedsBits, assignmentBits, headerBits, offsetBits, updateBits, timingBits, statusBits, gainBits, priorityBits, positionBits}
+use Rattle.form.specs.Form.{distanceBits, zoneBits, extentBits, screenBits, basicBits, renderBits, blockBits, byObject, objectDataBits, objectElementBits, divergenceBits}
+use Rattle.form.specs.Form.{preciseBits, any, extendedElementBits, configBits, trimElementBits, groupBits, sizeBits, sizeFor, framedBits, elementBits, hasExtended, formBits, form}
 
 -- nine empty non-standard beds, and 159 dynamic objects
 fullProgramme : Programme
@@ -78,11 +81,16 @@ pub fullTables : Tables
 fullTables = record { programme = fullProgramme; timing = fullTiming; records = replicate 1272 fullRecord; trim = fullTrim }
 
 pub full-valid : Valid fullTables
-unfolding fullTables fullProgramme fullTiming fullRecord fullTrim programmeValid entriesValid bedValid agrees named shares allBeds bedObjects labels classOf timingValid sampleOffset updateValid firstBad recordValid sceneValid locationValid volumeValid zoneValid screenValid divergenceValid preciseValid trimValid configValid betweenIf
+unfolding fullTables fullProgramme fullTiming fullRecord fullTrim programmeValid entriesValid bedValid agrees named shares allBeds bedObjects labels classOf
+    timingValid sampleOffset updateValid firstBad recordValid sceneValid locationValid volumeValid zoneValid screenValid divergenceValid preciseValid trimValid
+    configValid betweenIf
 full-valid = record { programme = refl; timing = refl; count = refl; records = refl; trim = refl }
 
 full-bits : length (formBits fullTables) ≡ 115845
-unfolding fullTables fullProgramme fullTiming fullRecord fullTrim formBits headerBits countBits assignmentBits bedsBits bedBits objectElementBits timingBits offsetBits codedOffset sampleOffset updateBits codedUpdate rampCode byObject objectDataBits blockBits statusBits basicBits renderBits gainBits priorityBits positionBits distanceBits zoneBits extentBits screenBits codedGain gainIndex codedPriority zSign zBits codedDistance sizeIndex codedExtent extendedElementBits divergenceBits preciseBits any hasExtended trimElementBits configBits elementBits framedBits sizeBits sizeFor groupBits toBits eachBits
+unfolding fullTables fullProgramme fullTiming fullRecord fullTrim formBits headerBits countBits assignmentBits bedsBits bedBits objectElementBits timingBits
+    offsetBits codedOffset sampleOffset updateBits codedUpdate rampCode byObject objectDataBits blockBits statusBits basicBits renderBits gainBits priorityBits
+    positionBits distanceBits zoneBits extentBits screenBits codedGain gainIndex codedPriority zSign zBits codedDistance sizeIndex codedExtent
+    extendedElementBits divergenceBits preciseBits any hasExtended trimElementBits configBits elementBits framedBits sizeBits sizeFor groupBits toBits eachBits
 full-bits = refl
 
 -- its 115,845 bits take 14,481 bytes

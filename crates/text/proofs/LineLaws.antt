@@ -55,7 +55,8 @@ pub record-laid : {s t u v w x : List ℕ} {at p q o n r : ℕ} (object blk : �
     → Laid s x at r (recordLine object blk (take recordBytes (drop place records)))
 record-laid object blk records place f g h i j =
     let long : place + recordBytes - place ≡ recordBytes = omega arith in
-    laid-is (ap (λ (n : ℕ). recordLine object blk (take n (drop place records))) long) (three-laid recordKey (decimal object) (decimal blk) (hex (take (place + recordBytes - place) (drop place records))) f g h (laid-bind i j))
+    laid-is (ap (λ (n : ℕ). recordLine object blk (take n (drop place records))) long)
+    (three-laid recordKey (decimal object) (decimal blk) (hex (take (place + recordBytes - place) (drop place records))) f g h (laid-bind i j))
 
 -- the records of an object lie before the end of all
 pub object-within : (objects blocks object : ℕ) → object < objects → recordStride * (object * blocks) + recordStride * blocks ≤ recordStride * (objects * blocks)

@@ -10,7 +10,8 @@ use Rattle.oamd.specs.Element.{kind, framed, scenes, fields, passOver, readKnow
 use Rattle.oamd.specs.Meaning.{gainOf, priorityOf, distanceOf, locationOf, volumeOf, resolve, scenesFrom, scenesOf, allScenes}
 use Rattle.oamd.specs.ObjectElement.{object-data, object-element}
 use Rattle.oamd.specs.Payload.{oa-md-version, object-count, oa-element-count, header, object-audio-metadata-payload, timing, records, tables}
-use Rattle.oamd.specs.Programme.{bed-assignment, bed-instances, intermediate-spatial-format, num-dynamic-objects, reserved-data, program-assignment, labels, bedObjects, allBeds, named, agrees, shares, classOf}
+use Rattle.oamd.specs.Programme.{bed-assignment, bed-instances, intermediate-spatial-format, num-dynamic-objects, reserved-data, program-assignment, labels, bedObjects, allBeds}
+use Rattle.oamd.specs.Programme.{named, agrees, shares, classOf}
 use Rattle.oamd.specs.Record.{plainRecords, recordBytesOf, bytesOf, onto}
 use Rattle.oamd.specs.Timing.{sample-offset, block-update-info, md-update-info, offsetOf, rampOf, startOf, timingOf}
 use Rattle.oamd.specs.Trim.{trimOf, configsBytesOf, trimBytesOf}
@@ -21,7 +22,10 @@ use Rattle.text.specs.Listing.{blockLines, recordLines, shareLines, tabl
 
 -- samples/three-objects.oamd
 abbrev pub sample : List ℕ
-sample = 0x05 ∷ 0x84 ∷ 0x47 ∷ 0x00 ∷ 0x40 ∷ 0x01 ∷ 0x20 ∷ 0x28 ∷ 0x7F ∷ 0x98 ∷ 0x31 ∷ 0x25 ∷ 0xFF ∷ 0xFF ∷ 0xFE ∷ 0x25 ∷ 0x99 ∷ 0xD0 ∷ 0x84 ∷ 0x7F ∷ 0xFF ∷ 0xD5 ∷ 0x00 ∷ 0x0F ∷ 0xFF ∷ 0xFF ∷ 0xFF ∷ 0xFF ∷ 0xFF ∷ 0xFF ∷ 0xFF ∷ 0xFF ∷ 0xFF ∷ 0xFF ∷ 0xFF ∷ 0xFF ∷ 0xFF ∷ 0xFF ∷ 0xFF ∷ 0xFF ∷ 0xD2 ∷ 0x24 ∷ 0x83 ∷ 0x84 ∷ 0x00 ∷ []
+sample =
+    0x05 ∷ 0x84 ∷ 0x47 ∷ 0x00 ∷ 0x40 ∷ 0x01 ∷ 0x20 ∷ 0x28 ∷ 0x7F ∷ 0x98 ∷ 0x31 ∷ 0x25 ∷ 0xFF ∷ 0xFF ∷ 0xFE ∷ 0x25 ∷ 0x99 ∷ 0xD0 ∷ 0x84 ∷ 0x7F
+    ∷ 0xFF ∷ 0xD5 ∷ 0x00 ∷ 0x0F ∷ 0xFF ∷ 0xFF ∷ 0xFF ∷ 0xFF ∷ 0xFF ∷ 0xFF ∷ 0xFF ∷ 0xFF ∷ 0xFF ∷ 0xFF ∷ 0xFF ∷ 0xFF ∷ 0xFF ∷ 0xFF ∷ 0xFF ∷ 0xFF
+    ∷ 0xD2 ∷ 0x24 ∷ 0x83 ∷ 0x84 ∷ 0x00 ∷ []
 
 abbrev pub printed : List ℕ
 printed =
@@ -43,5 +47,11 @@ abbrev pub short : List ℕ
 short = 0x01 ∷ 0x04 ∷ 0x40 ∷ 0x00 ∷ []
 
 pub worked : (listing sample ≡ printed) × (listing cut ≡ ascii "refusal=2\nplace=18\nmissing=7\n") × (listing short ≡ ascii "refusal=8\nplace=29\n")
-unfolding slice run number each from bit sizeFrom missingOf housed reading status-idx object-basic-info differences coordinates position distance zone extent screen object-render-info additional-table-data object-info-block kind framed scenes fields passOver readKnown oa-element oa-element-md elements gainOf priorityOf distanceOf locationOf volumeOf resolve scenesFrom scenesOf allScenes object-data object-element oa-md-version object-count oa-element-count header object-audio-metadata-payload timing records tables bed-assignment bed-instances intermediate-spatial-format num-dynamic-objects reserved-data program-assignment labels bedObjects allBeds named agrees shares classOf plainRecords recordBytesOf bytesOf onto sample-offset block-update-info md-update-info offsetOf rampOf startOf timingOf trimOf configsBytesOf trimBytesOf decimal texts line blockLines recordLines shareLines tableLines listingOf zeros listing
+unfolding slice run number each from bit sizeFrom missingOf housed reading status-idx object-basic-info differences coordinates position distance zone extent
+    screen object-render-info additional-table-data object-info-block kind framed scenes fields passOver readKnown oa-element oa-element-md elements gainOf
+    priorityOf distanceOf locationOf volumeOf resolve scenesFrom scenesOf allScenes object-data object-element oa-md-version object-count oa-element-count
+    header object-audio-metadata-payload timing records tables bed-assignment bed-instances intermediate-spatial-format num-dynamic-objects reserved-data
+    program-assignment labels bedObjects allBeds named agrees shares classOf plainRecords recordBytesOf bytesOf onto sample-offset block-update-info
+    md-update-info offsetOf rampOf startOf timingOf trimOf configsBytesOf trimBytesOf decimal texts line blockLines recordLines shareLines tableLines listingOf
+    zeros listing
 worked = (refl, refl, refl)

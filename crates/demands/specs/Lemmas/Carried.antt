@@ -18,7 +18,8 @@ use Rattle.oamd.specs.declared.Kind.the-variants.{Unknown, Object, Trim, Extend
 use Rattle.oamd.specs.declared.Programme.{Programme}
 use Rattle.oamd.specs.declared.Shares.{Shares}
 use Rattle.oamd.specs.declared.Status.{Status}
-use Rattle.oamd.specs.Reserved.{Field, IntermediateSpatialFormatIdx, SampleOffsetCode, ZoneConstraintsIdx, ObjectSizeIdx, WarpMode, GlobalTrimMode, TrimSurround, TrimHeight, ObjectDivMode, ObjectDivCode, widthOf, isReserved, unreservedIf}
+use Rattle.oamd.specs.Reserved.{Field, IntermediateSpatialFormatIdx, SampleOffsetCode, ZoneConstraintsIdx, ObjectSizeIdx, WarpMode, GlobalTrimMode, TrimSurround, TrimHeight}
+use Rattle.oamd.specs.Reserved.{ObjectDivMode, ObjectDivCode, widthOf, isReserved, unreservedIf}
 use Rattle.oamd.specs.Tables.{trimConfigs}
 use Rattle.oamd.specs.Programme.{set?, hasIsf, agrees, classOf, intermediate-spatial-format, program-assignment}
 use Rattle.oamd.specs.Timing.{sample-offset, md-update-info}

@@ -8,7 +8,8 @@ use lib.Dec.{leb}
 use borrow.Author.Tests.{leb-true, le-leb}
 use Rattle.bits.specs.Language.{both, from}
 use Rattle.bits.specs.Steps.{by-order}
-use Rattle.oamd.specs.Reserved.{Field, IntermediateSpatialFormatIdx, SampleOffsetCode, ZoneConstraintsIdx, ObjectSizeIdx, WarpMode, GlobalTrimMode, TrimSurround, TrimHeight, ObjectDivMode, ObjectDivCode, widthOf, firstReserved, lastReserved, isReserved}
+use Rattle.oamd.specs.Reserved.{Field, IntermediateSpatialFormatIdx, SampleOffsetCode, ZoneConstraintsIdx, ObjectSizeIdx, WarpMode, GlobalTrimMode, TrimSurround, TrimHeight}
+use Rattle.oamd.specs.Reserved.{ObjectDivMode, ObjectDivCode, widthOf, firstReserved, lastReserved, isReserved}
 use Rattle.demands.specs.Stops.{OneOf, bitsIn, reservedValues}
 
 -- one of the n numbers from i on

@@ -12,7 +12,8 @@ use Rattle.oamd.specs.declared.Programme.{Programme}
 use Rattle.oamd.specs.declared.Shares.{Shares}
 use Rattle.oamd.specs.declared.Status.{Status}
 use Rattle.oamd.specs.declared.Status.the-variants.{Default, Full, Reuse, Mixed}
-use Rattle.oamd.specs.Reserved.{Field, IntermediateSpatialFormatIdx, SampleOffsetCode, ZoneConstraintsIdx, ObjectSizeIdx, WarpMode, GlobalTrimMode, TrimSurround, ObjectDivMode, ObjectDivCode, unreserved}
+use Rattle.oamd.specs.Reserved.{Field, IntermediateSpatialFormatIdx, SampleOffsetCode, ZoneConstraintsIdx, ObjectSizeIdx, WarpMode, GlobalTrimMode, TrimSurround, ObjectDivMode}
+use Rattle.oamd.specs.Reserved.{ObjectDivCode, unreserved}
 use Rattle.oamd.specs.Programme.{bed-assignment, bed-instances, intermediate-spatial-format, num-dynamic-objects, reserved-data, program-assignment}
 use Rattle.oamd.specs.Timing.{sample-offset, block-update-info, md-update-info}
 use Rattle.oamd.specs.Block.{status-idx, parts-of, object-basic-info, differences, coordinates, position, distance, zone, extent, screen, object-render-info, additional-table-data, object-info-block}

@@ -13,7 +13,8 @@ use Rattle.bits.specs.Ensures.{e-give, e-bits, e-bind, e-any, e-then, e-pass, e
 use Rattle.bits.specs.Terms.{Ensures, All, Every}
 use Rattle.oamd.specs.declared.Programme.{Programme}
 use Rattle.oamd.specs.Tables.{mostObjects, mostBeds}
-use Rattle.oamd.specs.Programme.{set?, clear?, hasBeds, hasIsf, hasDynamic, hasReserved, bedInstances, bedOf, bed-assignment, filled, noBed, Beds, bed-instances, intermediate-spatial-format, num-dynamic-objects, program-assignment, agrees}
+use Rattle.oamd.specs.Programme.{set?, clear?, hasBeds, hasIsf, hasDynamic, hasReserved, bedInstances, bedOf, bed-assignment, filled, noBed, Beds, bed-instances}
+use Rattle.oamd.specs.Programme.{intermediate-spatial-format, num-dynamic-objects, program-assignment, agrees}
 use Rattle.oamd.specs.Reserved.{IntermediateSpatialFormatIdx}
 use Rattle.oamd.specs.Payload.{oa-md-version, object-count, header}
 use Rattle.form.specs.Valid.{betweenIf, bedValid, entriesValid, programmeValid}

@@ -25,7 +25,8 @@ use Rattle.oamd.specs.declared.Shares.{Shares}
 use Rattle.oamd.specs.declared.Scene.{Scene}
 use Rattle.oamd.specs.Tables.{distanceCodes}
 use Rattle.oamd.specs.Programme.{set?, classOf}
-use Rattle.oamd.specs.Meaning.{valueOf, gainOf, priorityOf, clamp, movedBy, across, upright, heightOf, distanceOf, locationOf, volumeOf, defaultLocation, defaultVolume, defaultZone, defaultScreen, idle, resolve, firstGain, behindFirst, nothingBefore, scenesFrom, scenesOf, allScenes}
+use Rattle.oamd.specs.Meaning.{valueOf, gainOf, priorityOf, clamp, movedBy, across, upright, heightOf, distanceOf, locationOf, volumeOf, defaultLocation, defaultVolume}
+use Rattle.oamd.specs.Meaning.{defaultZone, defaultScreen, idle, resolve, firstGain, behindFirst, nothingBefore, scenesFrom, scenesOf, allScenes}
 use Rattle.oamd.specs.Record.{carries}
 use Rattle.form.specs.Valid.{_and_, betweenIf, locationValid, volumeValid, zoneValid, screenValid, sceneValid}
 use Rattle.form.specs.Lemmas.Tests.{whole, by-test, always, is-ranged}

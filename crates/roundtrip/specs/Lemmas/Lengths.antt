@@ -30,7 +30,9 @@ use Rattle.oamd.specs.Trim.{hasCentre, hasSurround, hasHeight, hasTb, hasLis, T
 use Rattle.oamd.specs.Record.{Record, carries}
 use Rattle.oamd.specs.Payload.{Tables}
 use Rattle.form.specs.Coded.{codedUpdate, codedGain, codedPriority, codedDistance, codedExtent}
-use Rattle.form.specs.Form.{countBits, bedBits, bedsBits, assignmentBits, headerBits, offsetBits, updateBits, timingBits, statusBits, gainBits, priorityBits, positionBits, distanceBits, zoneBits, extentBits, screenBits, basicBits, renderBits, blockBits, byObject, objectDataBits, objectElementBits, any, diverges, refines, extendedElementBits, divergenceBits, preciseBits, configBits, trimElementBits, groupBits, sizeBits, sizeFor, framedBits, elementBits}
+use Rattle.form.specs.Form.{countBits, bedBits, bedsBits, assignmentBits, headerBits, offsetBits, updateBits, timingBits, statusBits, gainBits, priorityBits, positionBits}
+use Rattle.form.specs.Form.{distanceBits, zoneBits, extentBits, screenBits, basicBits, renderBits, blockBits, byObject, objectDataBits, objectElementBits, any, diverges, refines}
+use Rattle.form.specs.Form.{extendedElementBits, divergenceBits, preciseBits, configBits, trimElementBits, groupBits, sizeBits, sizeFor, framedBits, elementBits}
 
 -- l has at most n bits
 pub record Short (l : List ℕ) (n : ℕ) : Type 0 where

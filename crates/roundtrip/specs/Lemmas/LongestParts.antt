@@ -24,7 +24,9 @@ use Rattle.oamd.specs.Programme.{set?, clear?, hasBeds, hasIsf, hasDynamic}
 use Rattle.oamd.specs.Record.{Record, carries}
 use Rattle.oamd.specs.Payload.{Tables}
 use Rattle.form.specs.Coded.{codedUpdate, codedDistance, codedExtent}
-use Rattle.form.specs.Form.{bedBits, bedsBits, assignmentBits, headerBits, offsetBits, updateBits, timingBits, statusBits, positionBits, zoneBits, extentBits, renderBits, blockBits, byObject, objectDataBits, objectElementBits, any, diverges, refines, extendedElementBits, divergenceBits, preciseBits, sizeBits, sizeFor, framedBits, elementBits}
+use Rattle.form.specs.Form.{bedBits, bedsBits, assignmentBits, headerBits, offsetBits, updateBits, timingBits, statusBits, positionBits, zoneBits, extentBits, renderBits}
+use Rattle.form.specs.Form.{blockBits, byObject, objectDataBits, objectElementBits, any, diverges, refines, extendedElementBits, divergenceBits, preciseBits, sizeBits, sizeFor}
+use Rattle.form.specs.Form.{framedBits, elementBits}
 use Rattle.form.specs.Lemmas.Tests.{halves}
 use Rattle.roundtrip.specs.Lemmas.AcceptedTiming.{picked-le}
 use Rattle.roundtrip.specs.Lemmas.Lengths.{Short, bits-short, also, if-sent, at-most, each-short, maybe, count-short, basic-short, distance-short, screen-short, precise-short, group-short}

@@ -17,7 +17,8 @@ use Rattle.bits.specs.Terms.{Writes}
 use Rattle.oamd.specs.declared.Bed.{Bed}
 use Rattle.oamd.specs.declared.Programme.{Programme}
 use Rattle.oamd.specs.Tables.{mostBeds}
-use Rattle.oamd.specs.Programme.{set?, clear?, hasIsf, hasDynamic, bedInstances, bedOf, bed-assignment, filled, noBed, Beds, bed-instances, intermediate-spatial-format, num-dynamic-objects, reserved-data, program-assignment, agrees}
+use Rattle.oamd.specs.Programme.{set?, clear?, hasIsf, hasDynamic, bedInstances, bedOf, bed-assignment, filled, noBed, Beds, bed-instances, intermediate-spatial-format}
+use Rattle.oamd.specs.Programme.{num-dynamic-objects, reserved-data, program-assignment, agrees}
 use Rattle.oamd.specs.Reserved.{IntermediateSpatialFormatIdx}
 use Rattle.oamd.specs.Payload.{oa-md-version, object-count, header}
 use Rattle.form.specs.Valid.{betweenIf, bedValid}

@@ -27,7 +27,8 @@ returns c =
     let trim = read .before .before .before in
     let records = trim .before in
     listed-text .list-answer .ensures
-    ∙ ap (λ (l : List ℕ). texted l (now (records .before .before .before .args .text))) (listed (now (records .before .before .before .args .payload)) _ _ _ _ _ (records .no-records .ensures .0) (trim .no-trim .ensures .0) (read .read .ensures))
+    ∙ ap (λ (l : List ℕ). texted l (now (records .before .before .before .args .text)))
+    (listed (now (records .before .before .before .args .payload)) _ _ _ _ _ (records .no-records .ensures .0) (trim .no-trim .ensures .0) (read .read .ensures))
 
 pub list-text-spec : {M : Type 1} → statement M
 list-text-spec =

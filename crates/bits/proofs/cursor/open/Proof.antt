@@ -18,7 +18,8 @@ returns c =
     let i = c .before .before .before .before .before .before .before in
     let a = i .before .before .args in
     let f : a .l .end .0 < a .c .at .0 + 8 * a .n .0 = omega arith in
-    let m : c .before .before .before .before .before .raw .result + c .before .before .before .before .bits .result - c .before .before .before .raw2 .result ≡ a .c .at .0 + 8 * a .n .0 - a .l .end .0 = omega arith in
+    let end = c .before .before .before in
+    let m : end .before .before .raw .result + end .before .bits .result - end .raw2 .result ≡ a .c .at .0 + 8 * a .n .0 - a .l .end .0 = omega arith in
     let p : c .before .place-before .result ≡ position (a .c .at .0 - a .back) = ap position (c .before .place-before .ensures) in
     rw (eq-eqb _ _ (i .if1 .taken), lt-leb _ _ f, m, p, c .over .ensures)
 

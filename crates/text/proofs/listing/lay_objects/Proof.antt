@@ -41,8 +41,11 @@ add-place c =
 loop-again : tie.Need-loop-again Inv-loop μ-loop
 loop-again c =
     let h = c .before .before .before .before .before in
-    let a = h .before .before .before .args in
-    (omega arith, omega arith, rest-step _ _ (count-more (objectLines (a .blocks) (now (a .records))) (a .objects) (h .loop .object) (omega arith)) (h .loop .inv .2) (c .before .before .lay-object .ensures))
+    let a = h .before .before .before .args in (
+      omega arith,
+      omega arith,
+      rest-step _ _ (count-more (objectLines (a .blocks) (now (a .records))) (a .objects) (h .loop .object) (omega arith)) (h .loop .inv .2) (c .before .before .lay-object .ensures),
+    )
 
 returns : tie.Need-returns Inv-loop μ-loop
 returns c = let h = c .before .loop in rest-end (count-none _ _ (h .object) (omega arith)) (h .inv .2)
