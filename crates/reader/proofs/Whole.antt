@@ -17,6 +17,7 @@ use Rattle.bits.specs.View.{Reads}
 use Rattle.bits.specs.Unique.{clean}
 use Rattle.bits.proofs.Sticky.{bind, plain}
 use Rattle.oamd.specs.declared.Programme.{Programme}
+use Rattle.oamd.specs.declared.ReadAnswer.{ReadAnswer}
 use Rattle.oamd.specs.declared.Shares.{Shares}
 use Rattle.oamd.specs.Tables.{mostBytes, mostObjects, recordStride, roomBytes}
 use Rattle.oamd.specs.Programme.{program-assignment, agrees, shares}
@@ -25,11 +26,11 @@ use Rattle.oamd.specs.Trim.{trimOf, trimBytesOf, trimNeeded}
 use Rattle.oamd.specs.Lengths.{length-bytes}
 use Rattle.oamd.specs.Element.{scenes}
 use Rattle.oamd.specs.Payload.{oa-md-version, object-count, oa-element-count, header, object-audio-metadata-payload, timing, records, tables}
-use Rattle.oamd.specs.Answer.{missingOf, refused, acceptedWith, housed, reading}
+use Rattle.oamd.specs.Answer.{Outcome, missingOf, refused, acceptedWith, housed, reading}
 use Rattle.reader.specs.declared.HeaderStep.{HeaderStep}
 use Rattle.reader.specs.declared.PayloadStep.{PayloadStep}
 use Rattle.reader.specs.declared.StateStep.{StateStep}
-use Rattle.reader.specs.Steps.{HeaderRead, ElementsRead, PayloadRead, wholeOf, startCur}
+use Rattle.reader.specs.Steps.{HeaderRead, ElementsRead, PayloadRead, NoRoom, wholeOf, startCur}
 use Rattle.reader.proofs.Gates.{regiven}
 
 -- what stands before the element count
@@ -91,6 +92,11 @@ module _ {s out out' table' : List ℕ} {r : PayloadStep} (x : PayloadRead s out
     pub fits : needOf r ≤ length out'
     unfolding onto
     fits = omega (arith, all-bytes, ap length (x .holding z .stand) ∙ length-append (bytesOf rs) _)
+
+-- what is answered for want of room, both buffers as they came
+pub refusing : {needed : ℕ} {r : ReadAnswer} {records records' trim trim' : List ℕ} {o : Outcome} → NoRoom needed r records records' trim trim'
+    → refused records trim (numberOf Room) needed 0 ≡ o → record { answer = r; buffer = records'; trim = trim' } ≡ o
+refusing e h = rw (e .answer, e .same-records, e .same-trim) h
 
 module _ (s buffer trim : List ℕ) where
   pub too-long : mostBytes < length s → refused buffer trim (numberOf TooLong) (length s) 0 ≡ reading s buffer trim

@@ -7,6 +7,8 @@ use Prim.Native.Nat.{ℕ, _+_, _*_, _≤_, _<_}
 use lib.ListN.{length, replicate}
 use Rattle.bits.specs.declared.Cur.{Cur}
 use Rattle.bits.specs.declared.Limit.{Limit}
+use Rattle.bits.specs.declared.Refusal.the-variants.{Room}
+use Rattle.bits.specs.Refusals.{numberOf}
 use Rattle.bits.specs.Language.{P, Bits, bits, when, each, for, bit}
 use Rattle.bits.specs.View.{Reads}
 use Rattle.oamd.specs.declared.Block.{Block}
@@ -14,6 +16,7 @@ use Rattle.oamd.specs.declared.Divergence.{Divergence}
 use Rattle.oamd.specs.declared.Kind.{Kind}
 use Rattle.oamd.specs.declared.Precise.{Precise}
 use Rattle.oamd.specs.declared.Programme.{Programme}
+use Rattle.oamd.specs.declared.ReadAnswer.{ReadAnswer}
 use Rattle.oamd.specs.declared.Scene.{Scene}
 use Rattle.oamd.specs.declared.Shares.{Shares}
 use Rattle.oamd.specs.Tables.{recordStride, roomBytes, mostBlocks, mostObjects, trimConfigs, configBytes, trimFixed, mostTrim}
@@ -26,6 +29,7 @@ use Rattle.oamd.specs.Meaning.{allScenes, nothingBefore}
 use Rattle.oamd.specs.Record.{Record, recordOf, carries, allCarry, plainRecords, extendedRecords, bytesOf, onto}
 use Rattle.oamd.specs.Element.{Known, nothing, there, scenes, oa-element, oa-element-md, elements}
 use Rattle.oamd.specs.Payload.{header, object-audio-metadata-payload, timing, records}
+use Rattle.oamd.specs.Answer.{refusedWith}
 use Rattle.reader.specs.declared.TimingStep.{TimingStep}
 use Rattle.reader.specs.declared.Scope.{Scope}
 use Rattle.reader.specs.declared.State.{State}
@@ -231,3 +235,11 @@ pub record PayloadRead (s out : List ℕ) (r : PayloadStep) (out' table' : List 
   pub width : length table' ≡ mostTrim
   pub few : r .programme .objects ≤ mostObjects
   pub little : r .state .timing .blocks ≤ mostBlocks
+
+-- ---- the answers
+
+-- refused for want of room: both lent buffers are as they came
+pub record NoRoom (needed : ℕ) (r : ReadAnswer) (records records' trim trim' : List ℕ) : Type 0 where
+  pub answer : r ≡ refusedWith (numberOf Room) needed 0
+  pub same-records : records' ≡ records
+  pub same-trim : trim' ≡ trim

@@ -7,11 +7,9 @@ ghost use Rattle.oamd.specs.Element.{headLength};
 ghost use Rattle.oamd.specs.Tables.{mostElements, mostObjects, mostBlocks, roomBytes, mostTrim};
 ghost use Rattle.reader.specs.Layout.{noTrimBytes};
 ghost use Rattle.reader.specs.Steps.{BodyRead, RecordsBody, TableBody, OneRead, ElementsRead};
-use crate::ROOM;
 use crate::Scope;
 use crate::State;
 use crate::StateStep;
-use crate::TRIM;
 use crate::extended::read_extended;
 use crate::objects::read_object_element;
 use crate::trim::read_trim;
@@ -19,6 +17,8 @@ use bits::Cur;
 use bits::Limit;
 use bits::Refusal;
 use oamd::Kind;
+use oamd::MOST_TRIM;
+use oamd::ROOM_BYTES;
 use units::ByteCount;
 
 // An object element behind its discard flag, back bits behind the first of its id.
@@ -29,7 +29,7 @@ fn read_first_object(
     w: Scope,
     st: State,
     back: u32,
-    out: &mut [u8; ROOM],
+    out: &mut [u8; ROOM_BYTES],
 ) -> StateStep
     requires { ⌜ (w .objects ≤ mostObjects) × (st .timing .blocks ≤ mostBlocks) × (length (now out) ≡ roomBytes) ⌝ }
     ensures { λ r. ⌜ RecordsBody Kind.Object back w st (bit (now (s .entry))) c l (now (out .entry)) r (now (out .exit)) ⌝ }
@@ -64,7 +64,7 @@ fn read_first_trim(
     w: Scope,
     st: State,
     back: u32,
-    table: &mut [u8; TRIM],
+    table: &mut [u8; MOST_TRIM],
 ) -> StateStep
     requires { ⌜ (w .objects ≤ mostObjects) × (st .timing .blocks ≤ mostBlocks) × (length (now table) ≡ mostTrim) ⌝ }
     ensures { λ r. ⌜ TableBody Kind.Trim back w st (bit (now (s .entry))) c l (now (table .entry)) r (now (table .exit)) ⌝ }
@@ -98,7 +98,7 @@ fn read_first_extended(
     w: Scope,
     st: State,
     back: u32,
-    out: &mut [u8; ROOM],
+    out: &mut [u8; ROOM_BYTES],
 ) -> StateStep
     requires { ⌜ (w .objects ≤ mostObjects) × (st .timing .blocks ≤ mostBlocks) × (length (now out) ≡ roomBytes) ⌝ }
     ensures { λ r. ⌜ RecordsBody Kind.Extended back w st (bit (now (s .entry))) c l (now (out .entry)) r (now (out .exit)) ⌝ }
@@ -134,8 +134,8 @@ fn read_body(
     st: State,
     kind: Kind,
     back: u32,
-    out: &mut [u8; ROOM],
-    table: &mut [u8; TRIM],
+    out: &mut [u8; ROOM_BYTES],
+    table: &mut [u8; MOST_TRIM],
 ) -> StateStep
     requires { ⌜ (w .objects ≤ mostObjects) × (st .timing .blocks ≤ mostBlocks) × (st .unknown < 255) × (length (now out) ≡ roomBytes) × (length (now table) ≡ mostTrim) ⌝ }
     ensures { λ r. ⌜ BodyRead kind back w st (bit (now (s .entry))) c l (now (out .entry)) (now (table .entry)) r (now (out .exit)) (now (table .exit)) ⌝ }
@@ -172,8 +172,8 @@ fn read_element(
     c: Cur,
     w: Scope,
     st: State,
-    out: &mut [u8; ROOM],
-    table: &mut [u8; TRIM],
+    out: &mut [u8; ROOM_BYTES],
+    table: &mut [u8; MOST_TRIM],
 ) -> StateStep
     requires { ⌜ (w .objects ≤ mostObjects) × (w .alternate < 2) × (st .timing .blocks ≤ mostBlocks) × (st .unknown < 255) × (length (now out) ≡ roomBytes) × (length (now table) ≡ mostTrim) ⌝ }
     ensures { λ r. ⌜ OneRead w st (bit (now (s .entry))) c l (now (out .entry)) (now (table .entry)) r (now (out .exit)) (now (table .exit)) ⌝ }
@@ -206,8 +206,8 @@ pub fn read_elements(
     c: Cur,
     w: Scope,
     n: u32,
-    out: &mut [u8; ROOM],
-    table: &mut [u8; TRIM],
+    out: &mut [u8; ROOM_BYTES],
+    table: &mut [u8; MOST_TRIM],
 ) -> StateStep
     requires { ⌜ (w .objects ≤ mostObjects) × (w .alternate < 2) × (n ≤ mostElements) × (length (now out) ≡ roomBytes) × (now table ≡ noTrimBytes) ⌝ }
     ensures { λ r. ⌜ ElementsRead n w (bit (now (s .entry))) c l (now (out .entry)) r (now (out .exit)) (now (table .exit)) ⌝ }

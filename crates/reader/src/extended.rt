@@ -6,16 +6,16 @@ ghost use Rattle.bits.specs.Language.{bit};
 ghost use Rattle.oamd.specs.Tables.{recordStride, roomBytes};
 ghost use Rattle.oamd.specs.Extended.{obj-div-block, ext-prec-pos-block, noDivergence, noPrecise};
 ghost use Rattle.reader.specs.Steps.{Passed, PassedIf, withDivergence, withPrecise, ExtendedRead};
-use crate::ROOM;
-use crate::STRIDE;
 use crate::layout::carries_at;
 use crate::layout::store_divergence;
 use crate::layout::store_precise;
 use bits::Cur;
 use bits::Limit;
+use oamd::RECORD_STRIDE;
+use oamd::ROOM_BYTES;
 
 // obj_div_block of each of n records.
-fn read_divergences(s: &[u8], l: Limit, c: Cur, n: usize, out: &mut [u8; ROOM]) -> Cur
+fn read_divergences(s: &[u8], l: Limit, c: Cur, n: usize, out: &mut [u8; ROOM_BYTES]) -> Cur
     requires { ⌜ (recordStride * n ≤ roomBytes) × (length (now out) ≡ roomBytes) ⌝ }
     ensures { λ r. ⌜ Passed obj-div-block withDivergence n (bit (now (s .entry))) c l (now (out .entry)) r (now (out .exit)) ⌝ }
 {
@@ -31,14 +31,14 @@ fn read_divergences(s: &[u8], l: Limit, c: Cur, n: usize, out: &mut [u8; ROOM]) 
         let divergence = step.divergence;
         store_divergence(out, at, divergence);
         cur = step.cur;
-        at = at + STRIDE;
+        at = at + RECORD_STRIDE;
         i = i + 1;
     }
     cur
 }
 
 // ext_prec_pos_block of each of n records.
-fn read_precises(s: &[u8], l: Limit, c: Cur, n: usize, out: &mut [u8; ROOM]) -> Cur
+fn read_precises(s: &[u8], l: Limit, c: Cur, n: usize, out: &mut [u8; ROOM_BYTES]) -> Cur
     requires { ⌜ (recordStride * n ≤ roomBytes) × (length (now out) ≡ roomBytes) ⌝ }
     ensures { λ r. ⌜ Passed ext-prec-pos-block withPrecise n (bit (now (s .entry))) c l (now (out .entry)) r (now (out .exit)) ⌝ }
 {
@@ -54,13 +54,20 @@ fn read_precises(s: &[u8], l: Limit, c: Cur, n: usize, out: &mut [u8; ROOM]) -> 
         let precise = step.precise;
         store_precise(out, at, precise);
         cur = step.cur;
-        at = at + STRIDE;
+        at = at + RECORD_STRIDE;
         i = i + 1;
     }
     cur
 }
 
-fn read_divergences_if(on: bool, s: &[u8], l: Limit, c: Cur, n: usize, out: &mut [u8; ROOM]) -> Cur
+fn read_divergences_if(
+    on: bool,
+    s: &[u8],
+    l: Limit,
+    c: Cur,
+    n: usize,
+    out: &mut [u8; ROOM_BYTES],
+) -> Cur
     requires { ⌜ (recordStride * n ≤ roomBytes) × (length (now out) ≡ roomBytes) ⌝ }
     ensures { λ r. ⌜ PassedIf on obj-div-block withDivergence noDivergence n (bit (now (s .entry))) c l (now (out .entry)) r (now (out .exit)) ⌝ }
 {
@@ -71,7 +78,14 @@ fn read_divergences_if(on: bool, s: &[u8], l: Limit, c: Cur, n: usize, out: &mut
     }
 }
 
-fn read_precises_if(on: bool, s: &[u8], l: Limit, c: Cur, n: usize, out: &mut [u8; ROOM]) -> Cur
+fn read_precises_if(
+    on: bool,
+    s: &[u8],
+    l: Limit,
+    c: Cur,
+    n: usize,
+    out: &mut [u8; ROOM_BYTES],
+) -> Cur
     requires { ⌜ (recordStride * n ≤ roomBytes) × (length (now out) ≡ roomBytes) ⌝ }
     ensures { λ r. ⌜ PassedIf on ext-prec-pos-block withPrecise noPrecise n (bit (now (s .entry))) c l (now (out .entry)) r (now (out .exit)) ⌝ }
 {
@@ -83,7 +97,7 @@ fn read_precises_if(on: bool, s: &[u8], l: Limit, c: Cur, n: usize, out: &mut [u
 }
 
 // Both blocks of each of n records, which stand at the front of out.
-pub fn read_extended(s: &[u8], l: Limit, c: Cur, n: usize, out: &mut [u8; ROOM]) -> Cur
+pub fn read_extended(s: &[u8], l: Limit, c: Cur, n: usize, out: &mut [u8; ROOM_BYTES]) -> Cur
     requires { ⌜ (recordStride * n ≤ roomBytes) × (length (now out) ≡ roomBytes) ⌝ }
     ensures { λ r. ⌜ ExtendedRead n (bit (now (s .entry))) c l (now (out .entry)) r (now (out .exit)) ⌝ }
 {

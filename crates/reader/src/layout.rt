@@ -8,19 +8,19 @@ ghost use Rattle.oamd.specs.Tables.{recordStride, roomBytes};
 ghost use Rattle.oamd.specs.Record.{recordOf, recordBytesOf, divergenceBytes, preciseBytes};
 ghost use Rattle.oamd.specs.Extended.{noDivergence, noPrecise};
 ghost use Rattle.reader.specs.Layout.{setFrom, noRecords};
-use crate::ROOM;
 use oamd::Divergence;
 use oamd::Precise;
+use oamd::ROOM_BYTES;
 use oamd::Scene;
 
-pub fn no_records() -> [u8; ROOM]
+pub fn no_records() -> [u8; ROOM_BYTES]
     ensures { λ r. ⌜ (r ≡ noRecords) × (length r ≡ roomBytes) ⌝ }
 {
-    [0u8; ROOM]
+    [0u8; ROOM_BYTES]
 }
 
 // The record of a scene, with nothing from an extended element.
-pub fn store_scene(out: &mut [u8; ROOM], at: usize, r: Scene)
+pub fn store_scene(out: &mut [u8; ROOM_BYTES], at: usize, r: Scene)
     requires { ⌜ at + recordStride ≤ roomBytes ⌝ }
     ensures { λ _. ⌜ now (out .exit) ≡ setFrom at 0 (recordBytesOf (recordOf r noDivergence noPrecise)) (now (out .entry)) ⌝ }
 {
@@ -51,7 +51,7 @@ pub fn store_scene(out: &mut [u8; ROOM], at: usize, r: Scene)
 }
 
 // Bytes 17 to 19 of a record.
-pub fn store_divergence(out: &mut [u8; ROOM], at: usize, d: Divergence)
+pub fn store_divergence(out: &mut [u8; ROOM_BYTES], at: usize, d: Divergence)
     requires { ⌜ at + recordStride ≤ roomBytes ⌝ }
     ensures { λ _. ⌜ now (out .exit) ≡ setFrom at 17 (divergenceBytes d) (now (out .entry)) ⌝ }
 {
@@ -61,7 +61,7 @@ pub fn store_divergence(out: &mut [u8; ROOM], at: usize, d: Divergence)
 }
 
 // Bytes 20 to 23 of a record.
-pub fn store_precise(out: &mut [u8; ROOM], at: usize, p: Precise)
+pub fn store_precise(out: &mut [u8; ROOM_BYTES], at: usize, p: Precise)
     requires { ⌜ at + recordStride ≤ roomBytes ⌝ }
     ensures { λ _. ⌜ now (out .exit) ≡ setFrom at 20 (preciseBytes p) (now (out .entry)) ⌝ }
 {
@@ -72,7 +72,7 @@ pub fn store_precise(out: &mut [u8; ROOM], at: usize, p: Precise)
 }
 
 // The gain that stands `back` bytes before a record, or 0 dB where no object stands before it.
-pub fn gain_of_object_before(out: &[u8; ROOM], at: usize, back: usize) -> u8
+pub fn gain_of_object_before(out: &[u8; ROOM_BYTES], at: usize, back: usize) -> u8
     requires { ⌜ (at + recordStride ≤ roomBytes) × (1 ≤ back) ⌝ }
     ensures { λ r. ⌜ r ≡ pick (leb back at) (getD (now (out .entry)) (at - back + 2) 0) 50 ⌝ }
 {
@@ -80,7 +80,7 @@ pub fn gain_of_object_before(out: &[u8; ROOM], at: usize, back: usize) -> u8
 }
 
 // Whether the record at a place can carry divergence and a precise position: active, and of class 2.
-pub fn carries_at(out: &[u8; ROOM], at: usize) -> bool
+pub fn carries_at(out: &[u8; ROOM_BYTES], at: usize) -> bool
     requires { ⌜ at + recordStride ≤ roomBytes ⌝ }
     ensures { λ r. ⌜ r ≡ both (eqb (getD (now (out .entry)) (at + 0) 0) 1) (eqb (getD (now (out .entry)) (at + 1) 0) 2) ⌝ }
 {

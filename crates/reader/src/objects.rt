@@ -5,8 +5,6 @@ ghost use lib.ListN.{length};
 ghost use Rattle.bits.specs.Language.{bit};
 ghost use Rattle.oamd.specs.Tables.{mostObjects, mostBlocks, recordStride, roomBytes};
 ghost use Rattle.reader.specs.Steps.{ObjectRead, ObjectsRead, ElementRead};
-use crate::ROOM;
-use crate::STRIDE;
 use crate::Scope;
 use crate::TimingStep;
 use crate::layout::gain_of_object_before;
@@ -14,6 +12,8 @@ use crate::layout::store_scene;
 use crate::timing::read_timing;
 use bits::Cur;
 use bits::Limit;
+use oamd::RECORD_STRIDE;
+use oamd::ROOM_BYTES;
 
 // The blocks of one object, whose records begin at a place. The records of the object before it, if there is one, end there.
 fn read_object(
@@ -23,12 +23,12 @@ fn read_object(
     class: u8,
     blocks: usize,
     from: usize,
-    out: &mut [u8; ROOM],
+    out: &mut [u8; ROOM_BYTES],
 ) -> Cur
     requires { ⌜ (1 ≤ blocks) × (blocks ≤ mostBlocks) × (from + recordStride * blocks ≤ roomBytes) × (length (now out) ≡ roomBytes) ⌝ }
     ensures { λ r. ⌜ ObjectRead class blocks from (bit (now (s .entry))) c l (now (out .entry)) r (now (out .exit)) ⌝ }
 {
-    let back = STRIDE * blocks;
+    let back = RECORD_STRIDE * blocks;
     let nothing_before = meaning::idle(0);
     let mut scene = nothing_before;
     let mut cur = c;
@@ -41,14 +41,21 @@ fn read_object(
         scene = meaning::resolved(scene, gain, block);
         store_scene(out, at, scene);
         cur = step.cur;
-        at = at + STRIDE;
+        at = at + RECORD_STRIDE;
         i = i + 1;
     }
     cur
 }
 
 // All objects, up to the first refusal.
-fn read_objects(s: &[u8], l: Limit, c: Cur, w: Scope, blocks: usize, out: &mut [u8; ROOM]) -> Cur
+fn read_objects(
+    s: &[u8],
+    l: Limit,
+    c: Cur,
+    w: Scope,
+    blocks: usize,
+    out: &mut [u8; ROOM_BYTES],
+) -> Cur
     requires { ⌜ (w .objects ≤ mostObjects) × (1 ≤ blocks) × (blocks ≤ mostBlocks) × (length (now out) ≡ roomBytes) ⌝ }
     ensures { λ r. ⌜ ObjectsRead (w .objects) (w .shares) blocks (bit (now (s .entry))) c l (now (out .entry)) r (now (out .exit)) ⌝ }
 {
@@ -63,14 +70,20 @@ fn read_objects(s: &[u8], l: Limit, c: Cur, w: Scope, blocks: usize, out: &mut [
         }
         let class = meaning::class_of(shares, j as u32);
         cur = read_object(s, l, cur, class, blocks, at, out);
-        at = at + STRIDE * blocks;
+        at = at + RECORD_STRIDE * blocks;
         j = j + 1;
     }
     cur
 }
 
 // The object element: the records stand at the front of out, unless it is refused.
-pub fn read_object_element(s: &[u8], l: Limit, c: Cur, w: Scope, out: &mut [u8; ROOM]) -> TimingStep
+pub fn read_object_element(
+    s: &[u8],
+    l: Limit,
+    c: Cur,
+    w: Scope,
+    out: &mut [u8; ROOM_BYTES],
+) -> TimingStep
     requires { ⌜ (w .objects ≤ mostObjects) × (length (now out) ≡ roomBytes) ⌝ }
     ensures { λ r. ⌜ ElementRead (w .objects) (w .shares) (bit (now (s .entry))) c l (now (out .entry)) r (now (out .exit)) ⌝ }
 {

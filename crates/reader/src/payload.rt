@@ -8,13 +8,13 @@ ghost use Rattle.reader.specs.Layout.{noTrimBytes};
 ghost use Rattle.reader.specs.Steps.{wholeOf, HeaderRead, PayloadRead};
 use crate::HeaderStep;
 use crate::PayloadStep;
-use crate::ROOM;
 use crate::Scope;
-use crate::TRIM;
 use crate::element::read_elements;
 use bits::Cur;
 use bits::Limit;
 use bits::Refusal;
+use oamd::MOST_TRIM;
+use oamd::ROOM_BYTES;
 use units::BitPos;
 use units::ByteCount;
 
@@ -54,7 +54,11 @@ fn limit_of(s: &[u8]) -> Limit
     }
 }
 
-pub fn read_payload(s: &[u8], out: &mut [u8; ROOM], table: &mut [u8; TRIM]) -> PayloadStep
+pub fn read_payload(
+    s: &[u8],
+    out: &mut [u8; ROOM_BYTES],
+    table: &mut [u8; MOST_TRIM],
+) -> PayloadStep
     requires { ⌜ (length (now s) ≤ mostBytes) × (length (now out) ≡ roomBytes) × (now table ≡ noTrimBytes) ⌝ }
     ensures { λ r. ⌜ PayloadRead (now (s .entry)) (now (out .entry)) r (now (out .exit)) (now (table .exit)) ⌝ }
 {
