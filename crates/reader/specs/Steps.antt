@@ -21,7 +21,7 @@ use Rattle.oamd.specs.declared.ReadAnswer.{ReadAnswer}
 use Rattle.oamd.specs.declared.Scene.{Scene}
 use Rattle.oamd.specs.declared.Shares.{Shares}
 use Rattle.oamd.specs.declared.Timing.{Timing}
-use Rattle.oamd.specs.Tables.{mostBytes, recordStride, roomBytes, mostElements, mostBlocks, mostObjects, trimConfigs, configBytes, trimFixed, mostTrim}
+use Rattle.oamd.specs.Tables.{mostBytes, recordStride, roomBytes, mostElements, mostBlocks, mostObjects, trimConfigs, configBytes, trimHead, trimFixed, mostTrim}
 use Rattle.oamd.specs.Programme.{shares, classOf}
 use Rattle.oamd.specs.Timing.{MdUpdateInfo, md-update-info, timingOf}
 use Rattle.oamd.specs.ObjectElement.{ObjectElement, object-data, object-element}
@@ -141,7 +141,7 @@ pub record PartRead {X : Type 0} (p : P (List X)) (bytes : List X → List ℕ) 
 
 abbrev pub ConfigsRead : Bool → Bits → Cur → Limit → List ℕ → Cur → List ℕ → Type 0
 ConfigsRead on b c l out d out' =
-    PartRead (when on (for trimConfigs (λ cfg. trim-config)) (replicate trimConfigs noConfig)) configsBytesOf (configBytes * trimConfigs) 3 b c l out d out'
+    PartRead (when on (for trimConfigs (λ cfg. trim-config)) (replicate trimConfigs noConfig)) configsBytesOf (configBytes * trimConfigs) trimHead b c l out d out'
 
 abbrev pub FlagsRead : Bool → ℕ → Bits → Cur → Limit → List ℕ → Cur → List ℕ → Type 0
 FlagsRead on n b c l out d out' = PartRead (when on (for n (λ obj. bits 1)) (replicate n 0)) (λ flags. flags) n trimFixed b c l out d out'

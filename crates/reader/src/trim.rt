@@ -25,20 +25,20 @@ pub fn no_trim() -> [u8; MOST_TRIM]
 }
 
 // A configuration's bytes, from a place on.
-fn store_config(out: &mut [u8; MOST_TRIM], at: usize, c: TrimConfig)
+fn store_config(out: &mut [u8; MOST_TRIM], at: usize, config: TrimConfig)
     requires { ⌜ at + configBytes ≤ mostTrim ⌝ }
-    ensures { λ _. ⌜ now (out .exit) ≡ setFrom at 0 (configBytesOf c) (now (out .entry)) ⌝ }
+    ensures { λ _. ⌜ now (out .exit) ≡ setFrom at 0 (configBytesOf config) (now (out .entry)) ⌝ }
 {
-    out[at + 0] = c.bydefault;
-    out[at + 1] = c.disabled;
-    out[at + 2] = c.presence;
-    out[at + 3] = c.centre;
-    out[at + 4] = c.surround;
-    out[at + 5] = c.height;
-    out[at + 6] = c.tbsign;
-    out[at + 7] = c.tbamount;
-    out[at + 8] = c.lissign;
-    out[at + 9] = c.lisamount;
+    out[at + 0] = config.bydefault;
+    out[at + 1] = config.disabled;
+    out[at + 2] = config.presence;
+    out[at + 3] = config.centre;
+    out[at + 4] = config.surround;
+    out[at + 5] = config.height;
+    out[at + 6] = config.tbsign;
+    out[at + 7] = config.tbamount;
+    out[at + 8] = config.lissign;
+    out[at + 9] = config.lisamount;
 }
 
 // The configurations, behind the head.
@@ -67,14 +67,14 @@ fn read_configs_if(on: bool, s: &[u8], l: Limit, c: Cur, out: &mut [u8; MOST_TRI
     if on { read_configs(s, l, c, out) } else { c }
 }
 
-// The flag of each of n objects.
-fn read_flags(s: &[u8], l: Limit, c: Cur, n: usize, out: &mut [u8; MOST_TRIM]) -> Cur
-    requires { ⌜ (n ≤ mostObjects) × (length (now out) ≡ mostTrim) ⌝ }
-    ensures { λ r. ⌜ FlagsRead true n (bit (now (s .entry))) c l (now (out .entry)) r (now (out .exit)) ⌝ }
+// The flag of each object.
+fn read_flags(s: &[u8], l: Limit, c: Cur, objects: usize, out: &mut [u8; MOST_TRIM]) -> Cur
+    requires { ⌜ (objects ≤ mostObjects) × (length (now out) ≡ mostTrim) ⌝ }
+    ensures { λ r. ⌜ FlagsRead true objects (bit (now (s .entry))) c l (now (out .entry)) r (now (out .exit)) ⌝ }
 {
     let mut cur = c;
     let mut i: usize = 0;
-    while i < n {
+    while i < objects {
         cur = bits::take(s, l, cur, 1);
         out[TRIM_FIXED + i] = cur.v as u8;
         i = i + 1;
@@ -82,11 +82,22 @@ fn read_flags(s: &[u8], l: Limit, c: Cur, n: usize, out: &mut [u8; MOST_TRIM]) -
     cur
 }
 
-fn read_flags_if(on: bool, s: &[u8], l: Limit, c: Cur, n: usize, out: &mut [u8; MOST_TRIM]) -> Cur
-    requires { ⌜ (n ≤ mostObjects) × (length (now out) ≡ mostTrim) ⌝ }
-    ensures { λ r. ⌜ FlagsRead on n (bit (now (s .entry))) c l (now (out .entry)) r (now (out .exit)) ⌝ }
+fn read_flags_if(
+    on: bool,
+    s: &[u8],
+    l: Limit,
+    c: Cur,
+    objects: usize,
+    out: &mut [u8; MOST_TRIM],
+) -> Cur
+    requires { ⌜ (objects ≤ mostObjects) × (length (now out) ≡ mostTrim) ⌝ }
+    ensures { λ r. ⌜ FlagsRead on objects (bit (now (s .entry))) c l (now (out .entry)) r (now (out .exit)) ⌝ }
 {
-    if on { read_flags(s, l, c, n, out) } else { c }
+    if on {
+        read_flags(s, l, c, objects, out)
+    } else {
+        c
+    }
 }
 
 // The trim element of a programme of so many objects, laid out from the front of out, which is all 0 before: what is not carried stays 0.
