@@ -7,7 +7,6 @@ use Prim.Native.Nat.{ℕ, suc, _+_, _-_, _*_, _≤_, _<_}
 use native.Mathlib.Omega.{arith}
 use native.Mathlib.Numerals.{add-one}
 use native.Mathlib.Nat.{sub-zero}
-use lib.ListN.{length}
 use borrow.Author.Tests.{ne-eqb}
 use Rattle.bits.specs.declared.Cur.{Cur}
 use Rattle.bits.specs.declared.Limit.{Limit}
@@ -23,11 +22,11 @@ use Rattle.oamd.specs.declared.Kind.{Kind}
 use Rattle.oamd.specs.declared.Kind.the-variants.{Unknown, Object, Trim, Extended}
 use Rattle.oamd.specs.declared.Programme.{Programme}
 use Rattle.oamd.specs.declared.Timing.{Timing}
-use Rattle.oamd.specs.Tables.{roomBytes, mostTrim, mostBlocks, mostObjects}
+use Rattle.oamd.specs.Tables.{mostObjects}
 use Rattle.oamd.specs.Programme.{set?, shares}
 use Rattle.oamd.specs.Record.{plainRecords, bytesOf, onto}
 use Rattle.oamd.specs.Trim.{trimOf}
-use Rattle.oamd.specs.Element.{kind, declaredLength, sizeLength, backToId, framed, Known, nothing, withObject, withTrim, withExtended, there, isSecond, isEarly, scenes}
+use Rattle.oamd.specs.Element.{kind, sizeLength, backToId, framed, Known, nothing, withObject, withTrim, withExtended, there, isSecond, isEarly, scenes}
 use Rattle.oamd.specs.Element.{fields, passOver, readKnown, oa-element, oa-element-md, elements}
 use Rattle.oamd.specs.Payload.{timing, noTiming, records}
 use Rattle.reader.specs.declared.Scope.{Scope}
@@ -35,7 +34,7 @@ use Rattle.reader.specs.declared.State.{State}
 use Rattle.reader.specs.declared.StateStep.{StateStep}
 use Rattle.reader.specs.declared.TimingStep.{TimingStep}
 use Rattle.reader.specs.Layout.{noTrimBytes}
-use Rattle.reader.specs.Steps.{Buffers, lent, Sized, objectSeen, trimSeen, extendedSeen, unknownSeen, seen, tooEarly, Holding, Underway, stateOf, Scoped}
+use Rattle.reader.specs.Steps.{Buffers, lent, objectSeen, trimSeen, extendedSeen, unknownSeen, seen, tooEarly, Holding, Underway, stateOf, Scoped}
 use Rattle.reader.specs.Steps.{ElementRead, TrimRead, ExtendedRead, FieldsRead, Went-on, KnownRead, BodyRead, OneRead}
 use Rattle.reader.proofs.Bytes.{length-plain}
 use Rattle.reader.proofs.Gates.{stuck, carried, regiven, opened, by-zero}

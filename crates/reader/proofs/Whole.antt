@@ -33,6 +33,10 @@ use Rattle.reader.specs.declared.StateStep.{StateStep}
 use Rattle.reader.specs.Steps.{Buffers, lent, HeaderRead, ElementsRead, PayloadRead, NoRoom, wholeOf, startCur}
 use Rattle.reader.proofs.Gates.{regiven}
 
+-- the cursor at the start
+pub started : {n : ℕ} → n ≡ 0 → record { missing = 0; v = 0; at = record { 0 = n }; no = 0 } ≡ startCur
+started e i = record { missing = 0; v = 0; at = record { 0 = e i }; no = 0 }
+
 -- what stands before the element count
 pub header-read : {b : Bits} {c c₁ c₂ c₃ c₄ c₅ : Cur} {l : Limit} {v n x a : ℕ} {p : Programme} → Reads oa-md-version b c l v c₁ → Reads object-count b c₁ l n c₂
     → Reads (program-assignment n) b c₂ l p c₃ → Reads (refuseIf (not (agrees p)) (numberOf Counts) 0 x) b c₃ l x c₄ → Reads (bits 1) b c₄ l a c₅
@@ -43,16 +47,17 @@ header-read {p = p} r₁ r₂ r₃ r₄ r₅ few small =
 
 -- the whole payload
 pub payload-read : {s out table : List ℕ} {held' : Buffers} {h : HeaderStep} {c₀ c : Cur} {l : Limit} {sh : Shares} {n : ℕ} {r : StateStep}
-    → l ≡ wholeOf s → c₀ ≡ startCur → sh ≡ shares (h .programme) → HeaderRead (bit s) c₀ l h → Reads oa-element-count (bit s) (h .cur) l n c
+    → length s ≤ mostBytes → l ≡ wholeOf s → c₀ ≡ startCur → sh ≡ shares (h .programme) → HeaderRead (bit s) c₀ l h → Reads oa-element-count (bit s) (h .cur) l n c
     → ElementsRead n (record { objects = h .programme .objects; shares = sh; alternate = h .alternate }) (bit s) c l (lent out table) r held'
     → PayloadRead s out (record { programme = h .programme; state = r .state; cur = r .cur }) held'
 unfolding object-audio-metadata-payload
-payload-read {s} {h = h} {r = r} el ec es head count elements =
+payload-read {s} {h = h} {r = r} short el ec es head count elements =
     let u = elements .went (h .programme) (refl, sym es) in
     let payload : Payload = record { programme = h .programme; known = u .known; unknown = r .state .unknown } in
     let reads = subst₂ (λ (l : Limit) (c : Cur). Reads object-audio-metadata-payload (bit s) c l payload (r .cur)) el ec
     (bind (head .reads) (bind count (bind (u .reads) plain))) in
     record {
+      short = short;
       known = u .known;
       reads = reads;
       clean = λ z. clean reads z refl;
@@ -103,21 +108,21 @@ module _ (s buffer trim : List ℕ) where
   unfolding reading
   too-long h = simp (lt-leb _ _ h)
 
-  module _ {out : List ℕ} {r : PayloadStep} {held' : Buffers} (h : length s ≤ mostBytes) (x : PayloadRead s out r held') where
+  module _ {out : List ℕ} {r : PayloadStep} {held' : Buffers} (x : PayloadRead s out r held') where
     pub stopped : (r .cur .no ≡ 0 → ⊥) → refused buffer trim (r .cur .no) (r .cur .at .0) (missingOf (r .cur .no) (r .cur .missing)) ≡ reading s buffer trim
     unfolding reading
-    stopped z = rw (le-leb (length s) mostBytes h, ← x .reads .same, ne-eqb (r .cur .no) 0 z)
+    stopped z = rw (le-leb (length s) mostBytes (x .short), ← x .reads .same, ne-eqb (r .cur .no) 0 z)
 
     module _ (z : r .cur .no ≡ 0) where
       pub no-room : length buffer < needOf r → refused buffer trim (numberOf Room) (needOf r) 0 ≡ reading s buffer trim
       unfolding reading housed tables
-      no-room f = rw (le-leb (length s) mostBytes h, ← x .reads .same, z, ← x .holding z .records .timed, lt-leb _ _ f)
+      no-room f = rw (le-leb (length s) mostBytes (x .short), ← x .reads .same, z, ← x .holding z .records .timed, lt-leb _ _ f)
 
       module _ (f : needOf r ≤ length buffer) where
         pub no-trim-room : length trim < trimNeeded (r .programme .objects)
             → refused buffer trim (numberOf Room) (trimNeeded (r .programme .objects)) 0 ≡ reading s buffer trim
         unfolding reading housed tables
-        no-trim-room g = rw (le-leb (length s) mostBytes h, ← x .reads .same, z, ← x .holding z .records .timed, le-leb _ _ f, lt-leb _ _ g)
+        no-trim-room g = rw (le-leb (length s) mostBytes (x .short), ← x .reads .same, z, ← x .holding z .records .timed, le-leb _ _ f, lt-leb _ _ g)
 
         pub stored : {first last : List ℕ} → trimNeeded (r .programme .objects) ≤ length trim
             → (let bytes = take (needOf r) (held' .out) in first ≡ take (length bytes) bytes ++ drop (length bytes) buffer)
@@ -129,4 +134,4 @@ module _ (s buffer trim : List ℕ) where
             let holds = x .holding z in
             let records-copied = copied (bytesOf (rs x z)) _ (held' .out) buffer first _ (all-bytes x z) (holds .records .stand) e in
             let trim-copied = copied (trimBytesOf (trimOf (r .programme .objects) element)) _ (held' .table) trim last _ (holds .trim .long) (holds .trim .stand) k in
-            rw (le-leb (length s) mostBytes h, ← x .reads .same, z, ← holds .records .timed, le-leb _ _ f, le-leb _ _ g, records-copied, trim-copied)
+            rw (le-leb (length s) mostBytes (x .short), ← x .reads .same, z, ← holds .records .timed, le-leb _ _ f, le-leb _ _ g, records-copied, trim-copied)

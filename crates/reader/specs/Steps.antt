@@ -306,7 +306,7 @@ startCur = record { missing = 0; v = 0; at = record { 0 = 0 }; no = 0 }
 -- what is asked of a payload and of the buffers
 pub record Opening (s : List ℕ) (held : Buffers) : Type 0 where
   pub short : length s ≤ mostBytes
-  pub room : length (held .out) ≡ roomBytes
+  pub sized : Sized held
   pub empty : held .table ≡ noTrimBytes
 
 pub record HeaderRead (b : Bits) (c : Cur) (l : Limit) (r : HeaderStep) : Type 0 where
@@ -315,6 +315,7 @@ pub record HeaderRead (b : Bits) (c : Cur) (l : Limit) (r : HeaderStep) : Type 0
   pub bit : r .alternate < 2
 
 pub record PayloadRead (s out : List ℕ) (r : PayloadStep) (held' : Buffers) : Type 0 where
+  pub short : length s ≤ mostBytes
   pub known : Known
   pub reads : Reads object-audio-metadata-payload (bit s) startCur (wholeOf s)
       (record { programme = r .programme; known = known; unknown = r .state .unknown }) (r .cur)

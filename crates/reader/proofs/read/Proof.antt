@@ -8,28 +8,16 @@ use Rattle.reader.proofs.read.Tie as tie
 
 -- ---- the places that are passed, each from the one behind it
 
--- no longer than a payload may be
-abbrev short : tie.After-read-payload → tie.Else1
-short c = c .before .before .before .before .before
+-- the payload read, and accepted
+abbrev read-at : tie.Else2 → tie.After-read-payload
+read-at c = c .before .before .before
 
--- the payload read, refused or not
-abbrev read-at : tie.After-struct-known → tie.After-read-payload
-read-at c = c .before .before
-
--- accepted, before the bytes of its records are counted
 abbrev accepted : tie.After-struct-known3 → tie.Else2
 accepted c = c .before .before .before .before .before
 
--- where both lent buffers have come back from `no_room`
-abbrev unhoused : tie.After-slice-known4 → tie.After-no-room
-unhoused c = c .before .before .before .before
-
-abbrev untrimmed : tie.After-slice-known6 → tie.After-no-room2
-untrimmed c = c .before .before .before .before
-
--- there is room for the records, and for the trim table
-abbrev roomy : tie.Else4 → tie.Else3
-roomy c = c .before .before
+-- there is room for the records and for the trim table
+abbrev roomy : tie.Else4 → tie.Else2
+roomy c = accepted (c .before .before .before)
 
 -- the records copied
 abbrev copied : tie.After-slice-known7 → tie.After-copy
@@ -38,84 +26,69 @@ copied c = c .before .before
 abbrev housed : tie.After-copy → tie.Else4
 housed c = c .before .before .before
 
--- the trim table copied too
-abbrev both-copied : tie.After-accepted → tie.After-copy2
-both-copied c = c .before .before .before
-
 -- ---- too long, and refused
 
 returns : tie.Need-returns
-returns c = rw (c .refused-with .ensures) (too-long _ _ _ (c .before .if1 .taken))
+returns c = rw (c .refused-with .ensures) (too-long _ _ _ (omega arith))
 
 returns-2 : tie.Need-returns-2
 returns-2 c =
     let placed = c .before in
     let missing = placed .before in
     let refused = missing .before in
-    let read = read-at (refused .before) in
     rw (c .refused .ensures, placed .raw .ensures, missing .missing-bits .ensures)
-    (stopped _ _ _ (short read .if1 .left) (read .read-payload .ensures) (refused .if2 .taken))
+    (stopped _ _ _ (refused .before .before .before .read-payload .ensures) (refused .if2 .taken))
 
 -- ---- accepted: the room is looked at
 
 mul-need : tie.Need-mul-need
-mul-need c = let read = read-at (accepted c .before) .read-payload .ensures in omega (arith, small _ _ (read .few) (read .little))
+mul-need c = let read = read-at (accepted c) .read-payload .ensures in omega (arith, small _ _ (read .few) (read .little))
 
 mul-need-2 : tie.Need-mul-need-2
-mul-need-2 c = let read = read-at (accepted c .before) .read-payload .ensures in omega (arith, small _ _ (read .few) (read .little))
+mul-need-2 c = let read = read-at (accepted c) .read-payload .ensures in omega (arith, small _ _ (read .few) (read .little))
 
 returns-3 : tie.Need-returns-3
 returns-3 c =
-    let answer = unhoused c in
-    let full = answer .before .before .before in
-    let unrefused = accepted (full .before) in
-    let read = read-at (unrefused .before) in
-    refusing (answer .no-room .ensures)
-    (no-room _ _ _ (short read .if1 .left) (read .read-payload .ensures) (unrefused .if2 .left) (full .if3 .taken))
+    let answer = c .before .before .before .before in
+    let counted = answer .before .before .before .before in
+    let unrefused = accepted counted in
+    refusing (answer .no-room .ensures) (no-room _ _ _ (read-at unrefused .read-payload .ensures) (unrefused .if2 .left) (omega arith))
 
 returns-4 : tie.Need-returns-4
 returns-4 c =
-    let answer = untrimmed c in
-    let full = answer .before .before .before in
-    let room = full .before .before in
-    let unrefused = accepted (room .before) in
-    let read = read-at (unrefused .before) in
+    let answer = c .before .before .before .before in
+    let counted = answer .before .before .before .before .before .before in
+    let unrefused = accepted counted in
     refusing (answer .no-room2 .ensures)
-    (no-trim-room _ _ _ (short read .if1 .left) (read .read-payload .ensures) (unrefused .if2 .left) (room .if3 .left) (full .if4 .taken))
+    (no-trim-room _ _ _ (read-at unrefused .read-payload .ensures) (unrefused .if2 .left) (omega arith) (omega arith))
 
 -- ---- room for both: the copies
 
 array-share-prefix-scratch : tie.Need-array-share-prefix-scratch
-array-share-prefix-scratch c =
-    let unrefused = accepted (roomy c .before) in
-    fits (read-at (unrefused .before) .read-payload .ensures) (unrefused .if2 .left)
+array-share-prefix-scratch c = let unrefused = roomy c in fits (read-at unrefused .read-payload .ensures) (unrefused .if2 .left)
 
 slice-aggregate-copy : tie.Need-slice-aggregate-copy
 slice-aggregate-copy c = sym (length-take-le _ _ (array-share-prefix-scratch (c .before)))
 
 copy-requires : tie.Need-copy-requires
-copy-requires c κs = rw (length-take-le _ _ (array-share-prefix-scratch (c .before .before))) (roomy (c .before .before) .if3 .left)
+copy-requires c κs = rw (length-take-le _ _ (array-share-prefix-scratch (c .before .before))) (omega arith)
 
 array-share-prefix-table : tie.Need-array-share-prefix-table
-array-share-prefix-table c =
-    let unrefused = accepted (roomy (housed (copied c)) .before) in
-    trim-fits (read-at (unrefused .before) .read-payload .ensures)
+array-share-prefix-table c = trim-fits (read-at (roomy (housed (copied c))) .read-payload .ensures)
 
 slice-aggregate-copy-2 : tie.Need-slice-aggregate-copy-2
 slice-aggregate-copy-2 c = sym (length-take-le _ _ (array-share-prefix-table (c .before)))
 
 copy-requires-2 : tie.Need-copy-requires-2
-copy-requires-2 c κs = rw (length-take-le _ _ (array-share-prefix-table (c .before .before))) (housed (copied (c .before .before)) .if4 .left)
+copy-requires-2 c κs = rw (length-take-le _ _ (array-share-prefix-table (c .before .before))) (omega arith)
 
 returns-5 : tie.Need-returns-5
 returns-5 c =
-    let trim-copy = both-copied c in
+    let trim-copy = c .before .before .before in
     let records-copy = copied (trim-copy .before .before .before) in
-    let room = housed records-copy in
-    let unrefused = accepted (roomy room .before) in
-    let read = read-at (unrefused .before) in
+    let unrefused = roomy (housed records-copy) in
     rw (c .accepted .ensures)
-    (stored _ _ _ (short read .if1 .left) (read .read-payload .ensures) (unrefused .if2 .left) (roomy room .if3 .left) (room .if4 .left)
+    (stored _ _ _ (read-at unrefused .read-payload .ensures) (unrefused .if2 .left) (omega arith) (omega arith)
     (records-copy .copy .ensures .1) (trim-copy .copy2 .ensures .1))
 
 pub read-spec : {M : Type 1} → statement M

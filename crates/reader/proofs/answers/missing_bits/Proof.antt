@@ -1,17 +1,17 @@
 use mathlib.Core.Path.{_≡_, sym, _∙_}
-use native.Mathlib.Omega.{arith}
-use Prim.Native.Nat.{ℕ}
 use borrow.Author.Needs.{needs}
 use borrow.Author.Tests.{le-leb, lt-leb, ne-eqb}
+use Rattle.bits.specs.declared.Refusal.the-variants.{EndsEarly}
+use Rattle.bits.specs.Refusals.{numberOf}
 use Rattle.oamd.specs.Answer.{missingOf}
 use Rattle.reader.proofs.answers.missing_bits.Statement.{statement}
 use Rattle.reader.proofs.answers.missing_bits.Tie as tie
 
 returns : tie.Need-returns
 unfolding missingOf
-returns c = rw (ne-eqb _ 2 (λ h. c .if1 .taken (h ∙ sym (c .before .number .ensures .0))))
+returns c = rw (ne-eqb _ (numberOf EndsEarly) (λ h. c .if1 .taken (h ∙ sym (c .before .number .ensures .0))))
 
-early : (c : tie.Else1) → c .before .before .args .refusal ≡ 2
+early : (c : tie.Else1) → c .before .before .args .refusal ≡ numberOf EndsEarly
 early c = c .if1 .left ∙ c .before .number .ensures .0
 
 returns-2 : tie.Need-returns-2

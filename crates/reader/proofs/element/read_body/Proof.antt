@@ -6,7 +6,7 @@ use Rattle.reader.proofs.element.read_body.Statement.{statement}
 use Rattle.reader.proofs.element.read_body.Tie as tie
 
 returns : tie.Need-returns
-returns c = let arm = c .before in rw (arm .enum-told .given .1) (passed _ (arm .before .before .before .pre))
+returns c = rw (c .before .enum-told .given .1) (passed _ (search needs))
 
 returns-2 : tie.Need-returns-2
 returns-2 c = as-known _ _ (λ e. miss (1 ∷ 2 ∷ 3 ∷ []) 0 (tt {0}) (rw e at (c .before .before .before .match .keys2))) (c .read-known .ensures)

@@ -1,5 +1,3 @@
-use mathlib.Core.Path.{ap}
-use Prim.Native.Nat.{ℕ, _+_, _*_}
 use native.Mathlib.Omega.{arith}
 use Rattle.reader.proofs.ElementLoop.{framed-read}
 use borrow.Author.Needs.{needs}
@@ -23,6 +21,10 @@ sized c = c .before .before .before .before
 abbrev start : tie.After-read-size → tie.Start
 start c = c .before .before .before
 
+-- its head read, before its body
+abbrev headed : tie.After-read-body-arg2 → tie.After-head-bits
+headed c = c .before .before
+
 abbrev size-of : tie.After-kind-of → tie.After-read-size
 size-of c = sized (declared (opened c))
 
@@ -35,20 +37,20 @@ add-back-2 : tie.Need-add-back-2
 add-back-2 c = let (value, groups, gave) = size-of (c .before) .read-size .ensures in omega (arith, c .head-bits .ensures .few, groups)
 
 read-body-requires : tie.Need-read-body-requires
-read-body-requires c κs = start (size-of (c .before .before .before)) .pre
+read-body-requires c κs = start (size-of (headed c .before)) .pre
 
 returns : tie.Need-returns
 returns c =
     let body = c .before .before .before in
-    let head = body .before .before .before in
+    let head = headed (body .before) in
     let known = head .before in
     let flag = known .before in
     let inner = opened known in
     let size = size-of known in
     let (value, groups, gave) = size .read-size .ensures in
     framed-read (size .before .take .ensures .reads) (gave .reads) (declared inner .new .ensures) (inner .before .«open» .ensures) (inner .inner-of .ensures)
-    (flag .before .take-if .ensures .reads) (flag .take2 .ensures .reads) (known .kind-of .ensures)
-    (ap (λ (n : ℕ). 4 + 5 * size .read-size .result .size .groups + n) (head .head-bits .ensures .is)) (body .read-body .ensures) (c .close .ensures)
+    (flag .before .take-if .ensures .reads) (flag .take2 .ensures .reads) (known .kind-of .ensures) (omega (arith, head .head-bits .ensures .is))
+    (body .read-body .ensures) (c .close .ensures)
 
 pub read-element-spec : {M : Type 1} → statement M
 read-element-spec =

@@ -33,31 +33,27 @@ abbrev μ-loop : tie.MeasureT-loop
 
 -- ---- the places that are passed
 
-abbrev start : tie.After-no-timing Inv-loop μ-loop → tie.Start Inv-loop μ-loop
-start c = c .before .before
-
-abbrev at-loop : tie.Else1 Inv-loop μ-loop → tie.At-loop Inv-loop μ-loop
-at-loop c = c .before .before .before
+abbrev at-loop : tie.After-struct-known Inv-loop μ-loop → tie.At-loop Inv-loop μ-loop
+at-loop c = c .before .before
 
 -- ---- what is asked there
 
 loop-holds : tie.Need-loop-holds Inv-loop μ-loop
 loop-holds c =
     let none = c .no-timing .ensures in
-    let asked = start c .pre in
     record {
       within = omega arith;
-      sized = asked .ready .sized;
+      sized = search needs;
       blocks = omega (arith, ap (λ (x : Timing). x .blocks) none);
       unknown = omega arith;
-      ongoing = λ q sc. first _ _ _ _ _ _ _ none (asked .ready .objects) (asked .empty);
+      ongoing = λ q sc. first _ _ _ _ _ _ _ none (search needs) (search needs);
     }
 
 loop-again : tie.Need-loop-again Inv-loop μ-loop
 loop-again c =
     let read = c .before .before in
     let one = read .read-element .ensures in
-    let standing = at-loop (read .before .before .before) .loop .inv in
+    let standing = at-loop (read .before .before .before .before) .loop .inv in
     record {
       within = omega arith;
       sized = one .sized;
@@ -68,18 +64,16 @@ loop-again c =
 
 read-element-requires : tie.Need-read-element-requires Inv-loop μ-loop
 read-element-requires c κs =
-    let looping = at-loop (c .before .before) in
-    let asked = start (looping .before) .pre in
-    let standing = looping .loop .inv in
+    let standing = at-loop (c .before .before .before) .loop .inv in
     record {
-      ready = record { objects = asked .ready .objects; alternate = asked .ready .alternate; sized = standing .sized };
+      ready = record { objects = search needs; alternate = search needs; sized = standing .sized };
       blocks = standing .blocks;
-      unknown = omega (arith, standing .unknown, asked .few);
+      unknown = omega (arith, standing .unknown);
     }
 
 returns : tie.Need-returns Inv-loop μ-loop
 returns c =
-    let standing = c .before .before .before .loop .inv in
+    let standing = at-loop (c .before) .loop .inv in
     record { sized = standing .sized; few = standing .blocks; went = λ q sc. stop (standing .ongoing q sc) (c .if1 .taken) }
 
 returns-2 : tie.Need-returns-2 Inv-loop μ-loop

@@ -11,14 +11,11 @@ tested c = c .before
 abbrev first-tested : tie.After-refuse-if2 → tie.After-refuse-if
 first-tested c = c .before .before
 
-abbrev start : tie.After-refuse-if → tie.Start
-start c = c .before .before .before
-
 returns : tie.Need-returns
 returns c =
     let early = tested (c .before) in
     let second = first-tested early in
-    known-refused _ _ (start second .pre) (gated _ _ _ _ (second .before .is-second .ensures) (second .refuse-if .ensures))
+    known-refused _ _ (search needs) (gated _ _ _ _ (second .before .is-second .ensures) (second .refuse-if .ensures))
     (gated _ _ _ _ (early .before .is-early .ensures) (early .refuse-if2 .ensures)) (c .if1 .taken)
 
 returns-2 : tie.Need-returns-2
@@ -26,7 +23,7 @@ returns-2 c =
     let admitted = c .before .before .before in
     let early = tested (admitted .before) in
     let second = first-tested early in
-    known-read _ _ (start second .pre) (gated _ _ _ _ (second .before .is-second .ensures) (second .refuse-if .ensures))
+    known-read _ _ (search needs) (gated _ _ _ _ (second .before .is-second .ensures) (second .refuse-if .ensures))
     (gated _ _ _ _ (early .before .is-early .ensures) (early .refuse-if2 .ensures)) (admitted .if1 .left) (c .read-fields .ensures)
 
 pub read-known-spec : {M : Type 1} → statement M

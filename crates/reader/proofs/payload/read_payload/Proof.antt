@@ -1,8 +1,5 @@
-use mathlib.Core.Path.{_≡_, ap, _∙_}
 use native.Mathlib.Omega.{arith}
-use lib.ListN.{length}
-use Rattle.reader.proofs.TrimLoop.{length-none}
-use Rattle.reader.proofs.Whole.{payload-read}
+use Rattle.reader.proofs.Whole.{started, payload-read}
 use borrow.Author.Needs.{needs}
 use Rattle.reader.proofs.payload.read_payload.Statement.{statement}
 use Rattle.reader.proofs.payload.read_payload.Tie as tie
@@ -14,18 +11,14 @@ counted c = c .before .before
 abbrev headed : tie.After-read-element-count → tie.After-read-header
 headed c = c .before .before
 
-abbrev start : tie.After-read-header → tie.Start
-start c = c .before .before .before .before
-
 read-elements-requires : tie.Need-read-elements-requires
 read-elements-requires c κs =
     let count = counted (c .before .before) in
     let head = headed count .read-header .ensures in
-    let asked = start (headed count) .pre in
     record {
-      ready = record { objects = head .few; alternate = head .bit; sized = record { out = asked .room; table = ap length (asked .empty) ∙ length-none } };
+      ready = record { objects = head .few; alternate = head .bit; sized = search needs };
       few = omega (arith, count .read-element-count .ensures .small);
-      empty = asked .empty;
+      empty = search needs;
     }
 
 returns : tie.Need-returns
@@ -34,9 +27,9 @@ returns c =
     let shared = elements .before .before .before in
     let count = counted shared in
     let head = headed count in
+    let begun = head .before in
     let (shares, beds, isf) = shared .shares .ensures in
-    let zero : head .before .new .result .0 ≡ 0 = head .before .new .ensures in
-    payload-read (head .before .before .limit-of .ensures) (λ i. record { missing = 0; v = 0; at = record { 0 = zero i }; no = 0 }) shares
+    payload-read (omega arith) (begun .before .limit-of .ensures) (started (begun .new .ensures)) shares
     (head .read-header .ensures) (count .read-element-count .ensures .reads) (elements .read-elements .ensures)
 
 pub read-payload-spec : {M : Type 1} → statement M

@@ -28,7 +28,7 @@ abbrev μ-loop : tie.MeasureT-loop
 
 loop-holds : tie.Need-loop-holds Inv-loop μ-loop
 unfolding configsBytesOf
-loop-holds c = record { within = omega arith; place = omega arith; laying = none-laid _ _ _ _ _ _ _ _ _ _ refl (c .before .pre) }
+loop-holds c = record { within = omega arith; place = omega arith; laying = none-laid _ _ _ _ _ _ _ _ _ _ refl (search needs) }
 
 loop-again : tie.Need-loop-again Inv-loop μ-loop
 loop-again c =

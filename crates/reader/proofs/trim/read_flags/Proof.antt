@@ -24,7 +24,7 @@ abbrev μ-loop : tie.MeasureT-loop
 μ-loop s l objects out₀ cur₀ i₀ out cur i = objects - i
 
 loop-holds : tie.Need-loop-holds Inv-loop μ-loop
-loop-holds c = let (few, wide) = c .before .pre in record { within = omega arith; laying = none-laid _ _ _ _ _ _ _ _ _ _ refl wide }
+loop-holds c = record { within = omega arith; laying = none-laid _ _ _ _ _ _ _ _ _ _ refl (search needs) }
 
 loop-again : tie.Need-loop-again Inv-loop μ-loop
 loop-again c =

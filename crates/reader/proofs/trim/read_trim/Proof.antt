@@ -12,25 +12,24 @@ abbrev start : tie.After-take-unless2 → tie.Start
 start c = c .before .before .before .before
 
 -- the configurations read, and the flag behind them
-abbrev configured : tie.After-read-flags-if-arg → tie.After-read-configs-if
-configured c = c .before .before .before .before
+abbrev flagged : tie.After-read-flags-if-arg → tie.After-take2
+flagged c = c .before .before .before
 
 read-configs-if-requires : tie.Need-read-configs-if-requires
-read-configs-if-requires c κs = let (few, wide) = start (moded c) .pre in simp length-set wide
+read-configs-if-requires c κs = simp length-set (search needs)
 
 read-flags-if-requires : tie.Need-read-flags-if-requires
 read-flags-if-requires c κs =
-    let configs = configured c in
+    let configs = flagged c .before in
     let (few, wide) = start (moded (configs .before)) .pre in
     (few, simp length-set (configs .read-configs-if .ensures .size))
 
 returns : tie.Need-returns
 returns c =
-    let flags = c .before in
-    let configs = configured flags in
+    let flag = flagged (c .before) in
+    let configs = flag .before in
     let mode = moded (configs .before) in
     let reserved = mode .before in
-    let flag = flags .before .before .before in
     trimming (reserved .before .take-unless .ensures .reads) (reserved .take .ensures .reads) (mode .take-unless2 .ensures .reads)
     (configs .read-configs-if .ensures) (flag .take2 .ensures .reads) (c .read-flags-if .ensures)
 
