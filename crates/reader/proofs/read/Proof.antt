@@ -65,7 +65,9 @@ returns-4 c =
 -- ---- room for both: the copies
 
 array-share-prefix-scratch : tie.Need-array-share-prefix-scratch
-array-share-prefix-scratch c = let unrefused = roomy c in fits (read-at unrefused .read-payload .ensures) (unrefused .if2 .left)
+array-share-prefix-scratch c =
+    let unrefused = roomy c in
+    omega (arith, fits (read-at unrefused .read-payload .ensures) (unrefused .if2 .left))
 
 slice-aggregate-copy : tie.Need-slice-aggregate-copy
 slice-aggregate-copy c = sym (length-take-le _ _ (array-share-prefix-scratch (c .before)))
@@ -74,7 +76,7 @@ copy-requires : tie.Need-copy-requires
 copy-requires c κs = rw (length-take-le _ _ (array-share-prefix-scratch (c .before .before))) (omega arith)
 
 array-share-prefix-table : tie.Need-array-share-prefix-table
-array-share-prefix-table c = trim-fits (read-at (roomy (housed (copied c))) .read-payload .ensures)
+array-share-prefix-table c = omega (arith, trim-fits (read-at (roomy (housed (copied c))) .read-payload .ensures))
 
 slice-aggregate-copy-2 : tie.Need-slice-aggregate-copy-2
 slice-aggregate-copy-2 c = sym (length-take-le _ _ (array-share-prefix-table (c .before)))
