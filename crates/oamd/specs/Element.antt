@@ -85,15 +85,22 @@ isEarly Object known = false
 isEarly Trim known = false
 isEarly Extended known = not (there (known .object))
 
+-- what is known, with one element more: an updater for each field, and the only places that name all of them
+abbrev pub withObject : ObjectElement → Known → Known
+withObject e known = record { object = some e; trim = known .trim; extended = known .extended }
+
+abbrev pub withTrim : TrimTable → Known → Known
+withTrim t known = record { object = known .object; trim = some t; extended = known .extended }
+
+abbrev pub withExtended : Extension → Known → Known
+withExtended e known = record { object = known .object; trim = known .trim; extended = some e }
+
 -- the fields of a known element
 unfoldable pub fields : Programme → Kind → Known → P Known
 fields p Unknown known = give known
-fields p Object known =
-    object-element (p .objects) (shares p) >>= λ e. give {A = Known} (record { object = some e; trim = known .trim; extended = known .extended })
-fields p Trim known = trim-element (p .objects) >>= λ t. give {A = Known} (record { object = known .object; trim = some t; extended = known .extended })
-fields p Extended known =
-    extended-object-element (allCarry (scenes (known .object))) >>= λ e.
-    give {A = Known} (record { object = known .object; trim = known .trim; extended = some e })
+fields p Object known = object-element (p .objects) (shares p) >>= λ e. give (withObject e known)
+fields p Trim known = trim-element (p .objects) >>= λ t. give (withTrim t known)
+fields p Extended known = extended-object-element (allCarry (scenes (known .object))) >>= λ e. give (withExtended e known)
 
 -- what has been read, and how many unknown elements were among it
 pub record State : Type 0 where

@@ -7,7 +7,6 @@ use Prim.Native.Nat.{ℕ, suc, _+_, _-_, _*_, _≤_, _<_}
 use native.Mathlib.Omega.{arith}
 use native.Mathlib.Numerals.{add-one}
 use native.Mathlib.Nat.{sub-zero}
-use lib.ListN.{length}
 use borrow.Author.Tests.{ne-eqb}
 use Rattle.bits.specs.declared.Cur.{Cur}
 use Rattle.bits.specs.declared.Limit.{Limit}
@@ -23,18 +22,20 @@ use Rattle.oamd.specs.declared.Kind.{Kind}
 use Rattle.oamd.specs.declared.Kind.the-variants.{Unknown, Object, Trim, Extended}
 use Rattle.oamd.specs.declared.Programme.{Programme}
 use Rattle.oamd.specs.declared.Timing.{Timing}
-use Rattle.oamd.specs.Tables.{roomBytes, mostTrim, mostBlocks, mostObjects}
+use Rattle.oamd.specs.Tables.{mostObjects}
 use Rattle.oamd.specs.Programme.{set?, shares}
 use Rattle.oamd.specs.Record.{plainRecords, bytesOf, onto}
 use Rattle.oamd.specs.Trim.{trimOf}
-use Rattle.oamd.specs.Element.{kind, declaredLength, sizeLength, backToId, framed, Known, nothing, there, isSecond, scenes, fields, passOver, readKnown, oa-element, oa-element-md, elements}
+use Rattle.oamd.specs.Element.{kind, sizeLength, backToId, framed, Known, nothing, withObject, withTrim, withExtended, there, isSecond, isEarly, scenes}
+use Rattle.oamd.specs.Element.{fields, passOver, readKnown, oa-element, oa-element-md, elements}
 use Rattle.oamd.specs.Payload.{timing, noTiming, records}
 use Rattle.reader.specs.declared.Scope.{Scope}
 use Rattle.reader.specs.declared.State.{State}
 use Rattle.reader.specs.declared.StateStep.{StateStep}
 use Rattle.reader.specs.declared.TimingStep.{TimingStep}
 use Rattle.reader.specs.Layout.{noTrimBytes}
-use Rattle.reader.specs.Steps.{ElementRead, TrimRead, ExtendedRead, Holding, stateOf, Went-on, Scoped, BodyRead, OneRead}
+use Rattle.reader.specs.Steps.{Buffers, lent, objectSeen, trimSeen, extendedSeen, unknownSeen, seen, tooEarly, Holding, Underway, stateOf, Scoped}
+use Rattle.reader.specs.Steps.{ElementRead, TrimRead, ExtendedRead, FieldsRead, Went-on, KnownRead, BodyRead, OneRead}
 use Rattle.reader.proofs.Bytes.{length-plain}
 use Rattle.reader.proofs.Gates.{stuck, carried, regiven, opened, by-zero}
 use Rattle.reader.proofs.TrimLoop.{not-read}
@@ -51,158 +52,175 @@ not-false : (t : Bool) → not t ≡ false → t ≡ true
 not-false true h = refl
 not-false false h = let z : _≡_ {A = ℕ} 0 1 = cc in absurd (omega arith)
 
-module _ (w : Scope) (st : State) (back : ℕ) {b : Bits} {c : Cur} {l : Limit} {out table : List ℕ} (size : length out ≡ roomBytes) (width : length table ≡ mostTrim) (few : st .timing .blocks ≤ mostBlocks) where
-  -- an unknown element is counted
-  pub passed : BodyRead Unknown back w st b c l out table
-      (record { state = record { timing = st .timing; object = st .object; trim = st .trim; extended = st .extended; unknown = st .unknown + 1 }; cur = c }) out table
-  unfolding oa-element passOver
-  passed = record {
-    size = size;
-    width = width;
-    few = few;
-    next = omega arith;
-    went = λ q known t sc n h. record {
-      known = known;
-      reads = rw (add-one (st .unknown)) plain;
-      holding = λ z.
-          let y = h z in
-          record { object = y .object; extended = y .extended; ordered = y .ordered; timed = y .timed; many = y .many; full = y .full; stand = y .stand; trim = y .trim };
-    };
+-- ---- what the state tells of the elements that have been read, by kind
+
+pub told-second : {objects : ℕ} {known : Known} {t : List ℕ} {st : State} {held : Buffers} (k : Kind) → Holding objects known t st held → seen k st ≡ isSecond k known
+told-second Unknown h = refl
+told-second Object h = h .records .object-told
+told-second Trim h = h .trim .told
+told-second Extended h = h .records .extended-told
+
+pub told-early : {objects : ℕ} {known : Known} {t : List ℕ} {st : State} {held : Buffers} (k : Kind) → Holding objects known t st held → tooEarly k st ≡ isEarly k known
+told-early Unknown h = refl
+told-early Object h = refl
+told-early Trim h = refl
+told-early Extended h = ap not (h .records .object-told)
+
+-- ---- the fields of each kind: what they add to what is held
+
+module _ {scope : Scope} {st : State} {b : Bits} {c : Cur} {l : Limit} {out table : List ℕ} (asked : Underway scope st (lent out table)) where
+  -- nothing
+  pub unknown-fields : FieldsRead Unknown scope st b c l (lent out table) (record { state = st; cur = c }) (lent out table)
+  unfolding fields
+  unknown-fields = record {
+    sized = asked .ready .sized;
+    few = asked .blocks;
+    same = refl;
+    went = λ q known t sc first timely h. record { known = known; reads = plain; holding = λ z. h };
   }
 
-  -- a second element of a kind, or one behind a refusal; there is no other demand on when the element comes
-  pub second : (k : Kind) {on : Bool} {x : ℕ} {first : Cur} → ((q : Programme) (s : Rattle.oamd.specs.Element.State) → oa-element q back s k ≡ readKnown q back s k)
-      → ((known : Known) (t : List ℕ) → Holding (w .objects) known t st out table → on ≡ isSecond k known)
-      → Reads (refuseIf on (numberOf Second) back x) b c l x first → (first .no ≡ 0 → ⊥) → BodyRead k back w st b c l out table (record { state = st; cur = first }) out table
-  unfolding readKnown
-  second k is told g z = record {
-    size = size;
-    width = width;
-    few = few;
-    next = omega arith;
-    went = λ q known t sc n h. record {
-      known = known;
-      reads = rw (is q (stateOf known (st .unknown)))
-          (by-zero (c .no) (λ y. bind (regiven (isSecond k known) (numberOf Second) back (rw (told known t (h y)) at g)) (stuck z)) (λ y. carried g y));
-      holding = λ y. absurd (z y);
-    };
-  }
-
-  -- the first object element
-  pub object-read : {x : ℕ} {first : Cur} {r : TimingStep} {out' : List ℕ} → Reads (refuseIf (st .object) (numberOf Second) back x) b c l x first → first .no ≡ 0
-      → ElementRead (w .objects) (w .shares) b first l out r out'
-      → BodyRead Object back w st b c l out table
-      (record { state = record { timing = r .timing; object = true; trim = st .trim; extended = st .extended; unknown = st .unknown }; cur = r .cur }) out' table
-  unfolding oa-element readKnown fields scenes timing records bytesOf plainRecords onto
-  object-read g z e = record {
-    size = e .size;
-    width = width;
+  pub object-fields : {r : TimingStep} {out' : List ℕ} → ElementRead (scope .objects) (scope .shares) b c l out r out'
+      → FieldsRead Object scope st b c l (lent out table) (record { state = objectSeen (r .timing) st; cur = r .cur }) (lent out' table)
+  unfolding fields scenes timing records bytesOf plainRecords onto
+  object-fields e = record {
+    sized = record { out = e .size; table = asked .ready .sized .table };
     few = e .few;
-    next = omega arith;
-    went = λ q known t sc n h.
-        let y = h (begun g z) in
-        let gone : known .object ≡ none = none-of (known .object) (sym (y .object) ∙ opened (st .object) _ _ g z) in
-        let bare : known .extended ≡ none = y .ordered gone in
-        let fresh : out ≡ t = rw (gone, bare) at (y .stand) in
+    same = refl;
+    went = λ q known t sc first timely h.
+        let gone : known .object ≡ none = none-of (known .object) first in
+        let bare : known .extended ≡ none = h .records .ordered gone in
+        let fresh : out ≡ t = rw (gone, bare) at (h .records .stand) in
         record {
-          known = record { object = some (e .value); trim = known .trim; extended = known .extended };
-          reads = bind (regiven (there (known .object)) (numberOf Second) back (rw (y .object) at g)) (bind plain (bind (bind (rw (sc .1, sc .0) (e .reads)) plain) plain));
-          holding = λ u. record {
-            object = refl;
-            extended = y .extended;
-            ordered = λ o. absurd (let k : _≡_ {A = ℕ} 0 1 = cc in omega arith);
-            timed = e .holds;
-            many = e .many u;
-            full = rw bare (length-plain (scenes (some (e .value))));
-            stand = rw (bare, ← fresh) (e .stand u);
-            trim = y .trim;
-          };
-        };
-  }
-
-  -- the first trim element
-  pub trim-read : {x : ℕ} {first cur : Cur} {table' : List ℕ} → w .objects ≤ mostObjects → Reads (refuseIf (st .trim) (numberOf Second) back x) b c l x first → first .no ≡ 0
-      → TrimRead (w .objects) b first l table cur table'
-      → BodyRead Trim back w st b c l out table
-      (record { state = record { timing = st .timing; object = st .object; trim = true; extended = st .extended; unknown = st .unknown }; cur = cur }) out table'
-  unfolding oa-element readKnown fields trimOf
-  trim-read m g z e = record {
-    size = size;
-    width = e .size;
-    few = few;
-    next = omega arith;
-    went = λ q known t sc n h.
-        let y = h (begun g z) in
-        let gone : known .trim ≡ none = none-of (known .trim) (sym (y .trim .told) ∙ opened (st .trim) _ _ g z) in
-        let fresh : table ≡ noTrimBytes = rw gone at (y .trim .stand) ∙ sym (not-read (w .objects) m .stand) in
-        record {
-          known = record { object = known .object; trim = some (e .value); extended = known .extended };
-          reads = bind (regiven (there (known .trim)) (numberOf Second) back (rw (y .trim .told) at g)) (bind plain (bind (bind (rw (sc .0) (e .reads)) plain) plain));
-          holding = λ u. record {
-            object = y .object;
-            extended = y .extended;
-            ordered = y .ordered;
-            timed = y .timed;
-            many = y .many;
-            full = y .full;
-            stand = y .stand;
-            trim = record { told = refl; long = e .long; stand = e .stand fresh };
-          };
-        };
-  }
-
-  module _ {x y : ℕ} {first timely : Cur} (g : Reads (refuseIf (st .extended) (numberOf Second) back x) b c l x first)
-      (k : Reads (refuseIf (not (st .object)) (numberOf Early) back y) b first l y timely) where
-    -- a second extended element, one before any object element, or one behind a refusal
-    pub extended-refused : (timely .no ≡ 0 → ⊥) → BodyRead Extended back w st b c l out table (record { state = st; cur = timely }) out table
-    unfolding oa-element readKnown
-    extended-refused z = record {
-      size = size;
-      width = width;
-      few = few;
-      next = omega arith;
-      went = λ q known t sc n h. record {
-        known = known;
-        reads = by-zero (c .no)
-            (λ u. bind (regiven (there (known .extended)) (numberOf Second) back (rw (h u .extended) at g))
-            (bind (regiven (not (there (known .object))) (numberOf Early) back (rw (h u .object) at k)) (stuck z)))
-            (λ u. carried (bind {k = λ v. refuseIf (not (st .object)) (numberOf Early) back y} g k) u);
-        holding = λ u. absurd (z u);
-      };
-    }
-
-    -- the first extended element
-    pub extended-read : {cur : Cur} {out' : List ℕ} → timely .no ≡ 0 → ExtendedRead (w .objects * st .timing .blocks) b timely l out cur out'
-        → BodyRead Extended back w st b c l out table
-        (record { state = record { timing = st .timing; object = true; trim = st .trim; extended = true; unknown = st .unknown }; cur = cur }) out' table
-    unfolding oa-element readKnown fields records
-    extended-read z e = record {
-      size = e .size;
-      width = width;
-      few = few;
-      next = omega arith;
-      went = λ q known t sc n h.
-          let v = h (begun g (begun k z)) in
-          let had : there (known .object) ≡ true = sym (v .object) ∙ not-false (st .object) (opened (not (st .object)) _ _ k z) in
-          let bare : known .extended ≡ none = none-of (known .extended) (sym (v .extended) ∙ opened (st .extended) _ _ g (begun k z)) in
-          let s : out ≡ onto (bytesOf (plainRecords (scenes (known .object)))) t = rw bare at (v .stand) in
-          let u = e .went (scenes (known .object)) t s (v .many) in
-          record {
-            known = record { object = known .object; trim = known .trim; extended = some (u .value) };
-            reads = bind (regiven (there (known .extended)) (numberOf Second) back (rw (v .extended) at g))
-                (bind (regiven (not (there (known .object))) (numberOf Early) back (rw (v .object) at k)) (bind (bind (u .reads) plain) plain));
-            holding = λ m. record {
-              object = sym had;
-              extended = refl;
-              ordered = λ o. absurd (not-none (known .object) had o);
-              timed = v .timed;
-              many = v .many;
-              full = u .full m;
-              stand = u .stand m;
-              trim = v .trim;
+          known = withObject (e .value) known;
+          reads = bind (rw (sc .1, sc .0) (e .reads)) plain;
+          holding = λ z. record {
+            records = record {
+              object-told = refl;
+              extended-told = h .records .extended-told;
+              ordered = λ o. absurd (let k : _≡_ {A = ℕ} 0 1 = cc in omega arith);
+              timed = e .holds;
+              many = e .many z;
+              full = rw bare (length-plain (scenes (some (e .value))));
+              stand = rw (bare, ← fresh) (e .stand z);
             };
+            trim = h .trim;
           };
-    }
+        };
+  }
+
+  pub trim-fields : {cur : Cur} {table' : List ℕ} → TrimRead (scope .objects) b c l table cur table'
+      → FieldsRead Trim scope st b c l (lent out table) (record { state = trimSeen st; cur = cur }) (lent out table')
+  unfolding fields trimOf
+  trim-fields e = record {
+    sized = record { out = asked .ready .sized .out; table = e .size };
+    few = asked .blocks;
+    same = refl;
+    went = λ q known t sc first timely h.
+        let gone : known .trim ≡ none = none-of (known .trim) first in
+        let fresh : table ≡ noTrimBytes = rw gone at (h .trim .stand) ∙ sym (not-read (scope .objects) (asked .ready .objects) .stand) in
+        record {
+          known = withTrim (e .value) known;
+          reads = bind (rw (sc .0) (e .reads)) plain;
+          holding = λ z. record { records = h .records; trim = record { told = refl; long = e .long; stand = e .stand fresh } };
+        };
+  }
+
+  pub extended-fields : {cur : Cur} {out' : List ℕ} → ExtendedRead (scope .objects * st .timing .blocks) b c l out cur out'
+      → FieldsRead Extended scope st b c l (lent out table) (record { state = extendedSeen st; cur = cur }) (lent out' table)
+  unfolding fields records
+  extended-fields e = record {
+    sized = record { out = e .size; table = asked .ready .sized .table };
+    few = asked .blocks;
+    same = refl;
+    went = λ q known t sc first timely h.
+        let had : there (known .object) ≡ true = not-false (there (known .object)) timely in
+        let bare : known .extended ≡ none = none-of (known .extended) first in
+        let stood : out ≡ onto (bytesOf (plainRecords (scenes (known .object)))) t = rw bare at (h .records .stand) in
+        let u = e .went (scenes (known .object)) t stood (h .records .many) in
+        record {
+          known = withExtended (u .value) known;
+          reads = bind (u .reads) plain;
+          holding = λ z. record {
+            records = record {
+              object-told = h .records .object-told;
+              extended-told = refl;
+              ordered = λ o. absurd (not-none (known .object) had o);
+              timed = h .records .timed;
+              many = h .records .many;
+              full = u .full z;
+              stand = u .stand z;
+            };
+            trim = h .trim;
+          };
+        };
+  }
+
+-- ---- a known element: the same for every kind
+
+module _ {scope : Scope} {st : State} (back : ℕ) {b : Bits} {c first timely : Cur} {l : Limit} {held : Buffers} {x y : ℕ} (k : Kind) (asked : Underway scope st held)
+    (g : Reads (refuseIf (seen k st) (numberOf Second) back x) b c l x first) (d : Reads (refuseIf (tooEarly k st) (numberOf Early) back y) b first l y timely) where
+  -- refused: a second one of its kind, one too early, or one behind a refusal
+  pub known-refused : (timely .no ≡ 0 → ⊥) → KnownRead k back scope st b c l held (record { state = st; cur = timely }) held
+  unfolding readKnown
+  known-refused z = record {
+    sized = asked .ready .sized;
+    few = asked .blocks;
+    next = omega arith;
+    went = λ q known t sc h. record {
+      known = known;
+      reads = by-zero (c .no)
+          (λ u. bind (regiven (isSecond k known) (numberOf Second) back (rw (told-second k (h u)) at g))
+          (bind (regiven (isEarly k known) (numberOf Early) back (rw (told-early k (h u)) at d)) (stuck z)))
+          (λ u. carried (bind {k = λ v. refuseIf (tooEarly k st) (numberOf Early) back y} g d) u);
+      holding = λ u. absurd (z u);
+    };
+  }
+
+  -- not refused: its fields
+  pub known-read : {r : StateStep} {held' : Buffers} → timely .no ≡ 0 → FieldsRead k scope st b timely l held r held' → KnownRead k back scope st b c l held r held'
+  unfolding readKnown
+  known-read z e = record {
+    sized = e .sized;
+    few = e .few;
+    next = omega (arith, e .same);
+    went = λ q known t sc h.
+        let v = h (begun g (begun d z)) in
+        let one : seen k st ≡ false = opened (seen k st) _ _ g (begun d z) in
+        let due : tooEarly k st ≡ false = opened (tooEarly k st) _ _ d z in
+        let u = e .went q known t sc (sym (told-second k v) ∙ one) (sym (told-early k v) ∙ due) v in
+        record {
+          known = u .known;
+          reads = bind (regiven (isSecond k known) (numberOf Second) back (rw (told-second k v) at g))
+              (bind (regiven (isEarly k known) (numberOf Early) back (rw (told-early k v) at d)) (bind (u .reads) (rw (e .same) plain)));
+          holding = u .holding;
+        };
+  }
+
+-- ---- an element of any kind
+
+-- an unknown element is counted
+pub passed : {scope : Scope} {st : State} (back : ℕ) {b : Bits} {c : Cur} {l : Limit} {held : Buffers} → Underway scope st held
+    → BodyRead Unknown back scope st b c l held (record { state = unknownSeen st; cur = c }) held
+unfolding oa-element passOver
+passed {st = st} back asked = record {
+  sized = asked .ready .sized;
+  few = asked .blocks;
+  next = omega arith;
+  went = λ q known t sc h. record {
+    known = known;
+    reads = rw (add-one (st .unknown)) plain;
+    holding = λ z. record { records = h z .records; trim = h z .trim };
+  };
+}
+
+-- any other is a known one
+pub as-known : {scope : Scope} {st : State} (back : ℕ) {b : Bits} {c : Cur} {l : Limit} {held held' : Buffers} {r : StateStep} (k : Kind) → (k ≡ Unknown → ⊥)
+    → KnownRead k back scope st b c l held r held' → BodyRead k back scope st b c l held r held'
+unfolding oa-element
+as-known back Unknown h e = absurd (h refl)
+as-known back Object h e = e
+as-known back Trim h e = e
+as-known back Extended h e = e
 
 -- ---- the frame
 
@@ -214,68 +232,69 @@ close-begun : (e : Cur) (l : Limit) (d : Cur) → d ≡ closeAt e l → d .no �
 unfolding closeAt
 close-begun e l d h z = by-zero (e .no) (λ y. y) (λ y. ap (λ (c : Cur). c .no) (sym (rw (ne-eqb (e .no) 0 y) at h)) ∙ z)
 
-pub framed-read : {w : Scope} {st : State} {b : Bits} {c c₁ c₂ o c₃ c₄ d : Cur} {l i : Limit} {out out' table table' : List ℕ} {id other flag back : ℕ} {z : Size} {k : Kind} {r : StateStep}
-    → Reads (bits 4) b c l id c₁ → Reads variable-bits-max b c₁ l z c₂ → o ≡ openAt l c₂ (declaredLength z) (sizeLength z) → i ≡ innerOf l c₂ (declaredLength z)
-    → Reads (bitsIf (set? (w .alternate)) 4) b o i other c₃ → Reads (bits 1) b c₃ i flag c₄ → k ≡ kind id other → back ≡ backToId (w .alternate) z
-    → BodyRead k back w st b c₄ i out table r out' table' → d ≡ closeAt (r .cur) i → OneRead w st b c l out table (record { state = r .state; cur = d }) out' table'
+pub framed-read : {scope : Scope} {st : State} {b : Bits} {c c₁ c₂ o c₃ c₄ d : Cur} {l i : Limit} {held held' : Buffers} {id other flag back n : ℕ} {z : Size} {k : Kind} {r : StateStep}
+    → Reads (bits 4) b c l id c₁ → Reads variable-bits-max b c₁ l z c₂ → n ≡ z .value + 1 → o ≡ openAt l c₂ (8 * n) (sizeLength z) → i ≡ innerOf l c₂ (8 * n)
+    → Reads (bitsIf (set? (scope .alternate)) 4) b o i other c₃ → Reads (bits 1) b c₃ i flag c₄ → k ≡ kind id other → back ≡ backToId (scope .alternate) z
+    → BodyRead k back scope st b c₄ i held r held' → d ≡ closeAt (r .cur) i → OneRead scope st b c l held (record { state = r .state; cur = d }) held'
 unfolding oa-element-md framed
-framed-read {w} {c₂ = c₂} {o} {l = l} {i} {z = z} {r = r} r₁ r₂ ho hi r₃ r₄ hk hb body hd = record {
-  size = body .size;
-  width = body .width;
+framed-read {c₂ = c₂} {o} {l = l} {i} {r = r} r₁ r₂ hn ho hi r₃ r₄ hk hb body hd = record {
+  sized = body .sized;
   few = body .few;
   next = body .next;
-  went = λ q known t sc n h.
-      let u = body .went q known t sc n (λ y. h (begun r₁ (begun r₂ (open-begun l c₂ o _ _ ho (begun r₃ (begun r₄ y)))))) in
+  went = λ q known t sc h.
+      let u = body .went q known t sc (λ y. h (begun r₁ (begun r₂ (open-begun l c₂ o _ _ ho (begun r₃ (begun r₄ y)))))) in
       record {
         known = u .known;
-        reads = bind r₁ (bind r₂ (framing _ _ _ _ _ _ _ _ _ _ _ _ ho hi (bind r₃ (bind r₄ (rw (hk, hb) at (u .reads)))) hd));
+        reads = bind r₁ (bind r₂ (framing _ _ _ _ _ _ _ _ _ _ _ _ (rw hn at ho) (rw hn at hi) (bind r₃ (bind r₄ (rw (hk, hb) at (u .reads)))) hd));
         holding = λ y. u .holding (close-begun (r .cur) i _ hd y);
       };
 }
 
 -- ---- one element after the other
 
-module _ (n : ℕ) (w : Scope) (q : Programme) (b : Bits) (c : Cur) (l : Limit) (t : List ℕ) where
+module _ (n : ℕ) (scope : Scope) (q : Programme) (b : Bits) (c : Cur) (l : Limit) (t : List ℕ) where
   -- before element i
-  pub record Ongoing (i : ℕ) (st : State) (cur : Cur) (out table : List ℕ) : Type 0 where
+  pub record Ongoing (i : ℕ) (st : State) (cur : Cur) (held : Buffers) : Type 0 where
     pub known : Known
-    pub left : Left (elements q (w .alternate) n (stateOf nothing 0)) b c l (elements q (w .alternate) (n - i) (stateOf known (st .unknown))) cur
-    pub holding : cur .no ≡ 0 → Holding (w .objects) known t st out table
+    pub left : Left (elements q (scope .alternate) n (stateOf nothing 0)) b c l (elements q (scope .alternate) (n - i) (stateOf known (st .unknown))) cur
+    pub holding : cur .no ≡ 0 → Holding (scope .objects) known t st held
 
-pub first : (n : ℕ) (w : Scope) (q : Programme) (b : Bits) (c : Cur) (l : Limit) (t table : List ℕ) (tm : Timing) → tm ≡ noTiming → w .objects ≤ mostObjects → table ≡ noTrimBytes
-    → Ongoing n w q b c l t 0 (record { timing = tm; object = false; trim = false; extended = false; unknown = 0 }) c t table
-unfolding scenes timing records bytesOf plainRecords onto
-first n w q b c l t table tm e m f = record {
-  known = nothing;
-  left = rw (sub-zero n) start;
-  holding = λ z. record {
-    object = refl;
-    extended = refl;
-    ordered = λ o. refl;
-    timed = e;
-    many = rw e (omega arith);
-    full = refl;
-    stand = refl;
-    trim = rw f (not-read (w .objects) m);
-  };
-}
+  pub first : {tm : Timing} {table : List ℕ} → tm ≡ noTiming → scope .objects ≤ mostObjects → table ≡ noTrimBytes
+      → Ongoing 0 (record { timing = tm; object = false; trim = false; extended = false; unknown = 0 }) c (lent t table)
+  unfolding scenes timing records bytesOf plainRecords onto
+  first e few empty = record {
+    known = nothing;
+    left = rw (sub-zero n) start;
+    holding = λ z. record {
+      records = record {
+        object-told = refl;
+        extended-told = refl;
+        ordered = λ o. refl;
+        timed = e;
+        many = rw e (omega arith);
+        full = refl;
+        stand = refl;
+      };
+      trim = rw empty (not-read (scope .objects) few);
+    };
+  }
 
-module _ {n : ℕ} {w : Scope} {q : Programme} {b : Bits} {c : Cur} {l : Limit} {t : List ℕ} {i : ℕ} {st : State} {cur : Cur} {out table : List ℕ} where
-  pub further : {r : StateStep} {out' table' : List ℕ} → Ongoing n w q b c l t i st cur out table → i < n → Scoped q w → length t ≡ roomBytes
-      → OneRead w st b cur l out table r out' table' → Ongoing n w q b c l t (i + 1) (r .state) (r .cur) out' table'
+module _ {n : ℕ} {scope : Scope} {q : Programme} {b : Bits} {c : Cur} {l : Limit} {t : List ℕ} {i : ℕ} {st : State} {cur : Cur} {held : Buffers} where
+  pub further : {r : StateStep} {held' : Buffers} → Ongoing n scope q b c l t i st cur held → i < n → Scoped q scope
+      → OneRead scope st b cur l held r held' → Ongoing n scope q b c l t (i + 1) (r .state) (r .cur) held'
   unfolding elements
-  further x h sc m one =
-      let u = one .went q (x .known) t sc m (x .holding) in
+  further x h sc one =
+      let u = one .went q (x .known) t sc (x .holding) in
       let e : n - i ≡ suc (n - (i + 1)) = omega arith in
       record { known = u .known; left = step (rw e at (x .left)) (u .reads); holding = u .holding }
 
-  pub finish : Ongoing n w q b c l t i st cur out table → i ≡ n
-      → Went-on w (elements q (w .alternate) n (stateOf nothing 0)) b c l t (record { state = st; cur = cur }) out table
+  pub finish : Ongoing n scope q b c l t i st cur held → i ≡ n
+      → Went-on scope (elements q (scope .alternate) n (stateOf nothing 0)) b c l t (record { state = st; cur = cur }) held
   unfolding elements
   finish x h =
       let e : n - i ≡ 0 = omega arith in
       record { known = x .known; reads = done (rw e at (x .left)); holding = x .holding }
 
-  pub stop : Ongoing n w q b c l t i st cur out table → (cur .no ≡ 0 → ⊥)
-      → Went-on w (elements q (w .alternate) n (stateOf nothing 0)) b c l t (record { state = st; cur = cur }) out table
+  pub stop : Ongoing n scope q b c l t i st cur held → (cur .no ≡ 0 → ⊥)
+      → Went-on scope (elements q (scope .alternate) n (stateOf nothing 0)) b c l t (record { state = st; cur = cur }) held
   stop x h = record { known = x .known; reads = broken (x .left) h; holding = λ z. absurd (h z) }

@@ -48,10 +48,10 @@ regiven false r back {c = c} {d} {v = v} {w} x = record { same = go (eqb (d .no)
     go false true e = absurd (no-ok e)
     go false false e = let x : d .no ≡ c .no = cc in let y : d .at .0 ≡ c .at .0 = cc in let z : d .missing ≡ c .missing = cc in rw (x, y, z)
 
--- a test's refusal, as the function gives it
-pub gated : {A : Type 0} (on t : Bool) (r back : ℕ) {b : Bits} {c d : Cur} {l : Limit} {v w : A} → on ≡ t → w ≡ v → Reads (refuseIf on r back v) b c l w d
+-- a test's refusal, as `refuse_if` promises it
+pub gated : {A : Type 0} (on t : Bool) (r back : ℕ) {b : Bits} {c d : Cur} {l : Limit} {v w : A} → on ≡ t → (w ≡ v) × Reads (refuseIf on r back v) b c l w d
     → Reads (refuseIf t r back v) b c l v d
-gated on t r back e h g = rw (← e) (rw h at g)
+gated on t r back e (h, g) = rw (← e) (rw h at g)
 
 -- a test that did not refuse
 pub opened : {A : Type 0} (on : Bool) (r back : ℕ) {b : Bits} {c d : Cur} {l : Limit} {v : A} → Reads (refuseIf on r back v) b c l v d → d .no ≡ 0 → on ≡ false

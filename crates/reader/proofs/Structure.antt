@@ -40,7 +40,9 @@ next-object k prev last e mine h =
     let n = length-append (prev ++ last) mine in
     let m = length-append prev last in
     let i : length ((prev ++ last) ++ mine) - k ≡ length prev + length mine = omega arith in
-    rw (le-leb k (length ((prev ++ last) ++ mine)) (omega arith), i, List·getD-append (prev ++ last) mine (idle 0) (length prev + length mine) (omega arith), getD-append-add prev last (length mine) (idle 0))
+    let enough = le-leb k (length ((prev ++ last) ++ mine)) (omega arith) in
+    let before-mine = List·getD-append (prev ++ last) mine (idle 0) (length prev + length mine) (omega arith) in
+    rw (enough, i, before-mine, getD-append-add prev last (length mine) (idle 0))
     (sym (gain-at last (length mine) (omega arith)))
 
 one-object : (k : ℕ) (ss above : List Scene) → Above k ss above → (o : List Block) (mine : List Scene) (before : Scene) → length mine + length o ≤ k
@@ -50,7 +52,9 @@ one-object k ss above h [] mine before l = rw append-nil
 one-object k ss above h (b ∷ bs) mine before l =
     let s : Scene = resolve before (firstGain (drop (length mine) above)) b in
     let n : length (mine ++ (s ∷ [])) ≡ suc (length mine) = length-append mine (s ∷ []) ∙ omega arith in
-    rw (h mine (omega arith), append-assoc ss mine (s ∷ []), one-object k ss above h bs (mine ++ (s ∷ [])) s (omega arith), n, behind-drop (length mine) above, ← append-assoc ss mine (s ∷ []), append-assoc (ss ++ mine) (s ∷ []) _)
+    let one-more = append-assoc ss mine (s ∷ []) in
+    let others = one-object k ss above h bs (mine ++ (s ∷ [])) s (omega arith) in
+    rw (h mine (omega arith), one-more, others, n, behind-drop (length mine) above, ← one-more, append-assoc (ss ++ mine) (s ∷ []) _)
 
 -- every object has k blocks
 abbrev pub Each : ℕ → List (List Block) → Type 0

@@ -13,7 +13,7 @@ use Rattle.bits.specs.Language.{Bits, P, give, bits, for}
 use Rattle.bits.specs.View.{Reads}
 use Rattle.bits.proofs.Sticky.{Left, done, turns, for-step, for-stop, bind, plain}
 use Rattle.oamd.specs.declared.TrimConfig.{TrimConfig}
-use Rattle.oamd.specs.Tables.{mostObjects, trimFixed, mostTrim}
+use Rattle.oamd.specs.Tables.{mostObjects, perObjectByte, trimFixed, mostTrim}
 use Rattle.oamd.specs.Programme.{set?}
 use Rattle.oamd.specs.Reserved.{WarpMode, GlobalTrimMode, unreserved}
 use Rattle.oamd.specs.Record.{onto}
@@ -53,10 +53,10 @@ absent bytes value n from e f h = record {
   stand = λ front m s. s ∙ sym (ap (λ (t : List ℕ). onto (front ++ t) noTrimBytes) e ∙ not-stored front n (omega arith));
 }
 
--- ---- the loop over a list's entries, each of which takes w bytes
+-- ---- the loop over a list's entries, each of which takes so many bytes
 
-module _ {X : Type 0} (n : ℕ) (f : ℕ → P X) (bytes : List X → List ℕ) (w from : ℕ) (b : Bits) (c : Cur) (l : Limit) (out₀ : List ℕ)
-    (count : (us : List X) → length (bytes us) ≡ w * length us) where
+module _ {X : Type 0} (n : ℕ) (f : ℕ → P X) (bytes : List X → List ℕ) (wide from : ℕ) (b : Bits) (c : Cur) (l : Limit) (out₀ : List ℕ)
+    (count : (us : List X) → length (bytes us) ≡ wide * length us) where
   -- before entry i
   pub record Laying (i : ℕ) (cur : Cur) (out : List ℕ) : Type 0 where
     pub vs : List X
@@ -75,7 +75,7 @@ module _ {X : Type 0} (n : ℕ) (f : ℕ → P X) (bytes : List X → List ℕ) 
   }
 
   module _ {i : ℕ} {cur : Cur} {out : List ℕ} (x : Laying i cur out) where
-    pub one-laid : {v : X} {cur' : Cur} (one : List ℕ) (at k : ℕ) → i < n → ((us : List X) → bytes (us ++ (v ∷ [])) ≡ bytes us ++ one) → at + k ≡ from + w * i
+    pub one-laid : {v : X} {cur' : Cur} (one : List ℕ) (at k : ℕ) → i < n → ((us : List X) → bytes (us ++ (v ∷ [])) ≡ bytes us ++ one) → at + k ≡ from + wide * i
         → at + k + length one ≤ mostTrim → Reads (f i) b cur l v cur' → Laying (i + 1) cur' (setFrom at k one out)
     one-laid {v} one at k h flat place fits r = record {
       vs = x .vs ++ (v ∷ []);
@@ -84,17 +84,17 @@ module _ {X : Type 0} (n : ℕ) (f : ℕ → P X) (bytes : List X → List ℕ) 
       left = for-step n f (λ vs. give vs) i (x .vs) h (x .left) r;
       stand = λ front m s.
           let d = length-append front (bytes (x .vs)) in
-          let e = ap (λ (j : ℕ). w * j) (x .many) in
+          let e = ap (λ (j : ℕ). wide * j) (x .many) in
           ap (setFrom at k one) (x .stand front m s)
           ∙ seam one (front ++ bytes (x .vs)) noTrimBytes at k (omega (arith, count (x .vs))) (omega (arith, length-none))
           ∙ ap (λ (t : List ℕ). onto t noTrimBytes) (append-assoc front (bytes (x .vs)) one ∙ ap (λ (t : List ℕ). front ++ t) (sym (flat (x .vs))));
     }
 
-    pub all-laid : {m : ℕ} → i ≡ n → m ≡ w * n → PartRead (for n f) bytes m from b c l out₀ cur out
+    pub all-laid : {m : ℕ} → i ≡ n → m ≡ wide * n → PartRead (for n f) bytes m from b c l out₀ cur out
     all-laid h e = record {
       value = x .vs;
       reads = done (for-stop n f (λ vs. give vs) i (x .vs) (omega arith) (x .left));
-      long = count (x .vs) ∙ ap (λ (j : ℕ). w * j) (x .many ∙ h) ∙ sym e;
+      long = count (x .vs) ∙ ap (λ (j : ℕ). wide * j) (x .many ∙ h) ∙ sym e;
       size = x .size;
       stand = x .stand;
     }
@@ -112,7 +112,7 @@ count-flags flags = omega arith
 pub trimming : {objects : ℕ} {b : Bits} {c c₁ c₂ c₃ c₄ c₅ d : Cur} {l : Limit} {out out₁ out₂ : List ℕ} {warp reserved mode flagged : ℕ}
     → Reads (unreserved WarpMode) b c l warp c₁ → Reads (bits 2) b c₁ l reserved c₂ → Reads (unreserved GlobalTrimMode) b c₂ l mode c₃
     → ConfigsRead (eqb mode 2) b c₃ l (set (set (set out 0 1) 1 warp) 2 mode) c₄ out₁ → Reads (bits 1) b c₄ l flagged c₅
-    → FlagsRead (set? flagged) objects b c₅ l (set out₁ 93 flagged) d out₂ → TrimRead objects b c l out d out₂
+    → FlagsRead (set? flagged) objects b c₅ l (set out₁ perObjectByte flagged) d out₂ → TrimRead objects b c l out d out₂
 unfolding trim-element trimBytesOf onto
 trimming {out = out} {out₂ = out₂} {warp = warp} {mode = mode} {flagged} r₁ r₂ r₃ cs r₅ fs = record {
   value = value;
@@ -134,9 +134,9 @@ trimming {out = out} {out₂ = out₂} {warp = warp} {mode = mode} {flagged} r�
     stand : out ≡ noTrimBytes → out₂ ≡ onto (trimBytesOf value) noTrimBytes
     stand e =
         let front : List ℕ = head ++ configsBytesOf (cs .value) in
-        let n : length front ≡ 93 = omega (arith, cs .long) in
+        let n : length front ≡ perObjectByte = omega (arith, cs .long) in
         let flags = fs .stand (front ++ (flagged ∷ [])) (length-append front (flagged ∷ []) ∙ omega arith)
-        (ap (λ (t : List ℕ). set t 93 flagged) (cs .stand head refl (begins e)) ∙ seam (flagged ∷ []) front noTrimBytes 93 0 (omega arith) (omega (arith, length-none))) in
+        (ap (λ (t : List ℕ). set t perObjectByte flagged) (cs .stand head refl (begins e)) ∙ seam (flagged ∷ []) front noTrimBytes perObjectByte 0 (omega arith) (omega (arith, length-none))) in
         flags ∙ ap (λ (t : List ℕ). onto (head ++ t) noTrimBytes) (append-assoc (configsBytesOf (cs .value)) (flagged ∷ []) (fs .value))
 
 -- ---- without the element

@@ -17,20 +17,25 @@ use Rattle.bits.specs.View.{Reads}
 use Rattle.bits.specs.Unique.{clean}
 use Rattle.bits.proofs.Sticky.{bind, plain}
 use Rattle.oamd.specs.declared.Programme.{Programme}
+use Rattle.oamd.specs.declared.ReadAnswer.{ReadAnswer}
 use Rattle.oamd.specs.declared.Shares.{Shares}
-use Rattle.oamd.specs.Tables.{mostBytes, mostObjects, recordStride, roomBytes}
+use Rattle.oamd.specs.Tables.{mostBytes, mostObjects, mostBlocks, recordStride}
 use Rattle.oamd.specs.Programme.{program-assignment, agrees, shares}
 use Rattle.oamd.specs.Record.{Record, bytesOf, onto}
 use Rattle.oamd.specs.Trim.{trimOf, trimBytesOf, trimNeeded}
 use Rattle.oamd.specs.Lengths.{length-bytes}
 use Rattle.oamd.specs.Element.{scenes}
-use Rattle.oamd.specs.Payload.{oa-md-version, object-count, oa-element-count, header, object-audio-metadata-payload, timing, records, tables}
-use Rattle.oamd.specs.Answer.{missingOf, refused, acceptedWith, housed, reading}
+use Rattle.oamd.specs.Payload.{Payload, oa-md-version, object-count, oa-element-count, header, object-audio-metadata-payload, timing, records, tables}
+use Rattle.oamd.specs.Answer.{Outcome, missingOf, refused, acceptedWith, housed, reading}
 use Rattle.reader.specs.declared.HeaderStep.{HeaderStep}
 use Rattle.reader.specs.declared.PayloadStep.{PayloadStep}
 use Rattle.reader.specs.declared.StateStep.{StateStep}
-use Rattle.reader.specs.Steps.{HeaderRead, ElementsRead, PayloadRead, wholeOf, startCur}
+use Rattle.reader.specs.Steps.{Buffers, lent, HeaderRead, ElementsRead, PayloadRead, NoRoom, wholeOf, startCur}
 use Rattle.reader.proofs.Gates.{regiven}
+
+-- the cursor at the start
+pub started : {n : ℕ} → n ≡ 0 → record { missing = 0; v = 0; at = record { 0 = n }; no = 0 } ≡ startCur
+started e i = record { missing = 0; v = 0; at = record { 0 = e i }; no = 0 }
 
 -- what stands before the element count
 pub header-read : {b : Bits} {c c₁ c₂ c₃ c₄ c₅ : Cur} {l : Limit} {v n x a : ℕ} {p : Programme} → Reads oa-md-version b c l v c₁ → Reads object-count b c₁ l n c₂
@@ -41,29 +46,30 @@ header-read {p = p} r₁ r₂ r₃ r₄ r₅ few small =
     record { reads = bind r₁ (bind r₂ (bind r₃ (bind (regiven (not (agrees p)) (numberOf Counts) 0 r₄) (bind r₅ plain)))); few = few; bit = small }
 
 -- the whole payload
-pub payload-read : {s out out' table' : List ℕ} {h : HeaderStep} {c₀ c : Cur} {l : Limit} {sh : Shares} {n : ℕ} {r : StateStep} → l ≡ wholeOf s → c₀ ≡ startCur → sh ≡ shares (h .programme)
-    → HeaderRead (bit s) c₀ l h → Reads oa-element-count (bit s) (h .cur) l n c
-    → ElementsRead n (record { objects = h .programme .objects; shares = sh; alternate = h .alternate }) (bit s) c l out r out' table'
-    → length out ≡ roomBytes → PayloadRead s out (record { programme = h .programme; state = r .state; cur = r .cur }) out' table'
+pub payload-read : {s out table : List ℕ} {held' : Buffers} {h : HeaderStep} {c₀ c : Cur} {l : Limit} {sh : Shares} {n : ℕ} {r : StateStep}
+    → length s ≤ mostBytes → l ≡ wholeOf s → c₀ ≡ startCur → sh ≡ shares (h .programme) → HeaderRead (bit s) c₀ l h → Reads oa-element-count (bit s) (h .cur) l n c
+    → ElementsRead n (record { objects = h .programme .objects; shares = sh; alternate = h .alternate }) (bit s) c l (lent out table) r held'
+    → PayloadRead s out (record { programme = h .programme; state = r .state; cur = r .cur }) held'
 unfolding object-audio-metadata-payload
-payload-read {s} {h = h} {c₀} {l = l} {r = r} el ec es x q e m =
-    let u = e .went (h .programme) (refl, sym es) m in
-    let reads = subst₂ (λ (k : Limit) (d : Cur). Reads object-audio-metadata-payload (bit s) d k (record { programme = h .programme; known = u .known; unknown = r .state .unknown }) (r .cur)) el ec
-    (bind (x .reads) (bind q (bind (u .reads) plain))) in
+payload-read {s} {h = h} {r = r} short el ec es head count elements =
+    let u = elements .went (h .programme) (refl, sym es) in
+    let payload : Payload = record { programme = h .programme; known = u .known; unknown = r .state .unknown } in
+    let reads = subst₂ (λ (l : Limit) (c : Cur). Reads object-audio-metadata-payload (bit s) c l payload (r .cur)) el ec
+    (bind (head .reads) (bind count (bind (u .reads) plain))) in
     record {
+      short = short;
       known = u .known;
       reads = reads;
       clean = λ z. clean reads z refl;
       holding = u .holding;
-      size = e .size;
-      width = e .width;
-      few = x .few;
-      little = e .few;
+      sized = elements .sized;
+      few = head .few;
+      little = elements .few;
     }
 
 -- the bytes that are needed are few
-pub small : (a b : ℕ) → a ≤ 159 → b ≤ 8 → a * b ≤ 1272
-small a b h k = let m : a * b ≤ 159 * b = mul-le-mul-right b h in omega arith
+pub small : (objects blocks : ℕ) → objects ≤ mostObjects → blocks ≤ mostBlocks → objects * blocks ≤ mostObjects * mostBlocks
+small objects blocks h k = let m : objects * blocks ≤ mostObjects * blocks = mul-le-mul-right blocks h in omega arith
 
 -- the front of bytes, copied over others
 copied : (front t out other last : List ℕ) (n : ℕ) → length front ≡ n → out ≡ onto front t
@@ -75,51 +81,57 @@ copied front t out other last n e h k = rw (ap (take n) h ∙ take-at front _ n 
 abbrev needOf : PayloadStep → ℕ
 needOf r = recordStride * (r .programme .objects * r .state .timing .blocks)
 
-module _ {s out out' table' : List ℕ} {r : PayloadStep} (x : PayloadRead s out r out' table') where
+module _ {s out : List ℕ} {r : PayloadStep} {held' : Buffers} (x : PayloadRead s out r held') where
   -- the trim table stands in its room
-  pub trim-fits : trimNeeded (r .programme .objects) ≤ length table'
-  trim-fits = omega (arith, x .width, x .few)
+  pub trim-fits : trimNeeded (r .programme .objects) ≤ length (held' .table)
+  trim-fits = omega (arith, x .sized .table, x .few)
 
   module _ (z : r .cur .no ≡ 0) where
     abbrev rs : List Record
     rs = records (scenes (x .known .object)) (x .known .extended)
 
     all-bytes : length (bytesOf rs) ≡ needOf r
-    all-bytes = length-bytes (records (scenes (x .known .object)) (x .known .extended)) ∙ omega (arith, x .holding z .full, x .holding z .many)
+    all-bytes = length-bytes (records (scenes (x .known .object)) (x .known .extended)) ∙ omega (arith, x .holding z .records .full, x .holding z .records .many)
 
     -- the records stand in theirs
-    pub fits : needOf r ≤ length out'
+    pub fits : needOf r ≤ length (held' .out)
     unfolding onto
-    fits = omega (arith, all-bytes, ap length (x .holding z .stand) ∙ length-append (bytesOf rs) _)
+    fits = omega (arith, all-bytes, ap length (x .holding z .records .stand) ∙ length-append (bytesOf rs) _)
+
+-- what is answered for want of room, both buffers as they came
+pub refusing : {needed : ℕ} {r : ReadAnswer} {records records' trim trim' : List ℕ} {o : Outcome} → NoRoom needed r records records' trim trim'
+    → refused records trim (numberOf Room) needed 0 ≡ o → record { answer = r; buffer = records'; trim = trim' } ≡ o
+refusing e h = rw (e .answer, e .same-records, e .same-trim) h
 
 module _ (s buffer trim : List ℕ) where
   pub too-long : mostBytes < length s → refused buffer trim (numberOf TooLong) (length s) 0 ≡ reading s buffer trim
   unfolding reading
   too-long h = simp (lt-leb _ _ h)
 
-  module _ {out out' table' : List ℕ} {r : PayloadStep} (h : length s ≤ mostBytes) (x : PayloadRead s out r out' table') where
+  module _ {out : List ℕ} {r : PayloadStep} {held' : Buffers} (x : PayloadRead s out r held') where
     pub stopped : (r .cur .no ≡ 0 → ⊥) → refused buffer trim (r .cur .no) (r .cur .at .0) (missingOf (r .cur .no) (r .cur .missing)) ≡ reading s buffer trim
     unfolding reading
-    stopped z = rw (le-leb (length s) mostBytes h, ← x .reads .same, ne-eqb (r .cur .no) 0 z)
+    stopped z = rw (le-leb (length s) mostBytes (x .short), ← x .reads .same, ne-eqb (r .cur .no) 0 z)
 
     module _ (z : r .cur .no ≡ 0) where
       pub no-room : length buffer < needOf r → refused buffer trim (numberOf Room) (needOf r) 0 ≡ reading s buffer trim
       unfolding reading housed tables
-      no-room f = rw (le-leb (length s) mostBytes h, ← x .reads .same, z, ← x .holding z .timed, lt-leb _ _ f)
+      no-room f = rw (le-leb (length s) mostBytes (x .short), ← x .reads .same, z, ← x .holding z .records .timed, lt-leb _ _ f)
 
       module _ (f : needOf r ≤ length buffer) where
         pub no-trim-room : length trim < trimNeeded (r .programme .objects)
             → refused buffer trim (numberOf Room) (trimNeeded (r .programme .objects)) 0 ≡ reading s buffer trim
         unfolding reading housed tables
-        no-trim-room g = rw (le-leb (length s) mostBytes h, ← x .reads .same, z, ← x .holding z .timed, le-leb _ _ f, lt-leb _ _ g)
+        no-trim-room g = rw (le-leb (length s) mostBytes (x .short), ← x .reads .same, z, ← x .holding z .records .timed, le-leb _ _ f, lt-leb _ _ g)
 
         pub stored : {first last : List ℕ} → trimNeeded (r .programme .objects) ≤ length trim
-            → (let bytes = take (needOf r) out' in first ≡ take (length bytes) bytes ++ drop (length bytes) buffer)
-            → (let bytes = take (trimNeeded (r .programme .objects)) table' in last ≡ take (length bytes) bytes ++ drop (length bytes) trim)
+            → (let bytes = take (needOf r) (held' .out) in first ≡ take (length bytes) bytes ++ drop (length bytes) buffer)
+            → (let bytes = take (trimNeeded (r .programme .objects)) (held' .table) in last ≡ take (length bytes) bytes ++ drop (length bytes) trim)
             → record { answer = acceptedWith (r .programme) (r .state .timing) (r .state .unknown); buffer = first; trim = last } ≡ reading s buffer trim
         unfolding reading housed tables
         stored {first} {last} g e k =
-            let y = x .holding z in
-            let records-copied = copied (bytesOf (records (scenes (x .known .object)) (x .known .extended))) _ out' buffer first _ (all-bytes x z) (y .stand) e in
-            let trim-copied = copied (trimBytesOf (trimOf (r .programme .objects) (x .known .trim))) _ table' trim last _ (y .trim .long) (y .trim .stand) k in
-            rw (le-leb (length s) mostBytes h, ← x .reads .same, z, ← y .timed, le-leb _ _ f, le-leb _ _ g, records-copied, trim-copied)
+            let element = x .known .trim in
+            let holds = x .holding z in
+            let records-copied = copied (bytesOf (rs x z)) _ (held' .out) buffer first _ (all-bytes x z) (holds .records .stand) e in
+            let trim-copied = copied (trimBytesOf (trimOf (r .programme .objects) element)) _ (held' .table) trim last _ (holds .trim .long) (holds .trim .stand) k in
+            rw (le-leb (length s) mostBytes (x .short), ← x .reads .same, z, ← holds .records .timed, le-leb _ _ f, le-leb _ _ g, records-copied, trim-copied)

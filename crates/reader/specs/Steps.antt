@@ -1,22 +1,27 @@
 -- What each private function of the reader promises.
 use mathlib.Core.Path.{_≡_}
-use mathlib.Core.Bool.{Bool, false}
+use mathlib.Core.Bool.{Bool, true, false, not}
 use mathlib.Core.List.{List, [], _∷_, _++_}
 use mathlib.Core.Option.{Option, none, some}
 use Prim.Native.Nat.{ℕ, _+_, _*_, _≤_, _<_}
 use lib.ListN.{length, replicate}
 use Rattle.bits.specs.declared.Cur.{Cur}
 use Rattle.bits.specs.declared.Limit.{Limit}
+use Rattle.bits.specs.declared.Refusal.the-variants.{Room}
+use Rattle.bits.specs.Refusals.{numberOf}
 use Rattle.bits.specs.Language.{P, Bits, bits, when, each, for, bit}
 use Rattle.bits.specs.View.{Reads}
 use Rattle.oamd.specs.declared.Block.{Block}
 use Rattle.oamd.specs.declared.Divergence.{Divergence}
 use Rattle.oamd.specs.declared.Kind.{Kind}
+use Rattle.oamd.specs.declared.Kind.the-variants.{Unknown, Object, Trim, Extended}
 use Rattle.oamd.specs.declared.Precise.{Precise}
 use Rattle.oamd.specs.declared.Programme.{Programme}
+use Rattle.oamd.specs.declared.ReadAnswer.{ReadAnswer}
 use Rattle.oamd.specs.declared.Scene.{Scene}
 use Rattle.oamd.specs.declared.Shares.{Shares}
-use Rattle.oamd.specs.Tables.{recordStride, roomBytes, mostBlocks, mostObjects, trimConfigs, configBytes, trimFixed, mostTrim}
+use Rattle.oamd.specs.declared.Timing.{Timing}
+use Rattle.oamd.specs.Tables.{mostBytes, recordStride, roomBytes, mostElements, mostBlocks, mostObjects, trimConfigs, configBytes, trimHead, trimFixed, mostTrim}
 use Rattle.oamd.specs.Programme.{shares, classOf}
 use Rattle.oamd.specs.Timing.{MdUpdateInfo, md-update-info, timingOf}
 use Rattle.oamd.specs.ObjectElement.{ObjectElement, object-data, object-element}
@@ -24,8 +29,9 @@ use Rattle.oamd.specs.Extended.{Extension, extended-object-element}
 use Rattle.oamd.specs.Trim.{TrimTable, trim-config, noConfig, trim-element, trimOf, configsBytesOf, trimBytesOf, trimNeeded}
 use Rattle.oamd.specs.Meaning.{allScenes, nothingBefore}
 use Rattle.oamd.specs.Record.{Record, recordOf, carries, allCarry, plainRecords, extendedRecords, bytesOf, onto}
-use Rattle.oamd.specs.Element.{Known, nothing, there, scenes, oa-element, oa-element-md, elements}
+use Rattle.oamd.specs.Element.{headLength, Known, nothing, there, scenes, isSecond, isEarly, fields, readKnown, oa-element, oa-element-md, elements}
 use Rattle.oamd.specs.Payload.{header, object-audio-metadata-payload, timing, records}
+use Rattle.oamd.specs.Answer.{refusedWith}
 use Rattle.reader.specs.declared.TimingStep.{TimingStep}
 use Rattle.reader.specs.declared.Scope.{Scope}
 use Rattle.reader.specs.declared.State.{State}
@@ -135,7 +141,7 @@ pub record PartRead {X : Type 0} (p : P (List X)) (bytes : List X → List ℕ) 
 
 abbrev pub ConfigsRead : Bool → Bits → Cur → Limit → List ℕ → Cur → List ℕ → Type 0
 ConfigsRead on b c l out d out' =
-    PartRead (when on (for trimConfigs (λ cfg. trim-config)) (replicate trimConfigs noConfig)) configsBytesOf (configBytes * trimConfigs) 3 b c l out d out'
+    PartRead (when on (for trimConfigs (λ cfg. trim-config)) (replicate trimConfigs noConfig)) configsBytesOf (configBytes * trimConfigs) trimHead b c l out d out'
 
 abbrev pub FlagsRead : Bool → ℕ → Bits → Cur → Limit → List ℕ → Cur → List ℕ → Type 0
 FlagsRead on n b c l out d out' = PartRead (when on (for n (λ obj. bits 1)) (replicate n 0)) (λ flags. flags) n trimFixed b c l out d out'
@@ -147,66 +153,147 @@ pub record TrimRead (objects : ℕ) (b : Bits) (c : Cur) (l : Limit) (out : List
   pub size : length out' ≡ mostTrim
   pub stand : out ≡ noTrimBytes → out' ≡ onto (trimBytesOf value) noTrimBytes
 
--- ---- the elements
+-- ---- the elements: what has been read of them
 
--- what a flag and the bytes hold of the trim element, read or not
+-- the bytes into which the elements are laid out: the records, and the trim table
+pub record Buffers : Type 0 where
+  pub out : List ℕ
+  pub table : List ℕ
+
+abbrev pub lent : List ℕ → List ℕ → Buffers
+lent out table = record { out = out; table = table }
+
+-- each is as long as it is lent
+pub record Sized (held : Buffers) : Type 0 where
+  pub out : length (held .out) ≡ roomBytes
+  pub table : length (held .table) ≡ mostTrim
+
+-- the state with one part of it anew: an updater for each kind, and the only places that name all parts
+abbrev pub objectSeen : Timing → State → State
+objectSeen tm st = record { timing = tm; object = true; trim = st .trim; extended = st .extended; unknown = st .unknown }
+
+abbrev pub trimSeen : State → State
+trimSeen st = record { timing = st .timing; object = st .object; trim = true; extended = st .extended; unknown = st .unknown }
+
+abbrev pub extendedSeen : State → State
+extendedSeen st = record { timing = st .timing; object = st .object; trim = st .trim; extended = true; unknown = st .unknown }
+
+abbrev pub unknownSeen : State → State
+unknownSeen st = record { timing = st .timing; object = st .object; trim = st .trim; extended = st .extended; unknown = st .unknown + 1 }
+
+-- a known element whose kind has been read already, and one that comes too early, as the state tells it
+abbrev pub seen : Kind → State → Bool
+seen Unknown st = false
+seen Object st = st .object
+seen Trim st = st .trim
+seen Extended st = st .extended
+
+abbrev pub tooEarly : Kind → State → Bool
+tooEarly Unknown st = false
+tooEarly Object st = false
+tooEarly Trim st = false
+tooEarly Extended st = not (st .object)
+
+-- what a part of the state and the bytes hold of the object element and of the extended one, read or not, which stand in the same records
+pub record RecordsHeld (objects : ℕ) (object : Option ObjectElement) (extended : Option Extension) (t : List ℕ) (tm : Timing) (objectRead extendedRead : Bool) (out : List ℕ) : Type 0 where
+  pub object-told : objectRead ≡ there object
+  pub extended-told : extendedRead ≡ there extended
+  pub ordered : object ≡ none → extended ≡ none
+  pub timed : tm ≡ timing object
+  pub many : length (scenes object) ≡ objects * tm .blocks
+  pub full : length (records (scenes object) extended) ≡ length (scenes object)
+  pub stand : out ≡ onto (bytesOf (records (scenes object) extended)) t
+
+-- the same of the trim element
 pub record TrimHeld (objects : ℕ) (element : Option TrimTable) (read : Bool) (table : List ℕ) : Type 0 where
   pub told : read ≡ there element
   pub long : length (trimBytesOf (trimOf objects element)) ≡ trimNeeded objects
   pub stand : table ≡ onto (trimBytesOf (trimOf objects element)) noTrimBytes
 
--- what the state and the bytes hold of the known elements that have been read
-pub record Holding (objects : ℕ) (known : Known) (t : List ℕ) (st : State) (out table : List ℕ) : Type 0 where
-  pub object : st .object ≡ there (known .object)
-  pub extended : st .extended ≡ there (known .extended)
-  pub ordered : known .object ≡ none → known .extended ≡ none
-  pub timed : st .timing ≡ timing (known .object)
-  pub many : length (scenes (known .object)) ≡ objects * st .timing .blocks
-  pub full : length (records (scenes (known .object)) (known .extended)) ≡ length (scenes (known .object))
-  pub stand : out ≡ onto (bytesOf (records (scenes (known .object)) (known .extended))) t
-  pub trim : TrimHeld objects (known .trim) (st .trim) table
+-- of all known elements
+pub record Holding (objects : ℕ) (known : Known) (t : List ℕ) (st : State) (held : Buffers) : Type 0 where
+  pub records : RecordsHeld objects (known .object) (known .extended) t (st .timing) (st .object) (st .extended) (held .out)
+  pub trim : TrimHeld objects (known .trim) (st .trim) (held .table)
+
+-- ---- the elements: reading one, and all
+
+-- what is asked where elements are read
+pub record Ready (scope : Scope) (held : Buffers) : Type 0 where
+  pub objects : scope .objects ≤ mostObjects
+  pub alternate : scope .alternate < 2
+  pub sized : Sized held
+
+-- the same with a state
+pub record Underway (scope : Scope) (st : State) (held : Buffers) : Type 0 where
+  pub ready : Ready scope held
+  pub blocks : st .timing .blocks ≤ mostBlocks
+  pub unknown : st .unknown < 255
+
+-- before the first element
+pub record Beginning (n : ℕ) (scope : Scope) (held : Buffers) : Type 0 where
+  pub ready : Ready scope held
+  pub few : n ≤ mostElements
+  pub empty : held .table ≡ noTrimBytes
+
+-- the bits of an element's head behind its size
+pub record HeadLength (alternate n : ℕ) : Type 0 where
+  pub is : n ≡ headLength alternate
+  pub few : n ≤ 5
 
 -- a state of the definition: the known elements, and the count that the code's state holds
 abbrev pub stateOf : Known → ℕ → Rattle.oamd.specs.Element.State
 stateOf known unknown = record { known = known; unknown = unknown }
 
--- what reading p from a state gives
-pub record Went-on (w : Scope) (p : P Rattle.oamd.specs.Element.State) (b : Bits) (c : Cur) (l : Limit) (t : List ℕ) (r : StateStep) (out' table' : List ℕ) : Type 0 where
-  pub known : Known
-  pub reads : Reads p b c l (stateOf known (r .state .unknown)) (r .cur)
-  pub holding : r .cur .no ≡ 0 → Holding (w .objects) known t (r .state) out' table'
-
 -- the programme by which the elements are read
 abbrev pub Scoped : Programme → Scope → Type 0
-Scoped p w = (p .objects ≡ w .objects) × (shares p ≡ w .shares)
+Scoped p scope = (p .objects ≡ scope .objects) × (shares p ≡ scope .shares)
+
+-- what reading the fields of a known element gives
+pub record Fielded (scope : Scope) (p : P Known) (b : Bits) (c : Cur) (l : Limit) (t : List ℕ) (r : StateStep) (held' : Buffers) : Type 0 where
+  pub known : Known
+  pub reads : Reads p b c l known (r .cur)
+  pub holding : r .cur .no ≡ 0 → Holding (scope .objects) known t (r .state) held'
+
+-- what a function promises that reads them, whatever has been read so far, where an element of this kind may come
+pub record FieldsRead (k : Kind) (scope : Scope) (st : State) (b : Bits) (c : Cur) (l : Limit) (held : Buffers) (r : StateStep) (held' : Buffers) : Type 0 where
+  pub sized : Sized held'
+  pub few : r .state .timing .blocks ≤ mostBlocks
+  pub same : r .state .unknown ≡ st .unknown
+  pub went : (q : Programme) (known : Known) (t : List ℕ) → Scoped q scope → isSecond k known ≡ false → isEarly k known ≡ false
+      → Holding (scope .objects) known t st held → Fielded scope (fields q k known) b c l t r held'
+
+-- what reading p from a state gives
+pub record Went-on (scope : Scope) (p : P Rattle.oamd.specs.Element.State) (b : Bits) (c : Cur) (l : Limit) (t : List ℕ) (r : StateStep) (held' : Buffers) : Type 0 where
+  pub known : Known
+  pub reads : Reads p b c l (stateOf known (r .state .unknown)) (r .cur)
+  pub holding : r .cur .no ≡ 0 → Holding (scope .objects) known t (r .state) held'
+
+-- what reads a state from a state
+abbrev pub Onward : Type 1
+Onward = Programme → Rattle.oamd.specs.Element.State → P Rattle.oamd.specs.Element.State
 
 -- what a function promises that reads p from a state, whatever has been read so far
-pub record Goes-on (w : Scope) (st : State) (p : Programme → Rattle.oamd.specs.Element.State → P Rattle.oamd.specs.Element.State) (b : Bits) (c : Cur) (l : Limit) (out table : List ℕ) (r : StateStep) (out' table' : List ℕ) : Type 0 where
-  pub size : length out' ≡ roomBytes
-  pub width : length table' ≡ mostTrim
+pub record Goes-on (scope : Scope) (st : State) (p : Onward) (b : Bits) (c : Cur) (l : Limit) (held : Buffers) (r : StateStep) (held' : Buffers) : Type 0 where
+  pub sized : Sized held'
   pub few : r .state .timing .blocks ≤ mostBlocks
   pub next : r .state .unknown ≤ st .unknown + 1
-  pub went : (q : Programme) (known : Known) (t : List ℕ) → Scoped q w → length t ≡ roomBytes → (c .no ≡ 0 → Holding (w .objects) known t st out table)
-      → Went-on w (p q (stateOf known (st .unknown))) b c l t r out' table'
+  pub went : (q : Programme) (known : Known) (t : List ℕ) → Scoped q scope → (c .no ≡ 0 → Holding (scope .objects) known t st held)
+      → Went-on scope (p q (stateOf known (st .unknown))) b c l t r held'
 
-abbrev pub BodyRead : Kind → ℕ → Scope → State → Bits → Cur → Limit → List ℕ → List ℕ → StateStep → List ℕ → List ℕ → Type 0
-BodyRead k back w st b c l out table r out' table' = Goes-on w st (λ q s. oa-element q back s k) b c l out table r out' table'
+-- a known element, an element of any kind, and an element with its frame
+abbrev pub KnownRead : Kind → ℕ → Scope → State → Bits → Cur → Limit → Buffers → StateStep → Buffers → Type 0
+KnownRead k back scope st b c l held r held' = Goes-on scope st (λ q s. readKnown q back s k) b c l held r held'
 
--- the same of an element that gives nothing to the trim table, whatever stands there, and of one that gives nothing to the records
-abbrev pub RecordsBody : Kind → ℕ → Scope → State → Bits → Cur → Limit → List ℕ → StateStep → List ℕ → Type 0
-RecordsBody k back w st b c l out r out' = (table : List ℕ) → length table ≡ mostTrim → BodyRead k back w st b c l out table r out' table
+abbrev pub BodyRead : Kind → ℕ → Scope → State → Bits → Cur → Limit → Buffers → StateStep → Buffers → Type 0
+BodyRead k back scope st b c l held r held' = Goes-on scope st (λ q s. oa-element q back s k) b c l held r held'
 
-abbrev pub TableBody : Kind → ℕ → Scope → State → Bits → Cur → Limit → List ℕ → StateStep → List ℕ → Type 0
-TableBody k back w st b c l table r table' = (out : List ℕ) → length out ≡ roomBytes → BodyRead k back w st b c l out table r out table'
+abbrev pub OneRead : Scope → State → Bits → Cur → Limit → Buffers → StateStep → Buffers → Type 0
+OneRead scope st b c l held r held' = Goes-on scope st (λ q s. oa-element-md q (scope .alternate) s) b c l held r held'
 
-abbrev pub OneRead : Scope → State → Bits → Cur → Limit → List ℕ → List ℕ → StateStep → List ℕ → List ℕ → Type 0
-OneRead w st b c l out table r out' table' = Goes-on w st (λ q s. oa-element-md q (w .alternate) s) b c l out table r out' table'
-
-pub record ElementsRead (n : ℕ) (w : Scope) (b : Bits) (c : Cur) (l : Limit) (out : List ℕ) (r : StateStep) (out' table' : List ℕ) : Type 0 where
-  pub size : length out' ≡ roomBytes
-  pub width : length table' ≡ mostTrim
+pub record ElementsRead (n : ℕ) (scope : Scope) (b : Bits) (c : Cur) (l : Limit) (held : Buffers) (r : StateStep) (held' : Buffers) : Type 0 where
+  pub sized : Sized held'
   pub few : r .state .timing .blocks ≤ mostBlocks
-  pub went : (q : Programme) → Scoped q w → length out ≡ roomBytes → Went-on w (elements q (w .alternate) n (stateOf nothing 0)) b c l out r out' table'
+  pub went : (q : Programme) → Scoped q scope → Went-on scope (elements q (scope .alternate) n (stateOf nothing 0)) b c l (held .out) r held'
 
 -- ---- the payload
 
@@ -216,18 +303,32 @@ wholeOf s = record { end = record { 0 = 8 * length s }; inner = false }
 abbrev pub startCur : Cur
 startCur = record { missing = 0; v = 0; at = record { 0 = 0 }; no = 0 }
 
+-- what is asked of a payload and of the buffers
+pub record Opening (s : List ℕ) (held : Buffers) : Type 0 where
+  pub short : length s ≤ mostBytes
+  pub sized : Sized held
+  pub empty : held .table ≡ noTrimBytes
+
 pub record HeaderRead (b : Bits) (c : Cur) (l : Limit) (r : HeaderStep) : Type 0 where
   pub reads : Reads header b c l (record { programme = r .programme; alternate = r .alternate }) (r .cur)
   pub few : r .programme .objects ≤ mostObjects
   pub bit : r .alternate < 2
 
-pub record PayloadRead (s out : List ℕ) (r : PayloadStep) (out' table' : List ℕ) : Type 0 where
+pub record PayloadRead (s out : List ℕ) (r : PayloadStep) (held' : Buffers) : Type 0 where
+  pub short : length s ≤ mostBytes
   pub known : Known
   pub reads : Reads object-audio-metadata-payload (bit s) startCur (wholeOf s)
       (record { programme = r .programme; known = known; unknown = r .state .unknown }) (r .cur)
   pub clean : r .cur .no ≡ 0 → r .cur .missing ≡ 0
-  pub holding : r .cur .no ≡ 0 → Holding (r .programme .objects) known out (r .state) out' table'
-  pub size : length out' ≡ roomBytes
-  pub width : length table' ≡ mostTrim
+  pub holding : r .cur .no ≡ 0 → Holding (r .programme .objects) known out (r .state) held'
+  pub sized : Sized held'
   pub few : r .programme .objects ≤ mostObjects
   pub little : r .state .timing .blocks ≤ mostBlocks
+
+-- ---- the answers
+
+-- refused for want of room: both lent buffers are as they came
+pub record NoRoom (needed : ℕ) (r : ReadAnswer) (records records' trim trim' : List ℕ) : Type 0 where
+  pub answer : r ≡ refusedWith (numberOf Room) needed 0
+  pub same-records : records' ≡ records
+  pub same-trim : trim' ≡ trim

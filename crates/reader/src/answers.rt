@@ -1,9 +1,11 @@
 // What is answered.
 ghost use mathlib.Core.Path.{_≡_};
-ghost use Rattle.bits.specs.declared.Refusal.the-variants.{Room};
 ghost use Rattle.bits.specs.Refusals.{numberOf};
 ghost use Rattle.oamd.specs.Answer.{missingOf, refusedWith, acceptedWith};
+ghost use Rattle.reader.specs.Steps.{NoRoom};
+use bits::Refusal;
 use oamd::Bed;
+use oamd::MOST_BEDS;
 use oamd::Programme;
 use oamd::ReadAnswer;
 use oamd::Timing;
@@ -12,7 +14,7 @@ use oamd::Timing;
 pub fn missing_bits(refusal: u8, missing: u64) -> u32
     ensures { λ r. ⌜ r ≡ missingOf refusal missing ⌝ }
 {
-    if refusal != 2 {
+    if refusal != bits::number(Refusal::EndsEarly) {
         return 0;
     }
     if 4294967295 < missing {
@@ -41,7 +43,7 @@ pub fn refused(refusal: u8, place: u64, missing: u32) -> ReadAnswer
         bedcount: 0,
         isf: 0,
         dynamics: 0,
-        beds: [bed; 9],
+        beds: [bed; MOST_BEDS],
     };
     let timing = meaning::no_timing();
     ReadAnswer {
@@ -54,13 +56,18 @@ pub fn refused(refusal: u8, place: u64, missing: u32) -> ReadAnswer
     }
 }
 
+// A refusal by its name, with no bits missing.
+pub fn refused_with(refusal: Refusal, place: u64) -> ReadAnswer
+    ensures { λ r. ⌜ r ≡ refusedWith (numberOf refusal) place 0 ⌝ }
+{
+    refused(bits::number(refusal), place, 0)
+}
+
 // Refusal 9, with the bytes that are needed: both lent buffers stay as they came.
 pub fn no_room(needed: usize, records: &mut [u8], trim: &mut [u8]) -> ReadAnswer
-    ensures { λ r. ⌜ r ≡ refusedWith (numberOf Room) needed 0 ⌝ }
-    ensures { λ r. ⌜ now (records .exit) ≡ now (records .entry) ⌝ }
-    ensures { λ r. ⌜ now (trim .exit) ≡ now (trim .entry) ⌝ }
+    ensures { λ r. ⌜ NoRoom needed r (now (records .entry)) (now (records .exit)) (now (trim .entry)) (now (trim .exit)) ⌝ }
 {
-    refused(9, needed as u64, 0)
+    refused_with(Refusal::Room, needed as u64)
 }
 
 pub fn accepted(programme: Programme, timing: Timing, unknown: u8) -> ReadAnswer

@@ -1,17 +1,10 @@
 // One element after the other (5.5.4).
 ghost use mathlib.Core.Path.{_≡_};
-ghost use Prim.Native.Nat.{_+_, _≤_, _<_};
-ghost use lib.ListN.{length};
 ghost use Rattle.bits.specs.Language.{bit};
-ghost use Rattle.oamd.specs.Element.{headLength};
-ghost use Rattle.oamd.specs.Tables.{mostElements, mostObjects, mostBlocks, roomBytes, mostTrim};
-ghost use Rattle.reader.specs.Layout.{noTrimBytes};
-ghost use Rattle.reader.specs.Steps.{BodyRead, RecordsBody, TableBody, OneRead, ElementsRead};
-use crate::ROOM;
+ghost use Rattle.reader.specs.Steps.{lent, seen, tooEarly, HeadLength, Underway, Beginning, FieldsRead, KnownRead, BodyRead, OneRead, ElementsRead};
 use crate::Scope;
 use crate::State;
 use crate::StateStep;
-use crate::TRIM;
 use crate::extended::read_extended;
 use crate::objects::read_object_element;
 use crate::trim::read_trim;
@@ -19,148 +12,128 @@ use bits::Cur;
 use bits::Limit;
 use bits::Refusal;
 use oamd::Kind;
+use oamd::MOST_TRIM;
+use oamd::ROOM_BYTES;
 use units::ByteCount;
 
-// An object element behind its discard flag, back bits behind the first of its id.
-fn read_first_object(
-    s: &[u8],
-    l: Limit,
-    c: Cur,
-    w: Scope,
-    st: State,
-    back: u32,
-    out: &mut [u8; ROOM],
-) -> StateStep
-    requires { ⌜ (w .objects ≤ mostObjects) × (st .timing .blocks ≤ mostBlocks) × (length (now out) ≡ roomBytes) ⌝ }
-    ensures { λ r. ⌜ RecordsBody Kind.Object back w st (bit (now (s .entry))) c l (now (out .entry)) r (now (out .exit)) ⌝ }
+// ---- what a further kind of element adds a line to
+
+// Whether an element of a kind has been read.
+fn is_second(kind: Kind, st: State) -> bool
+    ensures { λ r. ⌜ r ≡ seen kind st ⌝ }
 {
-    let first = bits::refuse_if(st.object, s, l, c, Refusal::Second, back);
-    if first.no != 0 {
-        return StateStep {
-            state: st,
-            cur: first,
-        };
-    }
-    let step = read_object_element(s, l, first, w, out);
-    let timing = step.timing;
-    let cur = step.cur;
-    StateStep {
-        state: State {
-            timing,
-            object: true,
-            trim: st.trim,
-            extended: st.extended,
-            unknown: st.unknown,
-        },
-        cur,
+    match kind {
+        Kind::Unknown => false,
+        Kind::Object => st.object,
+        Kind::Trim => st.trim,
+        Kind::Extended => st.extended,
     }
 }
 
-// A trim element behind its discard flag.
-fn read_first_trim(
-    s: &[u8],
-    l: Limit,
-    c: Cur,
-    w: Scope,
-    st: State,
-    back: u32,
-    table: &mut [u8; TRIM],
-) -> StateStep
-    requires { ⌜ (w .objects ≤ mostObjects) × (st .timing .blocks ≤ mostBlocks) × (length (now table) ≡ mostTrim) ⌝ }
-    ensures { λ r. ⌜ TableBody Kind.Trim back w st (bit (now (s .entry))) c l (now (table .entry)) r (now (table .exit)) ⌝ }
+// Whether one that must stand before it has not been read.
+fn is_early(kind: Kind, st: State) -> bool
+    ensures { λ r. ⌜ r ≡ tooEarly kind st ⌝ }
 {
-    let first = bits::refuse_if(st.trim, s, l, c, Refusal::Second, back);
-    if first.no != 0 {
-        return StateStep {
-            state: st,
-            cur: first,
-        };
-    }
-    let timing = st.timing;
-    let cur = read_trim(s, l, first, w.objects, table);
-    StateStep {
-        state: State {
-            timing,
-            object: st.object,
-            trim: true,
-            extended: st.extended,
-            unknown: st.unknown,
-        },
-        cur,
+    match kind {
+        Kind::Unknown => false,
+        Kind::Object => false,
+        Kind::Trim => false,
+        Kind::Extended => !st.object,
     }
 }
 
-// An extended element behind its discard flag.
-fn read_first_extended(
+// The fields of a known element: into the state, and into the buffer that takes them.
+fn read_fields(
     s: &[u8],
     l: Limit,
     c: Cur,
-    w: Scope,
+    scope: Scope,
     st: State,
-    back: u32,
-    out: &mut [u8; ROOM],
+    kind: Kind,
+    out: &mut [u8; ROOM_BYTES],
+    table: &mut [u8; MOST_TRIM],
 ) -> StateStep
-    requires { ⌜ (w .objects ≤ mostObjects) × (st .timing .blocks ≤ mostBlocks) × (length (now out) ≡ roomBytes) ⌝ }
-    ensures { λ r. ⌜ RecordsBody Kind.Extended back w st (bit (now (s .entry))) c l (now (out .entry)) r (now (out .exit)) ⌝ }
+    requires { ⌜ Underway scope st (lent (now out) (now table)) ⌝ }
+    ensures { λ r. ⌜ FieldsRead kind scope st (bit (now (s .entry))) c l (lent (now (out .entry)) (now (table .entry))) r (lent (now (out .exit)) (now (table .exit))) ⌝ }
 {
-    let first = bits::refuse_if(st.extended, s, l, c, Refusal::Second, back);
-    let timely = bits::refuse_if(!st.object, s, l, first, Refusal::Early, back);
+    let mut state = st;
+    let mut cur = c;
+    match kind {
+        Kind::Unknown => {}
+        Kind::Object => {
+            let step = read_object_element(s, l, c, scope, out);
+            let timing = step.timing;
+            state.timing = timing;
+            state.object = true;
+            cur = step.cur;
+        }
+        Kind::Trim => {
+            cur = read_trim(s, l, c, scope.objects, table);
+            state.trim = true;
+        }
+        Kind::Extended => {
+            let timing = st.timing;
+            cur = read_extended(s, l, c, scope.objects * timing.blocks as usize, out);
+            state.extended = true;
+        }
+    }
+    StateStep { state, cur }
+}
+
+// ---- the same for every kind
+
+// A known element behind its discard flag, back bits behind the first of its id.
+fn read_known(
+    s: &[u8],
+    l: Limit,
+    c: Cur,
+    scope: Scope,
+    st: State,
+    kind: Kind,
+    back: u32,
+    out: &mut [u8; ROOM_BYTES],
+    table: &mut [u8; MOST_TRIM],
+) -> StateStep
+    requires { ⌜ Underway scope st (lent (now out) (now table)) ⌝ }
+    ensures { λ r. ⌜ KnownRead kind back scope st (bit (now (s .entry))) c l (lent (now (out .entry)) (now (table .entry))) r (lent (now (out .exit)) (now (table .exit))) ⌝ }
+{
+    let first = bits::refuse_if(is_second(kind, st), s, l, c, Refusal::Second, back);
+    let timely = bits::refuse_if(is_early(kind, st), s, l, first, Refusal::Early, back);
     if timely.no != 0 {
         return StateStep {
             state: st,
             cur: timely,
         };
     }
-    let timing = st.timing;
-    let cur = read_extended(s, l, timely, w.objects * timing.blocks as usize, out);
-    StateStep {
-        state: State {
-            timing,
-            object: true,
-            trim: st.trim,
-            extended: true,
-            unknown: st.unknown,
-        },
-        cur,
-    }
+    read_fields(s, l, timely, scope, st, kind, out, table)
 }
 
-// An element behind its discard flag, by its kind.
+// An element behind its discard flag: an unknown one is passed over and counted.
 fn read_body(
     s: &[u8],
     l: Limit,
     c: Cur,
-    w: Scope,
+    scope: Scope,
     st: State,
     kind: Kind,
     back: u32,
-    out: &mut [u8; ROOM],
-    table: &mut [u8; TRIM],
+    out: &mut [u8; ROOM_BYTES],
+    table: &mut [u8; MOST_TRIM],
 ) -> StateStep
-    requires { ⌜ (w .objects ≤ mostObjects) × (st .timing .blocks ≤ mostBlocks) × (st .unknown < 255) × (length (now out) ≡ roomBytes) × (length (now table) ≡ mostTrim) ⌝ }
-    ensures { λ r. ⌜ BodyRead kind back w st (bit (now (s .entry))) c l (now (out .entry)) (now (table .entry)) r (now (out .exit)) (now (table .exit)) ⌝ }
+    requires { ⌜ Underway scope st (lent (now out) (now table)) ⌝ }
+    ensures { λ r. ⌜ BodyRead kind back scope st (bit (now (s .entry))) c l (lent (now (out .entry)) (now (table .entry))) r (lent (now (out .exit)) (now (table .exit))) ⌝ }
 {
-    let timing = st.timing;
-    match kind {
-        Kind::Unknown => StateStep {
-            state: State {
-                timing,
-                object: st.object,
-                trim: st.trim,
-                extended: st.extended,
-                unknown: st.unknown + 1,
-            },
-            cur: c,
-        },
-        Kind::Object => read_first_object(s, l, c, w, st, back, out),
-        Kind::Trim => read_first_trim(s, l, c, w, st, back, table),
-        Kind::Extended => read_first_extended(s, l, c, w, st, back, out),
+    if let Kind::Unknown = kind {
+        let mut state = st;
+        state.unknown = st.unknown + 1;
+        return StateStep { state, cur: c };
     }
+    read_known(s, l, c, scope, st, kind, back, out, table)
 }
 
 // The bits that the alternate id, where there is one, and the discard flag take.
 fn head_bits(alternate: u32) -> u32
-    ensures { λ r. ⌜ (r ≡ headLength alternate) × (r ≤ 5) ⌝ }
+    ensures { λ r. ⌜ HeadLength alternate r ⌝ }
 {
     if alternate == 1 { 5 } else { 1 }
 }
@@ -170,13 +143,13 @@ fn read_element(
     s: &[u8],
     l: Limit,
     c: Cur,
-    w: Scope,
+    scope: Scope,
     st: State,
-    out: &mut [u8; ROOM],
-    table: &mut [u8; TRIM],
+    out: &mut [u8; ROOM_BYTES],
+    table: &mut [u8; MOST_TRIM],
 ) -> StateStep
-    requires { ⌜ (w .objects ≤ mostObjects) × (w .alternate < 2) × (st .timing .blocks ≤ mostBlocks) × (st .unknown < 255) × (length (now out) ≡ roomBytes) × (length (now table) ≡ mostTrim) ⌝ }
-    ensures { λ r. ⌜ OneRead w st (bit (now (s .entry))) c l (now (out .entry)) (now (table .entry)) r (now (out .exit)) (now (table .exit)) ⌝ }
+    requires { ⌜ Underway scope st (lent (now out) (now table)) ⌝ }
+    ensures { λ r. ⌜ OneRead scope st (bit (now (s .entry))) c l (lent (now (out .entry)) (now (table .entry))) r (lent (now (out .exit)) (now (table .exit))) ⌝ }
 {
     let id = bits::take(s, l, c, 4);
     let step = bits::read_size(s, l, id);
@@ -186,11 +159,11 @@ fn read_element(
     let counted = 5 * size.groups;
     let begun = bits::open(l, sized, length, counted);
     let held = bits::inner_of(l, sized, length);
-    let other = bits::take_if(w.alternate == 1, s, held, begun, 4);
+    let other = bits::take_if(scope.alternate == 1, s, held, begun, 4);
     let discard = bits::take(s, held, other, 1);
     let kind = oamd::kind_of(id.v, other.v);
-    let back = 4 + counted + head_bits(w.alternate);
-    let body = read_body(s, held, discard, w, st, kind, back, out, table);
+    let back = 4 + counted + head_bits(scope.alternate);
+    let body = read_body(s, held, discard, scope, st, kind, back, out, table);
     let state = body.state;
     let inside = body.cur;
     StateStep {
@@ -204,13 +177,13 @@ pub fn read_elements(
     s: &[u8],
     l: Limit,
     c: Cur,
-    w: Scope,
+    scope: Scope,
     n: u32,
-    out: &mut [u8; ROOM],
-    table: &mut [u8; TRIM],
+    out: &mut [u8; ROOM_BYTES],
+    table: &mut [u8; MOST_TRIM],
 ) -> StateStep
-    requires { ⌜ (w .objects ≤ mostObjects) × (w .alternate < 2) × (n ≤ mostElements) × (length (now out) ≡ roomBytes) × (now table ≡ noTrimBytes) ⌝ }
-    ensures { λ r. ⌜ ElementsRead n w (bit (now (s .entry))) c l (now (out .entry)) r (now (out .exit)) (now (table .exit)) ⌝ }
+    requires { ⌜ Beginning n scope (lent (now out) (now table)) ⌝ }
+    ensures { λ r. ⌜ ElementsRead n scope (bit (now (s .entry))) c l (lent (now (out .entry)) (now (table .entry))) r (lent (now (out .exit)) (now (table .exit))) ⌝ }
 {
     let timing = meaning::no_timing();
     let mut state = State {
@@ -226,7 +199,7 @@ pub fn read_elements(
         if cur.no != 0 {
             return StateStep { state, cur };
         }
-        let step = read_element(s, l, cur, w, state, out, table);
+        let step = read_element(s, l, cur, scope, state, out, table);
         state = step.state;
         cur = step.cur;
         i = i + 1;

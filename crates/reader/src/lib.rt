@@ -2,9 +2,13 @@
 ghost use mathlib.Core.Path.{_≡_};
 ghost use Rattle.oamd.specs.Answer.{reading};
 use bits::Cur;
+use bits::Refusal;
+use oamd::MOST_BYTES;
 use oamd::Programme;
+use oamd::RECORD_STRIDE;
 use oamd::ReadAnswer;
 use oamd::Shares;
+use oamd::TRIM_FIXED;
 use oamd::Timing;
 
 mod timing; // timing.rt: starts and ramps of all blocks
@@ -15,18 +19,6 @@ mod trim; // trim.rt: the trim element
 mod element; // element.rt: one element after the other
 mod payload; // payload.rt: the whole payload
 mod answers; // answers.rt: what is answered
-
-// Room for the records of every payload.
-const ROOM: usize = 30720;
-
-// From one record to the next.
-const STRIDE: usize = 24;
-
-// Room for the trim table of every payload.
-const TRIM: usize = 253;
-
-// The bytes of the trim table before the flags of the objects.
-const TRIM_FIXED: usize = 94;
 
 pub struct TimingStep {
     pub timing: Timing,
@@ -71,8 +63,8 @@ pub fn read(payload: &[u8], records: &mut [u8], trim: &mut [u8]) -> ReadAnswer
     ensures { λ r. ⌜ (record { answer = r; buffer = now (records .exit); trim = now (trim .exit) }) ≡ reading (now (payload .entry)) (now (records .entry)) (now (trim .entry)) ⌝ }
 {
     let len = payload.len();
-    if 4096 < len {
-        return answers::refused(1, len as u64, 0);
+    if MOST_BYTES < len {
+        return answers::refused_with(Refusal::TooLong, len as u64);
     }
     let mut scratch = layout::no_records();
     let mut table = trim::no_trim();
@@ -85,7 +77,7 @@ pub fn read(payload: &[u8], records: &mut [u8], trim: &mut [u8]) -> ReadAnswer
     let programme = step.programme;
     let state = step.state;
     let timing = state.timing;
-    let need = STRIDE * (programme.objects as usize * timing.blocks as usize);
+    let need = RECORD_STRIDE * (programme.objects as usize * timing.blocks as usize);
     if records.len() < need {
         return answers::no_room(need, records, trim);
     }

@@ -3,18 +3,17 @@ ghost use mathlib.Core.Path.{_≡_};
 ghost use Prim.Native.Nat.{_≤_};
 ghost use lib.ListN.{length};
 ghost use Rattle.bits.specs.Language.{bit};
-ghost use Rattle.oamd.specs.Tables.{mostBytes, roomBytes};
-ghost use Rattle.reader.specs.Layout.{noTrimBytes};
-ghost use Rattle.reader.specs.Steps.{wholeOf, HeaderRead, PayloadRead};
+ghost use Rattle.oamd.specs.Tables.{mostBytes};
+ghost use Rattle.reader.specs.Steps.{lent, wholeOf, Opening, HeaderRead, PayloadRead};
 use crate::HeaderStep;
 use crate::PayloadStep;
-use crate::ROOM;
 use crate::Scope;
-use crate::TRIM;
 use crate::element::read_elements;
 use bits::Cur;
 use bits::Limit;
 use bits::Refusal;
+use oamd::MOST_TRIM;
+use oamd::ROOM_BYTES;
 use units::BitPos;
 use units::ByteCount;
 
@@ -54,9 +53,13 @@ fn limit_of(s: &[u8]) -> Limit
     }
 }
 
-pub fn read_payload(s: &[u8], out: &mut [u8; ROOM], table: &mut [u8; TRIM]) -> PayloadStep
-    requires { ⌜ (length (now s) ≤ mostBytes) × (length (now out) ≡ roomBytes) × (now table ≡ noTrimBytes) ⌝ }
-    ensures { λ r. ⌜ PayloadRead (now (s .entry)) (now (out .entry)) r (now (out .exit)) (now (table .exit)) ⌝ }
+pub fn read_payload(
+    s: &[u8],
+    out: &mut [u8; ROOM_BYTES],
+    table: &mut [u8; MOST_TRIM],
+) -> PayloadStep
+    requires { ⌜ Opening (now s) (lent (now out) (now table)) ⌝ }
+    ensures { λ r. ⌜ PayloadRead (now (s .entry)) (now (out .entry)) r (lent (now (out .exit)) (now (table .exit))) ⌝ }
 {
     let l = limit_of(s);
     let c = Cur {
@@ -68,12 +71,12 @@ pub fn read_payload(s: &[u8], out: &mut [u8; ROOM], table: &mut [u8; TRIM]) -> P
     let head = read_header(s, l, c);
     let programme = head.programme;
     let count = syntax::read_element_count(s, l, head.cur);
-    let w = Scope {
+    let scope = Scope {
         objects: programme.objects as usize,
         shares: meaning::shares(programme),
         alternate: head.alternate,
     };
-    let step = read_elements(s, l, count, w, count.v, out, table);
+    let step = read_elements(s, l, count, scope, count.v, out, table);
     let state = step.state;
     let cur = step.cur;
     PayloadStep {

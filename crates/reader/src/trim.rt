@@ -8,69 +8,73 @@ ghost use Rattle.oamd.specs.Tables.{mostObjects, configBytes, mostTrim};
 ghost use Rattle.oamd.specs.Trim.{configBytesOf};
 ghost use Rattle.reader.specs.Layout.{setFrom, noTrimBytes};
 ghost use Rattle.reader.specs.Steps.{ConfigsRead, FlagsRead, TrimRead};
-use crate::TRIM;
-use crate::TRIM_FIXED;
 use bits::Cur;
 use bits::Limit;
+use oamd::CONFIG_BYTES;
+use oamd::MOST_TRIM;
+use oamd::PER_OBJECT_BYTE;
+use oamd::TRIM_CONFIGS;
+use oamd::TRIM_FIXED;
+use oamd::TRIM_HEAD;
 use oamd::TrimConfig;
 
-pub fn no_trim() -> [u8; TRIM]
+pub fn no_trim() -> [u8; MOST_TRIM]
     ensures { λ r. ⌜ (r ≡ noTrimBytes) × (length r ≡ mostTrim) ⌝ }
 {
-    [0u8; TRIM]
+    [0u8; MOST_TRIM]
 }
 
 // A configuration's bytes, from a place on.
-fn store_config(out: &mut [u8; TRIM], at: usize, c: TrimConfig)
+fn store_config(out: &mut [u8; MOST_TRIM], at: usize, config: TrimConfig)
     requires { ⌜ at + configBytes ≤ mostTrim ⌝ }
-    ensures { λ _. ⌜ now (out .exit) ≡ setFrom at 0 (configBytesOf c) (now (out .entry)) ⌝ }
+    ensures { λ _. ⌜ now (out .exit) ≡ setFrom at 0 (configBytesOf config) (now (out .entry)) ⌝ }
 {
-    out[at + 0] = c.bydefault;
-    out[at + 1] = c.disabled;
-    out[at + 2] = c.presence;
-    out[at + 3] = c.centre;
-    out[at + 4] = c.surround;
-    out[at + 5] = c.height;
-    out[at + 6] = c.tbsign;
-    out[at + 7] = c.tbamount;
-    out[at + 8] = c.lissign;
-    out[at + 9] = c.lisamount;
+    out[at + 0] = config.bydefault;
+    out[at + 1] = config.disabled;
+    out[at + 2] = config.presence;
+    out[at + 3] = config.centre;
+    out[at + 4] = config.surround;
+    out[at + 5] = config.height;
+    out[at + 6] = config.tbsign;
+    out[at + 7] = config.tbamount;
+    out[at + 8] = config.lissign;
+    out[at + 9] = config.lisamount;
 }
 
-// The nine configurations, from byte 3 on.
-fn read_configs(s: &[u8], l: Limit, c: Cur, out: &mut [u8; TRIM]) -> Cur
+// The configurations, behind the head.
+fn read_configs(s: &[u8], l: Limit, c: Cur, out: &mut [u8; MOST_TRIM]) -> Cur
     requires { ⌜ length (now out) ≡ mostTrim ⌝ }
     ensures { λ r. ⌜ ConfigsRead true (bit (now (s .entry))) c l (now (out .entry)) r (now (out .exit)) ⌝ }
 {
     let mut cur = c;
-    let mut at: usize = 3;
+    let mut at = TRIM_HEAD;
     let mut i: usize = 0;
-    while i < 9 {
+    while i < TRIM_CONFIGS {
         let step = syntax::read_trim_config(s, l, cur);
         let config = step.config;
         store_config(out, at, config);
         cur = step.cur;
-        at = at + 10;
+        at = at + CONFIG_BYTES;
         i = i + 1;
     }
     cur
 }
 
-fn read_configs_if(on: bool, s: &[u8], l: Limit, c: Cur, out: &mut [u8; TRIM]) -> Cur
+fn read_configs_if(on: bool, s: &[u8], l: Limit, c: Cur, out: &mut [u8; MOST_TRIM]) -> Cur
     requires { ⌜ length (now out) ≡ mostTrim ⌝ }
     ensures { λ r. ⌜ ConfigsRead on (bit (now (s .entry))) c l (now (out .entry)) r (now (out .exit)) ⌝ }
 {
     if on { read_configs(s, l, c, out) } else { c }
 }
 
-// The flag of each of n objects.
-fn read_flags(s: &[u8], l: Limit, c: Cur, n: usize, out: &mut [u8; TRIM]) -> Cur
-    requires { ⌜ (n ≤ mostObjects) × (length (now out) ≡ mostTrim) ⌝ }
-    ensures { λ r. ⌜ FlagsRead true n (bit (now (s .entry))) c l (now (out .entry)) r (now (out .exit)) ⌝ }
+// The flag of each object.
+fn read_flags(s: &[u8], l: Limit, c: Cur, objects: usize, out: &mut [u8; MOST_TRIM]) -> Cur
+    requires { ⌜ (objects ≤ mostObjects) × (length (now out) ≡ mostTrim) ⌝ }
+    ensures { λ r. ⌜ FlagsRead true objects (bit (now (s .entry))) c l (now (out .entry)) r (now (out .exit)) ⌝ }
 {
     let mut cur = c;
     let mut i: usize = 0;
-    while i < n {
+    while i < objects {
         cur = bits::take(s, l, cur, 1);
         out[TRIM_FIXED + i] = cur.v as u8;
         i = i + 1;
@@ -78,15 +82,26 @@ fn read_flags(s: &[u8], l: Limit, c: Cur, n: usize, out: &mut [u8; TRIM]) -> Cur
     cur
 }
 
-fn read_flags_if(on: bool, s: &[u8], l: Limit, c: Cur, n: usize, out: &mut [u8; TRIM]) -> Cur
-    requires { ⌜ (n ≤ mostObjects) × (length (now out) ≡ mostTrim) ⌝ }
-    ensures { λ r. ⌜ FlagsRead on n (bit (now (s .entry))) c l (now (out .entry)) r (now (out .exit)) ⌝ }
+fn read_flags_if(
+    on: bool,
+    s: &[u8],
+    l: Limit,
+    c: Cur,
+    objects: usize,
+    out: &mut [u8; MOST_TRIM],
+) -> Cur
+    requires { ⌜ (objects ≤ mostObjects) × (length (now out) ≡ mostTrim) ⌝ }
+    ensures { λ r. ⌜ FlagsRead on objects (bit (now (s .entry))) c l (now (out .entry)) r (now (out .exit)) ⌝ }
 {
-    if on { read_flags(s, l, c, n, out) } else { c }
+    if on {
+        read_flags(s, l, c, objects, out)
+    } else {
+        c
+    }
 }
 
 // The trim element of a programme of so many objects, laid out from the front of out, which is all 0 before: what is not carried stays 0.
-pub fn read_trim(s: &[u8], l: Limit, c: Cur, objects: usize, out: &mut [u8; TRIM]) -> Cur
+pub fn read_trim(s: &[u8], l: Limit, c: Cur, objects: usize, out: &mut [u8; MOST_TRIM]) -> Cur
     requires { ⌜ (objects ≤ mostObjects) × (length (now out) ≡ mostTrim) ⌝ }
     ensures { λ r. ⌜ TrimRead objects (bit (now (s .entry))) c l (now (out .entry)) r (now (out .exit)) ⌝ }
 {
@@ -98,6 +113,6 @@ pub fn read_trim(s: &[u8], l: Limit, c: Cur, objects: usize, out: &mut [u8; TRIM
     out[2] = mode.v as u8;
     let behind = read_configs_if(mode.v == 2, s, l, mode, out);
     let flagged = bits::take(s, l, behind, 1);
-    out[93] = flagged.v as u8;
+    out[PER_OBJECT_BYTE] = flagged.v as u8;
     read_flags_if(flagged.v == 1, s, l, flagged, objects, out)
 }

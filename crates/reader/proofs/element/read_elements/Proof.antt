@@ -1,48 +1,85 @@
 -- `read_elements` meets its contract (`ElementLoop.antt`). Assumes nothing.
-use mathlib.Core.Path.{_≡_, ap, _∙_}
-use Prim.Native.Nat.{_-_, _≤_}
+use mathlib.Core.Path.{ap}
+use mathlib.Core.List.{List}
+use Prim.Native.Nat.{ℕ, _-_, _≤_}
 use native.Mathlib.Omega.{arith}
-use lib.ListN.{length}
-use Rattle.bits.specs.Language.{bit}
+use Rattle.bits.specs.declared.Cur.{Cur}
+use Rattle.bits.specs.declared.Limit.{Limit}
+use Rattle.bits.specs.Language.{Bits, bit}
 use Rattle.oamd.specs.declared.Programme.{Programme}
 use Rattle.oamd.specs.declared.Timing.{Timing}
-use Rattle.oamd.specs.Tables.{roomBytes, mostTrim, mostBlocks}
-use Rattle.reader.specs.Steps.{Scoped}
+use Rattle.oamd.specs.Tables.{mostBlocks}
+use Rattle.reader.specs.declared.Scope.{Scope}
+use Rattle.reader.specs.declared.State.{State}
+use Rattle.reader.specs.Steps.{Buffers, lent, Sized, Scoped}
 use Rattle.reader.proofs.ElementLoop.{Ongoing, first, further, finish, stop}
-use Rattle.reader.proofs.TrimLoop.{length-none}
 use borrow.Author.Needs.{needs}
 use Rattle.reader.proofs.element.read_elements.Statement.{statement}
 use Rattle.reader.proofs.element.read_elements.Tie as tie
 
+-- before element i
+record Standing (n : ℕ) (scope : Scope) (b : Bits) (c : Cur) (l : Limit) (t : List ℕ) (i : ℕ) (st : State) (cur : Cur) (held : Buffers) : Type 0 where
+  pub within : i ≤ n
+  pub sized : Sized held
+  pub blocks : st .timing .blocks ≤ mostBlocks
+  pub unknown : st .unknown ≤ i
+  pub ongoing : (q : Programme) → Scoped q scope → Ongoing n scope q b c l t i st cur held
+
 abbrev Inv-loop : tie.InvT-loop
-Inv-loop s l w n out₀ table₀ state₀ cur₀ i₀ out table state cur i =
-    (i ≤ n) × (length out ≡ roomBytes) × (length table ≡ mostTrim) × (state .timing .blocks ≤ mostBlocks) × (state .unknown ≤ i)
-    × ((q : Programme) → Scoped q w → length out₀ ≡ roomBytes → Ongoing n w q (bit s) cur₀ l out₀ i state cur out table)
+Inv-loop s l scope n out₀ table₀ state₀ cur₀ i₀ out table state cur i = Standing n scope (bit s) cur₀ l out₀ i state cur (lent out table)
 
 abbrev μ-loop : tie.MeasureT-loop
-μ-loop s l w n out₀ table₀ state₀ cur₀ i₀ out table state cur i = n - i
+μ-loop s l scope n out₀ table₀ state₀ cur₀ i₀ out table state cur i = n - i
+
+-- ---- the places that are passed
+
+abbrev at-loop : tie.After-struct-known Inv-loop μ-loop → tie.At-loop Inv-loop μ-loop
+at-loop c = c .before .before
+
+-- ---- what is asked there
 
 loop-holds : tie.Need-loop-holds Inv-loop μ-loop
 loop-holds c =
-    let t = c .no-timing .ensures in
-    let p = c .before .before .pre in
-    (omega arith, p .3, ap length (p .4) ∙ length-none, omega (arith, ap (λ (x : Timing). x .blocks) t), omega arith, λ q sc m. first _ _ _ _ _ _ _ _ _ t (p .0) (p .4))
+    let none = c .no-timing .ensures in
+    record {
+      within = omega arith;
+      sized = search needs;
+      blocks = omega (arith, ap (λ (x : Timing). x .blocks) none);
+      unknown = omega arith;
+      ongoing = λ q sc. first _ _ _ _ _ _ _ none (search needs) (search needs);
+    }
 
 loop-again : tie.Need-loop-again Inv-loop μ-loop
 loop-again c =
-    let e = c .before .before .read-element .ensures in
-    let v = c .before .before .before .before .before .before .before .before .loop .inv in
-    (omega arith, e .size, e .width, e .few, omega (arith, e .next), λ q sc m. further (v .5 q sc m) (omega arith) sc m e)
+    let read = c .before .before in
+    let one = read .read-element .ensures in
+    let standing = at-loop (read .before .before .before .before) .loop .inv in
+    record {
+      within = omega arith;
+      sized = one .sized;
+      blocks = one .few;
+      unknown = omega (arith, one .next, standing .unknown);
+      ongoing = λ q sc. further (standing .ongoing q sc) (omega arith) sc one;
+    }
+
+read-element-requires : tie.Need-read-element-requires Inv-loop μ-loop
+read-element-requires c κs =
+    let standing = at-loop (c .before .before .before) .loop .inv in
+    record {
+      ready = record { objects = search needs; alternate = search needs; sized = standing .sized };
+      blocks = standing .blocks;
+      unknown = omega (arith, standing .unknown);
+    }
 
 returns : tie.Need-returns Inv-loop μ-loop
 returns c =
-    let v = c .before .before .before .loop .inv in
-    record { size = v .1; width = v .2; few = v .3; went = λ q sc m. stop (v .5 q sc m) (c .if1 .taken) }
+    let standing = at-loop (c .before) .loop .inv in
+    record { sized = standing .sized; few = standing .blocks; went = λ q sc. stop (standing .ongoing q sc) (c .if1 .taken) }
 
 returns-2 : tie.Need-returns-2 Inv-loop μ-loop
 returns-2 c =
-    let v = c .before .loop .inv in
-    record { size = v .1; width = v .2; few = v .3; went = λ q sc m. finish (v .5 q sc m) (omega arith) }
+    let standing = c .before .loop .inv in
+    record { sized = standing .sized; few = standing .blocks; went = λ q sc. finish (standing .ongoing q sc) (omega (arith, standing .within)) }
 
 pub read-elements-spec : {M : Type 1} → statement M
 read-elements-spec =
@@ -53,7 +90,7 @@ read-elements-spec =
     (λ c κs. search needs)
     loop-holds
     returns
-    (λ c κs. search needs)
+    read-element-requires
     (λ c. search needs)
     (λ c. search needs)
     loop-again

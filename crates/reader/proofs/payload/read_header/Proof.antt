@@ -8,13 +8,18 @@ use borrow.Author.Needs.{needs}
 use Rattle.reader.proofs.payload.read_header.Statement.{statement}
 use Rattle.reader.proofs.payload.read_header.Tie as tie
 
+abbrev assigned : tie.After-refuse-if → tie.After-read-assignment
+assigned c = c .before .before .before
+
 returns : tie.Need-returns
 returns c =
-    let g = c .before in
-    let a = g .before .before .before in
-    let n = a .before .before in
-    header-read (n .before .read-version .ensures .reads) (n .read-object-count .ensures .reads) (a .read-assignment .ensures .1 .reads) (gated _ _ _ _ (ap not (g .before .agrees .ensures)) (g .refuse-if .ensures .0) (g .refuse-if .ensures .1)) (c .take .ensures .reads)
-    (omega (arith, a .read-assignment .ensures .0, n .read-object-count .ensures .small)) (c .take .ensures .small)
+    let gate = c .before in
+    let assignment = assigned gate in
+    let count = assignment .before .before in
+    let (programme, step) = assignment .read-assignment .ensures in
+    header-read (count .before .read-version .ensures .reads) (count .read-object-count .ensures .reads) (step .reads)
+    (gated _ _ _ _ (ap not (gate .before .agrees .ensures)) (gate .refuse-if .ensures)) (c .take .ensures .reads)
+    (omega (arith, programme, count .read-object-count .ensures .small)) (c .take .ensures .small)
 
 pub read-header-spec : {M : Type 1} → statement M
 read-header-spec =

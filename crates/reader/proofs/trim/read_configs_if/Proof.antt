@@ -8,7 +8,7 @@ use Rattle.reader.proofs.trim.read_configs_if.Tie as tie
 
 returns-2 : tie.Need-returns-2
 unfolding configsBytesOf
-returns-2 c = rw (c .if1 .left) (absent configsBytesOf _ _ _ refl (omega arith) (c .before .before .pre))
+returns-2 c = rw (c .if1 .left) (absent configsBytesOf _ _ _ refl (omega arith) (search needs))
 
 pub read-configs-if-spec : {M : Type 1} → statement M
 read-configs-if-spec =

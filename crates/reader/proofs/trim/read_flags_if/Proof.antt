@@ -6,7 +6,7 @@ use Rattle.reader.proofs.trim.read_flags_if.Statement.{statement}
 use Rattle.reader.proofs.trim.read_flags_if.Tie as tie
 
 returns-2 : tie.Need-returns-2
-returns-2 c = rw (c .if1 .left) (absent (λ flags. flags) _ _ _ refl (omega arith) (c .before .before .pre .1))
+returns-2 c = rw (c .if1 .left) (absent (λ flags. flags) _ _ _ refl (omega arith) (search needs))
 
 pub read-flags-if-spec : {M : Type 1} → statement M
 read-flags-if-spec =

@@ -1,0 +1,39 @@
+use Rattle.reader.proofs.ElementLoop.{known-refused, known-read}
+use Rattle.reader.proofs.Gates.{gated}
+use borrow.Author.Needs.{needs}
+use Rattle.reader.proofs.element.read_known.Statement.{statement}
+use Rattle.reader.proofs.element.read_known.Tie as tie
+
+-- both tests made
+abbrev tested : tie.After-struct-known → tie.After-refuse-if2
+tested c = c .before
+
+abbrev first-tested : tie.After-refuse-if2 → tie.After-refuse-if
+first-tested c = c .before .before
+
+returns : tie.Need-returns
+returns c =
+    let early = tested (c .before) in
+    let second = first-tested early in
+    known-refused _ _ (search needs) (gated _ _ _ _ (second .before .is-second .ensures) (second .refuse-if .ensures))
+    (gated _ _ _ _ (early .before .is-early .ensures) (early .refuse-if2 .ensures)) (c .if1 .taken)
+
+returns-2 : tie.Need-returns-2
+returns-2 c =
+    let admitted = c .before .before .before in
+    let early = tested (admitted .before) in
+    let second = first-tested early in
+    known-read _ _ (search needs) (gated _ _ _ _ (second .before .is-second .ensures) (second .refuse-if .ensures))
+    (gated _ _ _ _ (early .before .is-early .ensures) (early .refuse-if2 .ensures)) (admitted .if1 .left) (c .read-fields .ensures)
+
+pub read-known-spec : {M : Type 1} → statement M
+read-known-spec =
+    tie.close
+    (tie.spec
+    (λ c κs. search needs)
+    (λ c κs. search needs)
+    (λ c κs. search needs)
+    (λ c κs. search needs)
+    returns
+    (λ c κs. search needs)
+    returns-2)
