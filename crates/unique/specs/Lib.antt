@@ -8,5 +8,6 @@ pub mod Meaning
 pub mod Syntax
 pub mod Checks
 pub mod Coding
+pub mod Laying
 pub mod Text
 pub mod Open

@@ -26,7 +26,7 @@ use Rattle.form.specs.Valid.{_and_, programmeValid, timingValid, firstBad, trim
 use Rattle.form.specs.Answer.{Written, recordsAt, trimAt, tablesOf, refusedTo, fitted, trimmed, judged, writing}
 use Rattle.laying.specs.Laying.{Laid, Bytes}
 use Rattle.writer.specs.Parts.{objectBits, Inside, Framed, Wide, framed}
-use Rattle.writer.specs.Most.{mostHeader, mostForm, mostCounted, mostRecords, mostElement, mostObjectFields, mostExtendedFields, mostTrimFields}
+use Rattle.writer.specs.Most.{mostHeader, mostForm, mostCounted, mostRecords, mostObjectElement, mostExtendedElement, mostTrimElement}
 use Rattle.laying.proofs.Laws.{laid-bind, laid-is, laid-only, laid-bytes}
 
 abbrev pub gives : WriteAnswer → List ℕ → Written
@@ -53,8 +53,8 @@ added a b r n m e f g h = (omega arith, omega arith)
 
 -- what stands before the elements, 4 bits for their count, and the three of them
 pub all-bits : (header four first second third a b c whole : ℕ) → four ≡ 4 → a ≡ (header + four) % 4294967296 → b ≡ (a + first) % 4294967296
-    → c ≡ (b + second) % 4294967296 → whole ≡ (c + third) % 4294967296 → header ≤ mostHeader → first ≤ mostElement (mostObjectFields mostCounted)
-    → second ≤ mostElement (mostExtendedFields mostRecords) → third ≤ mostElement (mostTrimFields mostCounted)
+    → c ≡ (b + second) % 4294967296 → whole ≡ (c + third) % 4294967296 → header ≤ mostHeader → first ≤ mostObjectElement mostCounted
+    → second ≤ mostExtendedElement mostRecords → third ≤ mostTrimElement mostCounted
     → (whole ≡ header + 4 + first + second + third) × (whole ≤ mostForm)
 all-bits header four first second third a b c whole d e f g h i j k l =
     let u = added header four a mostHeader 4 e i (omega (arith, d)) (omega arith) in

@@ -116,6 +116,15 @@ mostPadding = 7
 abbrev pub mostElement : ℕ → ℕ
 mostElement k = mostFront + (k + mostPadding)
 
+abbrev pub mostObjectElement : ℕ → ℕ
+mostObjectElement objects = mostElement (mostObjectFields objects)
+
+abbrev pub mostExtendedElement : ℕ → ℕ
+mostExtendedElement count = mostElement (mostExtendedFields count)
+
+abbrev pub mostTrimElement : ℕ → ℕ
+mostTrimElement objects = mostElement (mostTrimFields objects)
+
 -- ---- how many there can be
 
 -- a count of objects is a byte in the tables
@@ -127,5 +136,4 @@ mostRecords = mostCounted * mostBlocks
 
 -- the whole form
 abbrev pub mostForm : ℕ
-mostForm =
-    mostHeader + 4 + mostElement (mostObjectFields mostCounted) + mostElement (mostExtendedFields mostRecords) + mostElement (mostTrimFields mostCounted)
+mostForm = mostHeader + 4 + mostObjectElement mostCounted + mostExtendedElement mostRecords + mostTrimElement mostCounted

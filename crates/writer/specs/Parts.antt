@@ -21,8 +21,8 @@ use Rattle.oamd.specs.Payload.{Tables}
 use Rattle.coding.specs.Packing.{positioningBits, aroundBits, sizedBits}
 use Rattle.form.specs.Valid.{recordCount}
 use Rattle.form.specs.Form.{countBits, divergenceBits, preciseBits, any, diverges, refines, objectElementBits, extendedElementBits, trimElementBits, formBits}
-use Rattle.form.specs.Form.{sizeBits, sizeFor, byObject, objectDataBits}
-use Rattle.form.specs.Answer.{recordsAt, tablesOf}
+use Rattle.form.specs.Form.{sizeBits, sizeFor, elementBits, byObject, objectDataBits}
+use Rattle.form.specs.Answer.{recordsAt, trimAt, tablesOf}
 use Rattle.writer.specs.Most.{mostObjectFields, mostExtendedFields, mostTrimFields, mostSize, mostPadding, mostRecords, mostForm}
 use Rattle.writer.specs.declared.Groups.{Groups}
 use Rattle.writer.specs.declared.Measures.{Measures}
@@ -75,6 +75,24 @@ objectsBits s n blocks = eachBits (λ j rs. objectDataBits rs) 0 (byObject block
 -- the object element's fields look at no trim table
 abbrev pub objectBits : Programme → Timing → List ℕ → List ℕ
 objectBits p t s = objectElementBits (tablesOf p t s [])
+
+-- the extended object element's fields, of n records
+abbrev pub extendedBits : List ℕ → ℕ → List ℕ
+extendedBits s n = extendedElementBits (recordsAt s n 0)
+
+-- and the trim element's, of so many objects
+abbrev pub trimBits : List ℕ → ℕ → List ℕ
+trimBits x objects = trimElementBits (trimAt objects x)
+
+-- and each in its element
+abbrev pub objectElement : Programme → Timing → List ℕ → List ℕ
+objectElement p t s = elementBits 1 (objectBits p t s)
+
+abbrev pub extendedElement : List ℕ → ℕ → List ℕ
+extendedElement s n = elementBits 5 (extendedBits s n)
+
+abbrev pub trimElement : List ℕ → ℕ → List ℕ
+trimElement x objects = elementBits 2 (trimBits x objects)
 
 -- ---- how many bits
 

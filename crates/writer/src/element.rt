@@ -4,11 +4,11 @@ ghost use Prim.Native.Nat.{_+_, _-_, _*_, _≤_};
 ghost use lib.ListN.{length, replicate};
 ghost use Rattle.bits.specs.Writes.{toBits, only};
 ghost use Rattle.oamd.specs.Tables.{trimFixed};
-ghost use Rattle.form.specs.Form.{sizeBits, extendedElementBits, trimElementBits, elementBits};
-ghost use Rattle.form.specs.Answer.{recordsAt, trimAt};
+ghost use Rattle.form.specs.Form.{sizeBits};
+ghost use Rattle.form.specs.Answer.{recordsAt};
 ghost use Rattle.laying.specs.Laying.{Laid, mostPosition};
-ghost use Rattle.writer.specs.Most.{mostFront, mostPadding, mostElement, mostObjectFields, mostExtendedFields, mostTrimFields};
-ghost use Rattle.writer.specs.Parts.{objectBits, Blocks, Stand, Needed, Inside, Sized};
+ghost use Rattle.writer.specs.Most.{mostFront, mostPadding, mostObjectElement, mostExtendedElement, mostTrimElement, mostObjectFields, mostExtendedFields, mostTrimFields};
+ghost use Rattle.writer.specs.Parts.{objectBits, extendedBits, trimBits, objectElement, extendedElement, trimElement, Blocks, Stand, Needed, Inside, Sized};
 use crate::Groups;
 use crate::extended::put_extended_fields;
 use crate::objects::objects_width;
@@ -62,7 +62,7 @@ pub fn object_inside(programme: Programme, timing: Timing, records: &[u8]) -> Bi
 pub fn extended_inside(records: &[u8], count: usize, groups: Groups) -> BitCount
     requires { ⌜ Stand count (now records) ⌝ }
     requires { ⌜ Needed (recordsAt (now records) count 0) groups ⌝ }
-    ensures { λ r. ⌜ Inside (mostExtendedFields count) (r .0) (extendedElementBits (recordsAt (now (records .entry)) count 0)) ⌝ }
+    ensures { λ r. ⌜ Inside (mostExtendedFields count) (r .0) (extendedBits (now (records .entry)) count) ⌝ }
 {
     let mut scratch = [0u8; 1];
     let start = BitPos::new(0);
@@ -73,7 +73,7 @@ pub fn extended_inside(records: &[u8], count: usize, groups: Groups) -> BitCount
 // And inside the trim element.
 pub fn trim_inside(trim: &[u8], objects: u8) -> BitCount
     requires { ⌜ trimFixed + objects ≤ length (now trim) ⌝ }
-    ensures { λ r. ⌜ Inside (mostTrimFields objects) (r .0) (trimElementBits (trimAt objects (now (trim .entry)))) ⌝ }
+    ensures { λ r. ⌜ Inside (mostTrimFields objects) (r .0) (trimBits (now (trim .entry)) objects) ⌝ }
 {
     let mut scratch = [0u8; 1];
     let start = BitPos::new(0);
@@ -91,10 +91,10 @@ pub fn put_object_element(
     records: &[u8],
     n: BitCount,
 ) -> BitPos
-    requires { ⌜ at .0 + mostElement (mostObjectFields (programme .objects)) ≤ mostPosition ⌝ }
+    requires { ⌜ at .0 + mostObjectElement (programme .objects) ≤ mostPosition ⌝ }
     requires { ⌜ Blocks (programme .objects) (timing .blocks) (now records) ⌝ }
     requires { ⌜ Inside (mostObjectFields (programme .objects)) (n .0) (objectBits programme timing (now records)) ⌝ }
-    ensures { λ r. ⌜ Laid (mostElement (mostObjectFields (programme .objects))) (now (out .entry)) (now (out .exit)) (at .0) (r .0) (only on (elementBits 1 (objectBits programme timing (now (records .entry))))) ⌝ }
+    ensures { λ r. ⌜ Laid (mostObjectElement (programme .objects)) (now (out .entry)) (now (out .exit)) (at .0) (r .0) (only on (objectElement programme timing (now (records .entry)))) ⌝ }
 {
     if on {
         let v = size_for(n);
@@ -115,11 +115,11 @@ pub fn put_extended_element(
     groups: Groups,
     n: BitCount,
 ) -> BitPos
-    requires { ⌜ at .0 + mostElement (mostExtendedFields count) ≤ mostPosition ⌝ }
+    requires { ⌜ at .0 + mostExtendedElement count ≤ mostPosition ⌝ }
     requires { ⌜ Stand count (now records) ⌝ }
     requires { ⌜ Needed (recordsAt (now records) count 0) groups ⌝ }
-    requires { ⌜ Inside (mostExtendedFields count) (n .0) (extendedElementBits (recordsAt (now records) count 0)) ⌝ }
-    ensures { λ r. ⌜ Laid (mostElement (mostExtendedFields count)) (now (out .entry)) (now (out .exit)) (at .0) (r .0) (only on (elementBits 5 (extendedElementBits (recordsAt (now (records .entry)) count 0)))) ⌝ }
+    requires { ⌜ Inside (mostExtendedFields count) (n .0) (extendedBits (now records) count) ⌝ }
+    ensures { λ r. ⌜ Laid (mostExtendedElement count) (now (out .entry)) (now (out .exit)) (at .0) (r .0) (only on (extendedElement (now (records .entry)) count)) ⌝ }
 {
     if on {
         let v = size_for(n);
@@ -139,10 +139,10 @@ pub fn put_trim_element(
     objects: u8,
     n: BitCount,
 ) -> BitPos
-    requires { ⌜ at .0 + mostElement (mostTrimFields objects) ≤ mostPosition ⌝ }
+    requires { ⌜ at .0 + mostTrimElement objects ≤ mostPosition ⌝ }
     requires { ⌜ trimFixed + objects ≤ length (now trim) ⌝ }
-    requires { ⌜ Inside (mostTrimFields objects) (n .0) (trimElementBits (trimAt objects (now trim))) ⌝ }
-    ensures { λ r. ⌜ Laid (mostElement (mostTrimFields objects)) (now (out .entry)) (now (out .exit)) (at .0) (r .0) (only on (elementBits 2 (trimElementBits (trimAt objects (now (trim .entry)))))) ⌝ }
+    requires { ⌜ Inside (mostTrimFields objects) (n .0) (trimBits (now trim) objects) ⌝ }
+    ensures { λ r. ⌜ Laid (mostTrimElement objects) (now (out .entry)) (now (out .exit)) (at .0) (r .0) (only on (trimElement (now (trim .entry)) objects)) ⌝ }
 {
     if on {
         let v = size_for(n);

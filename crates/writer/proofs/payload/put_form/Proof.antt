@@ -9,7 +9,7 @@ use Rattle.bits.specs.Writes.{only}
 use Rattle.form.specs.Form.{extendedElementBits, elementBits}
 use Rattle.form.specs.Answer.{recordsAt, tablesOf}
 use Rattle.laying.proofs.Laws.{laid-is, laid-length, laid-within}
-use Rattle.writer.specs.Most.{mostHeader, mostElement, mostObjectFields, mostExtendedFields, mostCounted, mostRecords}
+use Rattle.writer.specs.Most.{mostHeader, mostObjectElement, mostExtendedElement, mostCounted, mostRecords}
 use Rattle.writer.proofs.Extra.{needed-of, inside-of, extended-there}
 use Rattle.writer.proofs.Trims.{trim-there}
 use Rattle.writer.proofs.Whole.{object-only, inside-object, form-laid}
@@ -36,13 +36,13 @@ end-count c =
     let zero = header .before in
     omega (arith, c .put .ensures .most, header .put-header .ensures .most, zero .new .ensures)
 
-end-object : (c : tie.After-put-object-element) → c .put-object-element .result .0 ≤ mostHeader + 4 + mostElement (mostObjectFields mostCounted)
+end-object : (c : tie.After-put-object-element) → c .put-object-element .result .0 ≤ mostHeader + 4 + mostObjectElement mostCounted
 end-object c =
     let count = c .before .before .before .before .before .before in
     omega (arith, c .put-object-element .ensures .most, end-count count, from-count count .good)
 
 end-extended : (c : tie.After-put-extended-element)
-    → c .put-extended-element .result .0 ≤ mostHeader + 4 + mostElement (mostObjectFields mostCounted) + mostElement (mostExtendedFields mostRecords)
+    → c .put-extended-element .result .0 ≤ mostHeader + 4 + mostObjectElement mostCounted + mostExtendedElement mostRecords
 end-extended c =
     let object = c .before .before .before .before .before in
     omega (arith, c .put-extended-element .ensures .most, end-object object, from-object object .pre .1 .few)

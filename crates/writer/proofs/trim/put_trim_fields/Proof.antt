@@ -89,7 +89,8 @@ returns c =
     let reserved = mode .before .before .before .before in
     let warp = reserved .before .before .before .before in
     laid-within (omega arith)
-    (laid-bind (warp .put .ensures) (laid-bind (reserved .put2 .ensures) (laid-bind (mode .put3 .ensures) (laid-bind (configs .put-configs-if .ensures) (laid-bind (announced .put4 .ensures) (flags .put-flags-if .ensures))))))
+    (laid-bind (warp .put .ensures) (laid-bind (reserved .put2 .ensures)
+    (laid-bind (mode .put3 .ensures) (laid-bind (configs .put-configs-if .ensures) (laid-bind (announced .put4 .ensures) (flags .put-flags-if .ensures))))))
 
 pub put-trim-fields-spec : {M : Type 1} → statement M
 put-trim-fields-spec =
