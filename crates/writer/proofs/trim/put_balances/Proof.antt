@@ -7,13 +7,22 @@ use Rattle.writer.proofs.Trims.{balances-laid}
 use Rattle.writer.proofs.trim.put_balances.Statement.{statement}
 use Rattle.writer.proofs.trim.put_balances.Tie as tie
 
--- behind the amount there is room for what is left
-room-amount : (c : tie.After-put-if2) → c .put-if2 .result .0 + 5 ≤ mostPosition
+-- the places, each from the one behind it
+abbrev to-side : tie.After-put-if2 → tie.After-put-if
+to-side c = c .before .before .before .before .before
+
+abbrev to-amount : tie.After-put-if3 → tie.After-put-if2
+to-amount c = c .before .before .before .before .before
+
+abbrev to-sign : tie.After-put-if4 → tie.After-put-if3
+to-sign c = c .before .before .before .before .before
+
+-- at each there is room for what is left
+room-amount : (c : tie.After-put-if2) → c .put-if2 .result .0 + (1 + 4) ≤ mostPosition
 room-amount c = omega arith
 
--- behind the sign there is room for what is left
-room-sign : (c : tie.After-put-if3) → c .put-if3 .result .0 + 4 ≤ mostPosition
-room-sign c = omega (arith, room-amount (c .before .before .before .before .before))
+room-sign : (c : tie.After-put-if3) → c .put-if3 .result .0 + (4) ≤ mostPosition
+room-sign c = omega (arith, room-amount (to-amount c))
 
 put-if-requires-4 : tie.Need-put-if-requires-4
 put-if-requires-4 c κs =
@@ -22,15 +31,15 @@ put-if-requires-4 c κs =
 
 returns : tie.Need-returns
 returns c =
-    let fourth = c .before .before in
-    let third = fourth .before .before .before .before .before in
-    let second = third .before .before .before .before .before in
-    let first = second .before .before .before .before .before in
-    let lis = first .before .before .before in
+    let last = c .before .before in
+    let sign = to-sign last in
+    let amount = to-amount sign in
+    let side = to-side amount in
+    let lis = side .before .before .before in
     let tb = lis .before .before in
     let start = tb .before .before .before in
-    balances-laid (start .args .config) (tb .has-tb .ensures) (lis .has-lis .ensures) (first .put-if .ensures) (second .put-if2 .ensures) (third .put-if3 .ensures)
-    (fourth .put-if4 .ensures)
+    balances-laid (start .args .config) (tb .has-tb .ensures) (lis .has-lis .ensures) (side .put-if .ensures) (amount .put-if2 .ensures) (sign .put-if3 .ensures)
+    (last .put-if4 .ensures)
 
 pub put-balances-spec : {M : Type 1} → statement M
 put-balances-spec =

@@ -1,20 +1,29 @@
 use borrow.Author.Needs.{needs}
 use Prim.Native.Nat.{_+_, _≤_}
 use native.Mathlib.Omega.{arith}
+use Rattle.form.specs.Form.{configBits}
 use Rattle.laying.proofs.Laws.{laid-bind, laid-length}
 use Rattle.laying.specs.Laying.{mostPosition}
-use Rattle.form.specs.Form.{configBits}
 use Rattle.writer.specs.Most.{mostTrims}
 use Rattle.writer.proofs.trim.put_config.Statement.{statement}
 use Rattle.writer.proofs.trim.put_config.Tie as tie
 
--- behind the disabled there is room for what is left
-room-disabled : (c : tie.After-put-if) → c .put-if .result .0 + 5 + mostTrims ≤ mostPosition
+-- the places, each from the one behind it
+abbrev to-bydefault : tie.After-put-if → tie.After-put
+to-bydefault c = c .before .before .before .before .before .before
+
+abbrev to-disabled : tie.After-put-both → tie.After-put-if
+to-disabled c = c .before .before .before .before .before .before .before
+
+abbrev to-presence : tie.After-put-trims → tie.After-put-both
+to-presence c = c .before .before .before .before
+
+-- at each there is room for what is left
+room-disabled : (c : tie.After-put-if) → c .put-if .result .0 + (5 + mostTrims) ≤ mostPosition
 room-disabled c = omega arith
 
--- behind the presence there is room for what is left
-room-presence : (c : tie.After-put-both) → c .put-both .result .0 + mostTrims ≤ mostPosition
-room-presence c = omega (arith, room-disabled (c .before .before .before .before .before .before .before))
+room-presence : (c : tie.After-put-both) → c .put-both .result .0 + (mostTrims) ≤ mostPosition
+room-presence c = omega (arith, room-disabled (to-disabled c))
 
 put-both-requires : tie.Need-put-both-requires
 put-both-requires c κs =
@@ -30,9 +39,9 @@ returns : tie.Need-returns
 unfolding configBits
 returns c =
     let trims = c .before .before in
-    let presence = trims .before .before .before .before in
-    let disabled = presence .before .before .before .before .before .before .before in
-    let bydefault = disabled .before .before .before .before .before .before in
+    let presence = to-presence trims in
+    let disabled = to-disabled presence in
+    let bydefault = to-bydefault disabled in
     laid-bind (bydefault .put .ensures) (laid-bind (disabled .put-if .ensures) (laid-bind (presence .put-both .ensures) (trims .put-trims .ensures)))
 
 pub put-config-spec : {M : Type 1} → statement M

@@ -3,21 +3,30 @@ use Prim.Native.Nat.{_+_, _≤_}
 use native.Mathlib.Omega.{arith}
 use Rattle.laying.proofs.Laws.{laid-length}
 use Rattle.laying.specs.Laying.{mostPosition}
+use Rattle.writer.specs.Most.{mostBalances}
 use Rattle.writer.proofs.Trims.{trims-laid}
 use Rattle.writer.proofs.trim.put_trims.Statement.{statement}
 use Rattle.writer.proofs.trim.put_trims.Tie as tie
 
--- behind the first there is room for what is left
-room-first : (c : tie.After-put-if) → c .put-if .result .0 + 18 ≤ mostPosition
+-- the places, each from the one behind it
+abbrev to-first : tie.After-put-if2 → tie.After-put-if
+to-first c = c .before .before .before .before .before
+
+abbrev to-second : tie.After-put-if3 → tie.After-put-if2
+to-second c = c .before .before .before .before .before
+
+abbrev to-third : tie.After-put-balances → tie.After-put-if3
+to-third c = c .before .before .before .before
+
+-- at each there is room for what is left
+room-first : (c : tie.After-put-if) → c .put-if .result .0 + (4 + (4 + mostBalances)) ≤ mostPosition
 room-first c = omega arith
 
--- behind the second there is room for what is left
-room-second : (c : tie.After-put-if2) → c .put-if2 .result .0 + 14 ≤ mostPosition
-room-second c = omega (arith, room-first (c .before .before .before .before .before))
+room-second : (c : tie.After-put-if2) → c .put-if2 .result .0 + (4 + mostBalances) ≤ mostPosition
+room-second c = omega (arith, room-first (to-first c))
 
--- behind the third there is room for what is left
-room-third : (c : tie.After-put-if3) → c .put-if3 .result .0 + 10 ≤ mostPosition
-room-third c = omega (arith, room-second (c .before .before .before .before .before))
+room-third : (c : tie.After-put-if3) → c .put-if3 .result .0 + (mostBalances) ≤ mostPosition
+room-third c = omega (arith, room-second (to-second c))
 
 put-if-requires-3 : tie.Need-put-if-requires-3
 put-if-requires-3 c κs =
@@ -32,9 +41,9 @@ put-balances-requires c κs =
 returns : tie.Need-returns
 returns c =
     let balances = c .before .before in
-    let third = balances .before .before .before .before in
-    let second = third .before .before .before .before .before in
-    let first = second .before .before .before .before .before in
+    let third = to-third balances in
+    let second = to-second third in
+    let first = to-first second in
     let height = first .before .before .before in
     let surround = height .before .before in
     let centre = surround .before .before in
