@@ -13,7 +13,7 @@ use Rattle.bits.specs.Steps.{by-order}
 use Rattle.bits.specs.View.{wordAt}
 use Rattle.bits.specs.Writes.{toBits}
 use Rattle.bits.specs.Lists.{binary-toBits, length-toBits, getD-toBits}
-use Rattle.laying.specs.Laying.{lay, Laid, setWord, putWord, Bytes}
+use Rattle.laying.specs.Laying.{lay, Laid, widestField, setWord, putWord, Bytes}
 use Rattle.laying.proofs.Laws.{ext-bit, length-lay, bytes-lay, lay-before, lay-behind, lay-inside}
 
 -- a bit of a number's low k bits is that bit of the number
@@ -25,7 +25,7 @@ low-bit y k j h =
     ∙ mod-mod-pow (y / 2 ^ j) (k - j - 1) 1
 
 -- what the code computes
-module _ (x o w v : ℕ) (ho : o < 8) (h1 : 1 ≤ w) (hw : w ≤ 24) where
+module _ (x o w v : ℕ) (ho : o < 8) (h1 : 1 ≤ w) (hw : w ≤ widestField) where
   abbrev sh : ℕ
   sh = 32 - o - w
 
@@ -200,7 +200,7 @@ bytes-set (x ∷ xs) zero b l h (suc k) = h (suc k)
 bytes-set (x ∷ xs) (suc i) b l h zero = h 0
 bytes-set (x ∷ xs) (suc i) b l h (suc k) = bytes-set xs i b l (λ j. h (suc j)) k
 
-module _ (s : List ℕ) (bytes : Bytes s) (p w v : ℕ) (h1 : 1 ≤ w) (hw : w ≤ 24) where
+module _ (s : List ℕ) (bytes : Bytes s) (p w v : ℕ) (h1 : 1 ≤ w) (hw : w ≤ widestField) where
   abbrev i : ℕ
   i = p / 8
 
@@ -283,6 +283,6 @@ module _ (s : List ℕ) (bytes : Bytes s) (p w v : ℕ) (h1 : 1 ≤ w) (hw : w �
   }
 
 -- the same for a position that is handed out, and the next one that is made
-pub put-at : (s : List ℕ) (bytes : Bytes s) (at p w v r x y : ℕ) (u : List ℕ) → 1 ≤ w → w ≤ 24 → p ≡ at → r ≡ p + w
+pub put-at : (s : List ℕ) (bytes : Bytes s) (at p w v r x y : ℕ) (u : List ℕ) → 1 ≤ w → w ≤ widestField → p ≡ at → r ≡ p + w
     → x ≡ wordAt s (at / 8) → y ≡ putWord x (p % 8) w v → u ≡ setWord s (p / 8) y → Laid w s u at r (toBits w v)
 put-at s bytes at p w v r x y u h1 hw a b e f g = rw (b, ← a) (put-laid s bytes p w v h1 hw x y u (e ∙ ap (λ (k : ℕ). wordAt s (k / 8)) (sym a)) f g)

@@ -18,7 +18,7 @@ abbrev to-short : tie.After-put-if3 → tie.After-put-both
 to-short c = c .before .before .before .before .before .before
 
 -- at each there is room for what is left
-room-short : (c : tie.After-put-both) → c .put-both .result .0 + (6) ≤ mostPosition
+room-short : (c : tie.After-put-both) → c .put-both .result .0 + 6 ≤ mostPosition
 room-short c = omega arith
 
 put-if-requires-3 : tie.Need-put-if-requires-3

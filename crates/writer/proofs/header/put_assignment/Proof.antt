@@ -41,7 +41,7 @@ room-lfe c = omega (arith, room-dynonly (to-dynonly c))
 room-content : (c : tie.After-put-if2) → c .put-if2 .result .0 + (mostBedFields + mostOthers) ≤ mostPosition
 room-content c = omega (arith, room-lfe (to-lfe c))
 
-room-beds : (c : tie.After-put-beds) → c .put-beds .result .0 + (mostOthers) ≤ mostPosition
+room-beds : (c : tie.After-put-beds) → c .put-beds .result .0 + mostOthers ≤ mostPosition
 room-beds c = omega (arith, room-content (to-content c))
 
 put-if-requires-2 : tie.Need-put-if-requires-2

@@ -35,7 +35,7 @@ room-distribute c = omega arith
 room-multiple : (c : tie.After-put-if2) → c .put-if2 .result .0 + (3 + mostBedList) ≤ mostPosition
 room-multiple c = omega (arith, room-distribute (to-distribute c))
 
-room-instances : (c : tie.After-put-if3) → c .put-if3 .result .0 + (mostBedList) ≤ mostPosition
+room-instances : (c : tie.After-put-if3) → c .put-if3 .result .0 + mostBedList ≤ mostPosition
 room-instances c = omega (arith, room-multiple (to-multiple c))
 
 put-if-requires-3 : tie.Need-put-if-requires-3

@@ -16,36 +16,56 @@ use Rattle.writer.proofs.Whole.{object-only, inside-object, form-laid}
 use Rattle.writer.proofs.payload.put_form.Statement.{statement}
 use Rattle.writer.proofs.payload.put_form.Tie as tie
 
--- where the call began, from behind each part
+-- the places, each from the one behind it
+abbrev to-header : tie.After-put → tie.After-put-header
+to-header c = c .before .before .before .before
+
+abbrev to-count : tie.After-put-object-element → tie.After-put
+to-count c = c .before .before .before .before .before .before
+
+abbrev to-object : tie.After-put-extended-element → tie.After-put-object-element
+to-object c = c .before .before .before .before .before
+
+abbrev to-extended : tie.After-put-trim-element → tie.After-put-extended-element
+to-extended c = c .before .before .before .before .before
+
+-- and where the call began
+abbrev from-some : tie.After-either → tie.Start
+from-some c = c .before .before .before .before .before
+
+abbrev to-some : tie.After-as-flag → tie.After-either
+to-some c = c .before .before .before
+
+abbrev to-zero : tie.After-put-header → tie.After-new
+to-zero c = c .before
+
+abbrev to-flags : tie.After-new → tie.After-as-flag3
+to-flags c = c .before .before
+
 abbrev from-header : tie.After-put-header → tie.Start
-from-header c = c .before .before .before .before .before .before .before .before .before .before .before .before .before
+from-header c = from-some (to-some (to-flags (to-zero c) .before .before))
 
 abbrev from-count : tie.After-put → tie.Start
-from-count c = from-header (c .before .before .before .before)
+from-count c = from-header (to-header c)
 
 abbrev from-object : tie.After-put-object-element → tie.Start
-from-object c = from-count (c .before .before .before .before .before .before)
+from-object c = from-count (to-count c)
 
 abbrev from-extended : tie.After-put-extended-element → tie.Start
-from-extended c = from-object (c .before .before .before .before .before)
+from-extended c = from-object (to-object c)
 
--- and how far the form has come there
+-- how far the form has come
 end-count : (c : tie.After-put) → c .put .result .0 ≤ mostHeader + 4
 end-count c =
-    let header = c .before .before .before .before in
-    let zero = header .before in
-    omega (arith, c .put .ensures .most, header .put-header .ensures .most, zero .new .ensures)
+    let header = to-header c in
+    omega (arith, c .put .ensures .most, header .put-header .ensures .most, to-zero header .new .ensures)
 
 end-object : (c : tie.After-put-object-element) → c .put-object-element .result .0 ≤ mostHeader + 4 + mostObjectElement mostCounted
-end-object c =
-    let count = c .before .before .before .before .before .before in
-    omega (arith, c .put-object-element .ensures .most, end-count count, from-count count .good)
+end-object c = omega (arith, c .put-object-element .ensures .most, end-count (to-count c), from-object c .good)
 
 end-extended : (c : tie.After-put-extended-element)
     → c .put-extended-element .result .0 ≤ mostHeader + 4 + mostObjectElement mostCounted + mostExtendedElement mostRecords
-end-extended c =
-    let object = c .before .before .before .before .before in
-    omega (arith, c .put-extended-element .ensures .most, end-object object, from-object object .pre .1 .few)
+end-extended c = omega (arith, c .put-extended-element .ensures .most, end-object (to-object c), from-extended c .pre .1 .few)
 
 put-object-element-requires : tie.Need-put-object-element-requires
 put-object-element-requires c κs =
@@ -79,16 +99,16 @@ put-trim-element-requires c κs =
 returns : tie.Need-returns
 returns c =
     let trim = c .before .before in
-    let extended = trim .before .before .before .before .before in
-    let object = extended .before .before .before .before .before in
-    let count = object .before .before .before .before .before .before in
-    let header = count .before .before .before .before in
-    let zero = header .before in
-    let three = zero .before .before in
+    let extended = to-extended trim in
+    let object = to-object extended in
+    let count = to-count object in
+    let header = to-header count in
+    let zero = to-zero header in
+    let three = to-flags zero in
     let two = three .before in
     let one = two .before in
-    let some = one .before .before .before in
-    let start = from-header header in
+    let some = to-some one in
+    let start = from-some some in
     let a = start .args in
     let records = now (a .records) in
     let m = start .pre .1 in

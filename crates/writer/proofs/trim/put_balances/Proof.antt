@@ -21,7 +21,7 @@ to-sign c = c .before .before .before .before .before
 room-amount : (c : tie.After-put-if2) → c .put-if2 .result .0 + (1 + 4) ≤ mostPosition
 room-amount c = omega arith
 
-room-sign : (c : tie.After-put-if3) → c .put-if3 .result .0 + (4) ≤ mostPosition
+room-sign : (c : tie.After-put-if3) → c .put-if3 .result .0 + 4 ≤ mostPosition
 room-sign c = omega (arith, room-amount (to-amount c))
 
 put-if-requires-4 : tie.Need-put-if-requires-4

@@ -22,7 +22,7 @@ to-presence c = c .before .before .before .before
 room-disabled : (c : tie.After-put-if) → c .put-if .result .0 + (5 + mostTrims) ≤ mostPosition
 room-disabled c = omega arith
 
-room-presence : (c : tie.After-put-both) → c .put-both .result .0 + (mostTrims) ≤ mostPosition
+room-presence : (c : tie.After-put-both) → c .put-both .result .0 + mostTrims ≤ mostPosition
 room-presence c = omega (arith, room-disabled (to-disabled c))
 
 put-both-requires : tie.Need-put-both-requires

@@ -25,7 +25,7 @@ room-first c = omega arith
 room-second : (c : tie.After-put-if2) → c .put-if2 .result .0 + (4 + mostBalances) ≤ mostPosition
 room-second c = omega (arith, room-first (to-first c))
 
-room-third : (c : tie.After-put-if3) → c .put-if3 .result .0 + (mostBalances) ≤ mostPosition
+room-third : (c : tie.After-put-if3) → c .put-if3 .result .0 + mostBalances ≤ mostPosition
 room-third c = omega (arith, room-second (to-second c))
 
 put-if-requires-3 : tie.Need-put-if-requires-3
