@@ -20,6 +20,10 @@ abbrev pub both : Bool → Bool → Bool
 both true b = b
 both false b = false
 
+-- the widest field that is read or laid at once: what a word of four bytes holds behind up to 7 bits
+abbrev pub widestField : ℕ
+widestField = 24
+
 -- a test as a flag
 abbrev pub asFlag : Bool → ℕ
 asFlag t = pick t 1 0

@@ -1,7 +1,7 @@
 // What a cursor does besides reading a field.
 ghost use mathlib.Core.Path.{_≡_};
 ghost use Prim.Native.Nat.{_-_, _*_, _^_, _≤_, _<_};
-ghost use Rattle.bits.specs.Language.{bit, between, bitsIf, bitsUnless, skip, when, refuseIf};
+ghost use Rattle.bits.specs.Language.{bit, between, bitsIf, bitsUnless, skip, when, refuseIf, widestField};
 ghost use Rattle.bits.specs.Refusals.{numberOf};
 ghost use Rattle.bits.specs.View.{Reads, Took, Gave, valued, openAt, innerOf, closeAt};
 use crate::Cur;
@@ -28,7 +28,7 @@ pub fn with_value(c: Cur, v: u32) -> Cur
 
 // The next field, where a flag says that it is there; else 0.
 pub fn take_if(on: bool, s: &[u8], l: Limit, c: Cur, w: u32) -> Cur
-    requires { ⌜ (1 ≤ w) × (w ≤ 24) ⌝ }
+    requires { ⌜ (1 ≤ w) × (w ≤ widestField) ⌝ }
     ensures { λ r. ⌜ Took (bitsIf on w) (2 ^ w) (bit (now (s .entry))) c l r ⌝ }
 {
     if on {
@@ -77,7 +77,7 @@ fn in_range(low: u32, high: u32, v: u32) -> bool
 
 // The next field, where a flag says that it is there; else 0. The values from low to high are reserved: refused at the field's own first bit.
 pub fn take_unless(on: bool, s: &[u8], l: Limit, c: Cur, w: u32, low: u32, high: u32) -> Cur
-    requires { ⌜ (1 ≤ w) × (w ≤ 24) ⌝ }
+    requires { ⌜ (1 ≤ w) × (w ≤ widestField) ⌝ }
     ensures { λ r. ⌜ Took (when on (bitsUnless (numberOf Refusal.Reserved) w (between low high)) 0) (2 ^ w) (bit (now (s .entry))) c l r ⌝ }
 {
     if on {

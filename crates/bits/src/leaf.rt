@@ -2,7 +2,7 @@
 ghost use mathlib.Core.Path.{_≡_};
 ghost use Prim.Native.Nat.{_/_, _^_, _≤_, _<_};
 ghost use lib.ListN.{getD};
-ghost use Rattle.bits.specs.Language.{bits, bit};
+ghost use Rattle.bits.specs.Language.{bits, bit, widestField};
 ghost use Rattle.bits.specs.View.{wordAt, overOf, Took};
 use crate::Cur;
 use crate::Limit;
@@ -50,7 +50,7 @@ pub fn over(inner: bool) -> u8
 
 // The next field of w bits. Behind a refusal nothing is read.
 pub fn take(s: &[u8], l: Limit, c: Cur, w: u32) -> Cur
-    requires { ⌜ (1 ≤ w) × (w ≤ 24) ⌝ }
+    requires { ⌜ (1 ≤ w) × (w ≤ widestField) ⌝ }
     ensures { λ r. ⌜ Took (bits w) (2 ^ w) (bit (now (s .entry))) c l r ⌝ }
 {
     if c.no != 0 {

@@ -8,11 +8,11 @@ use native.Mathlib.Omega.{arith}
 use lib.Arith.{digits-lt}
 use lib.ListN.{length, length-append}
 use lib.Pow.{shl-shr, shl-exact, field, pow-add, pow-pos}
-use Rattle.bits.specs.Language.{number, pick}
+use Rattle.bits.specs.Language.{number, pick, widestField}
 use Rattle.bits.specs.Writes.{toBits, only}
 use Rattle.bits.specs.Lists.{length-toBits, number-toBits, binary-toBits, binary-append, bits-number, number-append}
 use Rattle.coding.specs.declared.Packed.{Packed}
-use Rattle.coding.specs.Packing.{Packs, PacksIn, Room, Behind, mostWidth}
+use Rattle.coding.specs.Packing.{Packs, PacksIn, Room, Behind}
 
 -- shifting up and down leaves the low w bits
 pub low-bits : (w v : ℕ) → w ≤ 32 → v * 2 ^ (32 - w) % 2 ^ 32 / 2 ^ (32 - w) ≡ v % 2 ^ w
@@ -53,7 +53,7 @@ module _ (w v : ℕ) (p : Packed) (room : Room w p) where
   -- below 2^24, so below 2^32
   pub sum-fits : sum < 2 ^ 32
   sum-fits =
-      let under : joined (p .width .0) w (p .value) v (room .small) < 2 ^ mostWidth =
+      let under : joined (p .width .0) w (p .value) v (room .small) < 2 ^ widestField =
       lt-of-lt-of-le (joined-small (p .width .0) w (p .value) v (room .small)) (pow-le-pow-right (zero-lt-suc 1) (room .fits)) in
       rw sum-is (omega arith)
 

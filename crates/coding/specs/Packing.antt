@@ -3,6 +3,7 @@ use mathlib.Core.Path.{_≡_}
 use mathlib.Core.Bool.{Bool, true}
 use mathlib.Core.List.{List, _++_}
 use Prim.Native.Nat.{ℕ, _+_, _-_, _^_, _≤_, _<_}
+use Rattle.bits.specs.Language.{widestField}
 use Rattle.bits.specs.Writes.{toBits, only}
 use Rattle.oamd.specs.declared.Scene.{Scene}
 use Rattle.oamd.specs.Programme.{set?}
@@ -21,14 +22,10 @@ pub record PacksIn (low high : ℕ) (p : Packed) (l : List ℕ) : Type 0 where
   pub least : low ≤ p .width .0
   pub most : p .width .0 ≤ high
 
--- the most bits that are packed into one number, as many as are laid at once
-abbrev pub mostWidth : ℕ
-mostWidth = 24
-
 -- n more bits, at least one, have room behind those of p
 pub record Room (n : ℕ) (p : Packed) : Type 0 where
   pub some : 1 ≤ n
-  pub fits : p .width .0 + n ≤ mostWidth
+  pub fits : p .width .0 + n ≤ widestField
   pub small : p .value < 2 ^ p .width .0
 
 -- the bits of r are those of p and behind them those of l, which are at least low and at most high in number

@@ -1,7 +1,7 @@
 // Statuses, the parts of a group, and object_basic_info (5.5.9, 5.5.10).
 ghost use mathlib.Core.Path.{_≡_};
 ghost use Prim.Native.Nat.{_^_, _≤_, _<_};
-ghost use Rattle.bits.specs.Language.{bit};
+ghost use Rattle.bits.specs.Language.{bit, widestField};
 ghost use Rattle.bits.specs.View.{Reads, Took};
 ghost use Rattle.oamd.specs.Block.{statusOf, status-idx, parts-of, object-basic-info};
 use crate::BasicStep;
@@ -47,7 +47,7 @@ pub fn read_status(s: &[u8], l: Limit, c: Cur, none: bool, first: bool) -> Statu
 
 // Which parts of a group are sent: all of them, as w bits say, or none.
 pub fn read_parts(s: &[u8], l: Limit, c: Cur, status: Status, all: u32, w: u32) -> Cur
-    requires { ⌜ (1 ≤ w) × (w ≤ 24) × (all < 2 ^ w) ⌝ }
+    requires { ⌜ (1 ≤ w) × (w ≤ widestField) × (all < 2 ^ w) ⌝ }
     ensures { λ r. ⌜ Took (parts-of all w status) (2 ^ w) (bit (now (s .entry))) c l r ⌝ }
 {
     match status {

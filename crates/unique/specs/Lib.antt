@@ -9,5 +9,6 @@ pub mod Syntax
 pub mod Record
 pub mod Valid
 pub mod Coding
+pub mod Laying
 pub mod Text
 pub mod Open

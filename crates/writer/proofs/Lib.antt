@@ -1,5 +1,4 @@
-pub mod LayLaws
-pub mod PutWord
+pub mod Widths
 pub mod Parts
 pub mod Entries
 pub mod Heads

@@ -2,39 +2,34 @@
 use mathlib.Core.Path.{_≡_, refl, ap, ap₂, _∙_}
 use mathlib.Core.Bool.{Bool}
 use mathlib.Core.List.{List, [], _∷_, _++_}
-use Prim.Native.Nat.{ℕ, zero, suc, _+_, _-_, _*_, _≤_, _<_}
+use Prim.Native.Nat.{ℕ, zero, suc, _+_, _-_, _*_, _%_, _≤_, _<_}
 use native.Mathlib.Numerals.{add-one}
 use native.Mathlib.Omega.{arith}
 use lib.Dec.{ltb}
 use lib.ListN.{length, take, drop, length-append}
 use Rattle.bits.specs.Writes.{only, toBits, eachBits}
 use Rattle.bits.specs.Lists.{length-toBits}
-use Rattle.writer.specs.Laying.{Laid}
+use Rattle.laying.specs.Laying.{Laid}
 use Rattle.writer.proofs.Entries.{steps-more, steps-none}
-use Rattle.writer.proofs.LayLaws.{laid-bind, laid-is, laid-only}
+use Rattle.laying.proofs.Laws.{laid-bind, laid-is, laid-only}
 use Rattle.bits.specs.Language.{asFlag}
 use Rattle.oamd.specs.declared.Precise.{Precise}
 use Rattle.oamd.specs.Record.{Record}
 use Rattle.oamd.specs.Payload.{Tables}
 use Rattle.oamd.specs.Extended.{hasX, hasY, hasZ}
+use Rattle.oamd.specs.Tables.{recordStride}
+use Rattle.writer.specs.Parts.{axesBits, Wide, Inside}
 use Rattle.form.specs.Form.{timingBits, byObject, objectDataBits, objectElementBits, preciseBits}
 use Rattle.record.specs.Bytes.{recordAt, recordsAt}
 
 module _ (f : ℕ → Record → List ℕ) (s : List ℕ) (n i k : ℕ) where
-  pub records-more : i < n → eachBits f i (recordsAt s (n - i) k) ≡ f i (recordAt s k) ++ eachBits f (i + 1) (recordsAt s (n - (i + 1)) (k + 24))
+  pub records-more : i < n → eachBits f i (recordsAt s (n - i) k) ≡ f i (recordAt s k) ++ eachBits f (i + 1) (recordsAt s (n - (i + 1)) (k + recordStride))
   unfolding recordsAt
-  records-more = steps-more f (recordAt s) 24 (recordsAt s) (λ m j. refl) n i k
+  records-more = steps-more f (recordAt s) recordStride (recordsAt s) (λ m j. refl) n i k
 
   pub records-none : n ≤ i → eachBits f i (recordsAt s (n - i) k) ≡ []
   unfolding recordsAt
   records-none = steps-none f (recordsAt s) (λ j. refl) n i k
-
--- counted up to an entry, and what is still to come
-pub count-more : (l a m : List ℕ) (total width whole : ℕ) → l ≡ a ++ m → width ≡ length a → total + length l ≡ whole → total + width + length m ≡ whole
-count-more l a m total width whole e f g = let h : length l ≡ length a + length m = ap length e ∙ length-append a m in omega arith
-
-pub count-none : (l : List ℕ) (total whole : ℕ) → l ≡ [] → total + length l ≡ whole → total ≡ whole
-count-none l total whole e g = let h : length l ≡ 0 = ap length e in omega arith
 
 -- the first m records, and those behind them
 take-records : (s : List ℕ) (m r k : ℕ) → take m (recordsAt s (m + r) k) ≡ recordsAt s m k
@@ -42,38 +37,42 @@ unfolding recordsAt
 take-records s zero r k = refl
 take-records s (suc m) r k =
     ap (λ (j : ℕ). take (suc m) (recordsAt s j k)) (let e : suc m + r ≡ suc (m + r) = omega arith in e)
-    ∙ ap (λ (rs : List Record). recordAt s k ∷ rs) (take-records s m r (k + 24))
+    ∙ ap (λ (rs : List Record). recordAt s k ∷ rs) (take-records s m r (k + recordStride))
 
-drop-records : (s : List ℕ) (m r k : ℕ) → drop m (recordsAt s (m + r) k) ≡ recordsAt s r (k + 24 * m)
+drop-records : (s : List ℕ) (m r k : ℕ) → drop m (recordsAt s (m + r) k) ≡ recordsAt s r (k + recordStride * m)
 unfolding recordsAt
-drop-records s zero r k = ap₂ (λ (j i : ℕ). recordsAt s j i) (let e : 0 + r ≡ r = omega arith in e) (let e : k ≡ k + 24 * 0 = omega arith in e)
+drop-records s zero r k = ap₂ (λ (j i : ℕ). recordsAt s j i) (let e : 0 + r ≡ r = omega arith in e) (let e : k ≡ k + recordStride * 0 = omega arith in e)
 drop-records s (suc m) r k =
     ap (λ (j : ℕ). drop (suc m) (recordsAt s j k)) (let e : suc m + r ≡ suc (m + r) = omega arith in e)
-    ∙ drop-records s m r (k + 24)
-    ∙ ap (λ (j : ℕ). recordsAt s r j) (let e : k + 24 + 24 * m ≡ k + 24 * suc m = omega arith in e)
+    ∙ drop-records s m r (k + recordStride)
+    ∙ ap (λ (j : ℕ). recordsAt s r j) (let e : k + recordStride + recordStride * m ≡ k + recordStride * suc m = omega arith in e)
 
 pub left-more : (n m i : ℕ) → i < n → (n - i) * m ≡ m + (n - (i + 1)) * m
 left-more n m i h = ap (λ (j : ℕ). j * m) (let e : n - i ≡ suc (n - (i + 1)) = omega arith in e) ∙ (let g : suc (n - (i + 1)) * m ≡ m + (n - (i + 1)) * m = omega arith in g)
 
--- the object element's fields: the timing, a flag, and the objects
-pub element-length : (t : Tables) (timing objects : ℕ) → timing ≡ length (timingBits (t .timing))
-    → objects ≡ length (eachBits (λ j rs. objectDataBits rs) 0 (byObject (t .timing .blocks) (t .programme .objects) (t .records)))
-    → 2 + timing + objects ≡ 1 + length (objectElementBits t)
+-- the bits inside the object element: the discard flag, the timing, a flag, and the objects
+pub object-inside : {k n j timing objects two before r : ℕ} {s u : List ℕ} {at p : ℕ} (t : Tables) → Laid k s u at p (timingBits (t .timing))
+    → Wide n objects (eachBits (λ j rs. objectDataBits rs) 0 (byObject (t .timing .blocks) (t .programme .objects) (t .records))) → timing ≡ p - at → two ≡ 2
+    → before ≡ (two + timing) % 4294967296 → r ≡ (before + objects) % 4294967296 → k + (1 + n) ≤ j → 1 + j < 4294967296 → Inside j r (objectElementBits t)
 unfolding objectElementBits
-element-length t timing objects e f =
+object-inside t laid wide e f g h i l =
     let rest : List ℕ = eachBits (λ j rs. objectDataBits rs) 0 (byObject (t .timing .blocks) (t .programme .objects) (t .records)) in
-    omega (arith, length-append (timingBits (t .timing)) (toBits 1 1 ++ rest), length-append (toBits 1 1) rest, length-toBits 1 1)
+    let a = length-append (timingBits (t .timing)) (toBits 1 1 ++ rest) in
+    let b = length-append (toBits 1 1) rest in
+    let d = length-toBits 1 1 in
+    record { same = omega (arith, laid .next, laid .most, wide .same, wide .most); most = omega (arith, laid .next, laid .most, wide .most) }
 
 abbrev objectsFrom : List ℕ → ℕ → ℕ → ℕ → ℕ → List ℕ
 objectsFrom s m i n k = eachBits (λ j rs. objectDataBits rs) i (byObject m n (recordsAt s (n * m) k))
 
 module _ (s : List ℕ) (m n i k : ℕ) where
-  pub objects-more : i < n → objectsFrom s m i (n - i) k ≡ objectDataBits (recordsAt s m k) ++ objectsFrom s m (i + 1) (n - (i + 1)) (k + 24 * m)
+  pub objects-more : i < n → objectsFrom s m i (n - i) k ≡ objectDataBits (recordsAt s m k) ++ objectsFrom s m (i + 1) (n - (i + 1)) (k + recordStride * m)
   unfolding eachBits byObject
   objects-more h =
       let r : ℕ = n - (i + 1) in
       ap (λ (j : ℕ). objectsFrom s m i j k) (let e : n - i ≡ suc r = omega arith in e)
-      ∙ ap (λ (j : ℕ). objectDataBits (take m (recordsAt s j k)) ++ eachBits (λ j rs. objectDataBits rs) (suc i) (byObject m r (drop m (recordsAt s j k)))) (let g : suc r * m ≡ m + r * m = omega arith in g)
+      ∙ ap (λ (j : ℕ). objectDataBits (take m (recordsAt s j k)) ++ eachBits (λ j rs. objectDataBits rs) (suc i) (byObject m r (drop m (recordsAt s j k))))
+      (let g : suc r * m ≡ m + r * m = omega arith in g)
       ∙ ap₂ (λ (x y : List Record). objectDataBits x ++ eachBits (λ j rs. objectDataBits rs) (suc i) (byObject m r y)) (take-records s m (r * m) k) (drop-records s m (r * m) k)
       ∙ rw add-one
 
@@ -81,14 +80,13 @@ module _ (s : List ℕ) (m n i k : ℕ) where
   unfolding eachBits byObject
   objects-none h = ap (λ (j : ℕ). objectsFrom s m i j k) (let e : n - i ≡ 0 = omega arith in e)
 
-pub axes-laid : (s t u v : List ℕ) (at p q r : ℕ) (z : Precise) (x y w : Bool) → x ≡ hasX (z .presence) → y ≡ hasY (z .presence) → w ≡ hasZ (z .presence)
-    → Laid s t at p (only x (toBits 2 (z .x))) → Laid t u p q (only y (toBits 2 (z .y))) → Laid u v q r (only w (toBits 2 (z .z)))
-    → Laid s v at r (only (hasX (z .presence)) (toBits 2 (z .x)) ++ (only (hasY (z .presence)) (toBits 2 (z .y)) ++ only (hasZ (z .presence)) (toBits 2 (z .z))))
-axes-laid s t u v at p q r z x y w e f g a b c = laid-bind (laid-only (toBits 2 (z .x)) e a) (laid-bind (laid-only (toBits 2 (z .y)) f b) (laid-only (toBits 2 (z .z)) g c))
+module _ {k l m : ℕ} {s t u v : List ℕ} {at p q r : ℕ} (z : Precise) where
+  pub axes-laid : {x y w : Bool} → x ≡ hasX (z .presence) → y ≡ hasY (z .presence) → w ≡ hasZ (z .presence)
+      → Laid k s t at p (only x (toBits 2 (z .x))) → Laid l t u p q (only y (toBits 2 (z .y))) → Laid m u v q r (only w (toBits 2 (z .z)))
+      → Laid (k + (l + m)) s v at r (axesBits z)
+  axes-laid e f g a b c = laid-bind (laid-only (toBits 2 (z .x)) e a) (laid-bind (laid-only (toBits 2 (z .y)) f b) (laid-only (toBits 2 (z .z)) g c))
 
-pub precise-laid : (s t u v : List ℕ) (at p q r : ℕ) (sent : Bool) (z : Precise) (some : ℕ) → some ≡ asFlag (ltb 0 (z .presence))
-    → Laid s t at p (only sent (toBits 1 some)) → Laid t u p q (only (ltb 0 (z .presence)) (toBits 3 (z .presence)))
-    → Laid u v q r (only (hasX (z .presence)) (toBits 2 (z .x)) ++ (only (hasY (z .presence)) (toBits 2 (z .y)) ++ only (hasZ (z .presence)) (toBits 2 (z .z))))
-    → Laid s v at r (preciseBits sent z)
-unfolding preciseBits
-precise-laid s t u v at p q r sent z some e a b c = laid-bind (laid-is (ap (λ (k : ℕ). only sent (toBits 1 k)) e) a) (laid-bind b c)
+  pub precise-laid : {some : ℕ} (sent : Bool) → some ≡ asFlag (ltb 0 (z .presence)) → Laid k s t at p (only sent (toBits 1 some))
+      → Laid l t u p q (only (ltb 0 (z .presence)) (toBits 3 (z .presence))) → Laid m u v q r (axesBits z) → Laid (k + (l + m)) s v at r (preciseBits sent z)
+  unfolding preciseBits
+  precise-laid sent e a b c = laid-bind (laid-is (ap (λ (j : ℕ). only sent (toBits 1 j)) e) a) (laid-bind b c)

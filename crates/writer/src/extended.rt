@@ -1,72 +1,63 @@
 // The extended object element's fields (5.5.13 to 5.5.15).
-ghost use mathlib.Core.Path.{_≡_};
-ghost use Prim.Native.Nat.{_+_, _≤_};
-ghost use Rattle.writer.specs.Laying.{Laid};
-ghost use mathlib.Core.List.{_++_};
-ghost use Rattle.bits.specs.Writes.{toBits, only};
-ghost use Rattle.oamd.specs.Extended.{hasX, hasY, hasZ};
-ghost use Prim.Native.Nat.{_*_};
+ghost use Prim.Native.Nat.{_+_, _*_, _≤_};
 ghost use lib.ListN.{length};
-ghost use Rattle.bits.specs.Writes.{eachBits};
+ghost use Rattle.bits.specs.Writes.{only};
+ghost use Rattle.oamd.specs.Tables.{recordStride};
 ghost use Rattle.oamd.specs.Record.{carries};
-ghost use mathlib.Core.Bool.{true};
-ghost use Rattle.bits.specs.Language.{pick};
 ghost use Rattle.form.specs.Form.{divergenceBits, preciseBits, extendedElementBits};
-ghost use Rattle.writer.specs.Parts.{extraBits, Needed};
 ghost use Rattle.record.specs.Bytes.{sceneAt, divergenceAt, preciseAt, recordAt, recordsAt};
+ghost use Rattle.laying.specs.Laying.{Laid, mostPosition};
+ghost use Rattle.writer.specs.Most.{mostDivergence, mostAxes, mostPrecise, mostExtra, mostExtendedFields};
+ghost use Rattle.writer.specs.Parts.{axesBits, extraBits, extrasBits, Stand, Needed};
 use crate::Groups;
-use crate::putting::put;
-use crate::putting::put_both;
-use crate::putting::put_if;
 use bits::as_flag;
 use bits::either;
+use laying::put;
+use laying::put_both;
+use laying::put_if;
 use oamd::Divergence;
 use oamd::Precise;
+use units::BitPos;
 use record::divergence_at;
 use record::precise_at;
 use record::scene_at;
-use units::BitPos;
 
 fn put_divergence(sent: bool, out: &mut [u8], at: BitPos, d: Divergence) -> BitPos
-    requires { ⌜ at .0 ≤ 2000000 ⌝ }
-    ensures { λ r. ⌜ Laid (now (out .entry)) (now (out .exit)) (at .0) (r .0) (divergenceBits sent d) ⌝ }
-    ensures { λ r. ⌜ r .0 ≤ at .0 + 11 ⌝ }
+    requires { ⌜ at .0 + mostDivergence ≤ mostPosition ⌝ }
+    ensures { λ r. ⌜ Laid mostDivergence (now (out .entry)) (now (out .exit)) (at .0) (r .0) (divergenceBits sent d) ⌝ }
 {
-    let p = put_if(sent, out, at, 1, d.used as u32);
-    let p = put_if(d.used == 1, out, p, 2, d.mode as u32);
-    let p = put_both(d.used == 1, d.mode == 0, out, p, 2, d.value as u32);
-    put_if(d.mode == 2, out, p, 6, d.value as u32)
+    let next = put_if(sent, out, at, 1, d.used as u32);
+    let next = put_if(d.used == 1, out, next, 2, d.mode as u32);
+    let next = put_both(d.used == 1, d.mode == 0, out, next, 2, d.value as u32);
+    put_if(d.mode == 2, out, next, 6, d.value as u32)
 }
 
-fn put_axes(out: &mut [u8], at: BitPos, q: Precise) -> BitPos
-    requires { ⌜ at .0 ≤ 2100000 ⌝ }
-    ensures { λ r. ⌜ Laid (now (out .entry)) (now (out .exit)) (at .0) (r .0) (only (hasX (q .presence)) (toBits 2 (q .x)) ++ (only (hasY (q .presence)) (toBits 2 (q .y)) ++ only (hasZ (q .presence)) (toBits 2 (q .z)))) ⌝ }
-    ensures { λ r. ⌜ r .0 ≤ at .0 + 6 ⌝ }
+fn put_axes(out: &mut [u8], at: BitPos, precise: Precise) -> BitPos
+    requires { ⌜ at .0 + mostAxes ≤ mostPosition ⌝ }
+    ensures { λ r. ⌜ Laid mostAxes (now (out .entry)) (now (out .exit)) (at .0) (r .0) (axesBits precise) ⌝ }
 {
-    let x = oamd::has_x(q.presence as u32);
-    let y = oamd::has_y(q.presence as u32);
-    let z = oamd::has_z(q.presence as u32);
-    let p = put_if(x, out, at, 2, q.x as u32);
-    let p = put_if(y, out, p, 2, q.y as u32);
-    put_if(z, out, p, 2, q.z as u32)
+    let x = oamd::has_x(precise.presence as u32);
+    let y = oamd::has_y(precise.presence as u32);
+    let z = oamd::has_z(precise.presence as u32);
+    let next = put_if(x, out, at, 2, precise.x as u32);
+    let next = put_if(y, out, next, 2, precise.y as u32);
+    put_if(z, out, next, 2, precise.z as u32)
 }
 
-fn put_precise(sent: bool, out: &mut [u8], at: BitPos, q: Precise) -> BitPos
-    requires { ⌜ at .0 ≤ 2000000 ⌝ }
-    ensures { λ r. ⌜ Laid (now (out .entry)) (now (out .exit)) (at .0) (r .0) (preciseBits sent q) ⌝ }
-    ensures { λ r. ⌜ r .0 ≤ at .0 + 10 ⌝ }
+fn put_precise(sent: bool, out: &mut [u8], at: BitPos, precise: Precise) -> BitPos
+    requires { ⌜ at .0 + mostPrecise ≤ mostPosition ⌝ }
+    ensures { λ r. ⌜ Laid mostPrecise (now (out .entry)) (now (out .exit)) (at .0) (r .0) (preciseBits sent precise) ⌝ }
 {
-    let some = as_flag(0 < q.presence);
-    let p = put_if(sent, out, at, 1, some as u32);
-    let p = put_if(0 < q.presence, out, p, 3, q.presence as u32);
-    put_axes(out, p, q)
+    let some = as_flag(0 < precise.presence);
+    let next = put_if(sent, out, at, 1, some as u32);
+    let next = put_if(0 < precise.presence, out, next, 3, precise.presence as u32);
+    put_axes(out, next, precise)
 }
 
 fn put_divergence_at(out: &mut [u8], at: BitPos, records: &[u8], k: usize) -> BitPos
-    requires { ⌜ at .0 ≤ 1900000 ⌝ }
-    requires { ⌜ k + 24 ≤ length (now records) ⌝ }
-    ensures { λ r. ⌜ Laid (now (out .entry)) (now (out .exit)) (at .0) (r .0) (divergenceBits (carries (sceneAt (now (records .entry)) k)) (divergenceAt (now (records .entry)) k)) ⌝ }
-    ensures { λ r. ⌜ r .0 ≤ at .0 + 11 ⌝ }
+    requires { ⌜ at .0 + mostDivergence ≤ mostPosition ⌝ }
+    requires { ⌜ k + recordStride ≤ length (now records) ⌝ }
+    ensures { λ r. ⌜ Laid mostDivergence (now (out .entry)) (now (out .exit)) (at .0) (r .0) (divergenceBits (carries (sceneAt (now (records .entry)) k)) (divergenceAt (now (records .entry)) k)) ⌝ }
 {
     let s = scene_at(records, k);
     let sent = record::carries(s);
@@ -75,23 +66,21 @@ fn put_divergence_at(out: &mut [u8], at: BitPos, records: &[u8], k: usize) -> Bi
 }
 
 fn put_precise_at(out: &mut [u8], at: BitPos, records: &[u8], k: usize) -> BitPos
-    requires { ⌜ at .0 ≤ 1900000 ⌝ }
-    requires { ⌜ k + 24 ≤ length (now records) ⌝ }
-    ensures { λ r. ⌜ Laid (now (out .entry)) (now (out .exit)) (at .0) (r .0) (preciseBits (carries (sceneAt (now (records .entry)) k)) (preciseAt (now (records .entry)) k)) ⌝ }
-    ensures { λ r. ⌜ r .0 ≤ at .0 + 10 ⌝ }
+    requires { ⌜ at .0 + mostPrecise ≤ mostPosition ⌝ }
+    requires { ⌜ k + recordStride ≤ length (now records) ⌝ }
+    ensures { λ r. ⌜ Laid mostPrecise (now (out .entry)) (now (out .exit)) (at .0) (r .0) (preciseBits (carries (sceneAt (now (records .entry)) k)) (preciseAt (now (records .entry)) k)) ⌝ }
 {
     let s = scene_at(records, k);
     let sent = record::carries(s);
-    let d = precise_at(records, k);
-    put_precise(sent, out, at, d)
+    let precise = precise_at(records, k);
+    put_precise(sent, out, at, precise)
 }
 
 // One of the two groups of a record: its divergence, or its precise position.
 fn put_extra_at(first: bool, out: &mut [u8], at: BitPos, records: &[u8], k: usize) -> BitPos
-    requires { ⌜ at .0 ≤ 1900000 ⌝ }
-    requires { ⌜ k + 24 ≤ length (now records) ⌝ }
-    ensures { λ r. ⌜ Laid (now (out .entry)) (now (out .exit)) (at .0) (r .0) (extraBits first (recordAt (now (records .entry)) k)) ⌝ }
-    ensures { λ r. ⌜ r .0 ≤ at .0 + 11 ⌝ }
+    requires { ⌜ at .0 + mostExtra ≤ mostPosition ⌝ }
+    requires { ⌜ k + recordStride ≤ length (now records) ⌝ }
+    ensures { λ r. ⌜ Laid mostExtra (now (out .entry)) (now (out .exit)) (at .0) (r .0) (extraBits first (recordAt (now (records .entry)) k)) ⌝ }
 {
     if first {
         return put_divergence_at(out, at, records, k);
@@ -101,20 +90,19 @@ fn put_extra_at(first: bool, out: &mut [u8], at: BitPos, records: &[u8], k: usiz
 
 // Of each record, in order.
 fn put_extras(first: bool, out: &mut [u8], at: BitPos, records: &[u8], n: usize) -> BitPos
-    requires { ⌜ at .0 ≤ 1800000 ⌝ }
-    requires { ⌜ (n ≤ 2040) × (24 * n ≤ length (now records)) ⌝ }
-    ensures { λ r. ⌜ Laid (now (out .entry)) (now (out .exit)) (at .0) (r .0) (eachBits (λ i r. extraBits first r) 0 (recordsAt (now (records .entry)) n 0)) ⌝ }
-    ensures { λ r. ⌜ r .0 ≤ at .0 + 11 * n ⌝ }
+    requires { ⌜ at .0 + mostExtra * n ≤ mostPosition ⌝ }
+    requires { ⌜ Stand n (now records) ⌝ }
+    ensures { λ r. ⌜ Laid (mostExtra * n) (now (out .entry)) (now (out .exit)) (at .0) (r .0) (extrasBits first (now (records .entry)) n) ⌝ }
 {
-    let mut p = at;
+    let mut next = at;
     let mut k: usize = 0;
     let mut i: usize = 0;
     while i < n {
-        p = put_extra_at(first, out, p, records, k);
-        k = k + 24;
+        next = put_extra_at(first, out, next, records, k);
+        k = k + oamd::RECORD_STRIDE;
         i = i + 1;
     }
-    p
+    next
 }
 
 fn put_extras_if(
@@ -125,10 +113,9 @@ fn put_extras_if(
     records: &[u8],
     n: usize,
 ) -> BitPos
-    requires { ⌜ at .0 ≤ 1800000 ⌝ }
-    requires { ⌜ (n ≤ 2040) × (24 * n ≤ length (now records)) ⌝ }
-    ensures { λ r. ⌜ Laid (now (out .entry)) (now (out .exit)) (at .0) (r .0) (only on (eachBits (λ i r. extraBits first r) 0 (recordsAt (now (records .entry)) n 0))) ⌝ }
-    ensures { λ r. ⌜ r .0 ≤ at .0 + 11 * n ⌝ }
+    requires { ⌜ at .0 + mostExtra * n ≤ mostPosition ⌝ }
+    requires { ⌜ Stand n (now records) ⌝ }
+    ensures { λ r. ⌜ Laid (mostExtra * n) (now (out .entry)) (now (out .exit)) (at .0) (r .0) (only on (extrasBits first (now (records .entry)) n)) ⌝ }
 {
     if on {
         return put_extras(first, out, at, records, n);
@@ -138,7 +125,7 @@ fn put_extras_if(
 
 // Which of the two groups some record needs.
 pub fn groups_of(records: &[u8], n: usize) -> Groups
-    requires { ⌜ (n ≤ 2040) × (24 * n ≤ length (now records)) ⌝ }
+    requires { ⌜ Stand n (now records) ⌝ }
     ensures { λ r. ⌜ Needed (recordsAt (now (records .entry)) n 0) r ⌝ }
 {
     let mut diverges = false;
@@ -147,10 +134,10 @@ pub fn groups_of(records: &[u8], n: usize) -> Groups
     let mut i: usize = 0;
     while i < n {
         let d = divergence_at(records, k);
-        let q = precise_at(records, k);
+        let precise = precise_at(records, k);
         diverges = either(diverges, d.used == 1);
-        refines = either(refines, 0 < q.presence);
-        k = k + 24;
+        refines = either(refines, 0 < precise.presence);
+        k = k + oamd::RECORD_STRIDE;
         i = i + 1;
     }
     Groups { diverges, refines }
@@ -164,16 +151,15 @@ pub fn put_extended_fields(
     n: usize,
     groups: Groups,
 ) -> BitPos
-    requires { ⌜ at .0 ≤ 1700000 ⌝ }
-    requires { ⌜ (n ≤ 2040) × (24 * n ≤ length (now records)) ⌝ }
+    requires { ⌜ at .0 + mostExtendedFields n ≤ mostPosition ⌝ }
+    requires { ⌜ Stand n (now records) ⌝ }
     requires { ⌜ Needed (recordsAt (now records) n 0) groups ⌝ }
-    ensures { λ r. ⌜ Laid (now (out .entry)) (now (out .exit)) (at .0) (r .0) (extendedElementBits (recordsAt (now (records .entry)) n 0)) ⌝ }
-    ensures { λ r. ⌜ r .0 ≤ at .0 + 2 + 22 * n ⌝ }
+    ensures { λ r. ⌜ Laid (mostExtendedFields n) (now (out .entry)) (now (out .exit)) (at .0) (r .0) (extendedElementBits (recordsAt (now (records .entry)) n 0)) ⌝ }
 {
     let one = as_flag(groups.diverges);
     let two = as_flag(groups.refines);
-    let p = put(out, at, 1, one as u32);
-    let p = put_extras_if(groups.diverges, true, out, p, records, n);
-    let p = put(out, p, 1, two as u32);
-    put_extras_if(groups.refines, false, out, p, records, n)
+    let next = put(out, at, 1, one as u32);
+    let next = put_extras_if(groups.diverges, true, out, next, records, n);
+    let next = put(out, next, 1, two as u32);
+    put_extras_if(groups.refines, false, out, next, records, n)
 }

@@ -1,16 +1,17 @@
 // `write`: a programme, a timing, record bytes and a trim table to a payload in a lent buffer, in the one form of documents 01 and 02. The parts lay their
 // fields clause by clause of the definition; what does not fit is not stored, so that a part laid over no room gives its length.
 ghost use mathlib.Core.Path.{_≡_};
+ghost use Rattle.bits.specs.Refusals.{numberOf};
 ghost use Rattle.form.specs.Form.{form};
 ghost use Rattle.form.specs.Answer.{tablesOf, refusedWrite, fitted, writing};
 ghost use Rattle.writer.specs.Parts.{Enough};
+use bits::Refusal;
 use oamd::Programme;
 use oamd::Timing;
 use oamd::WriteAnswer;
 use units::BitCount;
 use units::ByteCount;
 
-mod putting; // putting.rt: a field written
 mod blocks; // blocks.rt: a block
 mod header; // header.rt: what stands before the elements
 mod timing; // timing.rt: the timing
@@ -20,9 +21,6 @@ mod trim; // trim.rt: the trim element's fields
 mod sizes; // sizes.rt: an element's size
 mod element; // element.rt: the elements
 mod payload; // payload.rt: the whole form
-
-// The longest payload.
-const MOST: u32 = 4096;
 
 // Which groups of the extended element some record needs.
 pub struct Groups {
@@ -40,40 +38,40 @@ pub struct Measures {
     pub whole: BitCount,
 }
 
-fn refused(refusal: u8, place: u64) -> WriteAnswer
-    ensures { λ r. ⌜ r ≡ refusedWrite refusal place ⌝ }
+fn refused(refusal: Refusal, place: u64) -> WriteAnswer
+    ensures { λ r. ⌜ r ≡ refusedWrite (numberOf refusal) place ⌝ }
 {
     WriteAnswer {
         place,
         length: ByteCount::new(0),
-        refusal,
+        refusal: bits::number(refusal),
     }
 }
 
 // Writes the form of valid tables, if there is room for all of it.
 fn write_form(
-    q: Programme,
-    t: Timing,
+    programme: Programme,
+    timing: Timing,
     records: &[u8],
     trim: &[u8],
     payload: &mut [u8],
 ) -> WriteAnswer
-    requires { ⌜ Enough q t (now records) (now trim) ⌝ }
-    ensures { λ r. ⌜ (record { answer = r; out = now (payload .exit) }) ≡ fitted (now (payload .entry)) (form (tablesOf q t (now (records .entry)) (now (trim .entry)))) ⌝ }
+    requires { ⌜ Enough programme timing (now records) (now trim) ⌝ }
+    ensures { λ r. ⌜ (record { answer = r; out = now (payload .exit) }) ≡ fitted (now (payload .entry)) (form (tablesOf programme timing (now (records .entry)) (now (trim .entry)))) ⌝ }
 {
-    let m = payload::measure(q, t, records, trim);
+    let m = payload::measure(programme, timing, records, trim);
     let whole = m.whole;
     let length = whole.bytes();
     let bytes = length.raw();
     if payload.len() < bytes as usize {
-        return refused(11, bytes as u64);
+        return refused(Refusal::NoFit, bytes as u64);
     }
-    if MOST < bytes {
-        return refused(11, bytes as u64);
+    if oamd::MOST_BYTES < bytes as usize {
+        return refused(Refusal::NoFit, bytes as u64);
     }
-    let p = payload::put_form(payload, q, t, records, trim, m);
+    let next = payload::put_form(payload, programme, timing, records, trim, m);
     let pad = length.bit_count().minus(whole);
-    putting::put_zeros(payload, p, pad);
+    laying::put_zeros(payload, next, pad);
     WriteAnswer {
         place: 0,
         length,
@@ -93,20 +91,20 @@ pub fn write(
 {
     let count = valid::record_count(programme.objects, timing.blocks);
     if !valid::programme_valid(programme) {
-        return refused(10, 0);
+        return refused(Refusal::NotValid, 0);
     }
     if !valid::timing_valid(timing) {
-        return refused(10, 0);
+        return refused(Refusal::NotValid, 0);
     }
-    if records.len() < 24 * count {
-        return refused(10, 0);
+    if records.len() < oamd::RECORD_STRIDE * count {
+        return refused(Refusal::NotValid, 0);
     }
     let bad = valid::first_bad(programme, timing, records);
     if bad < count {
-        return refused(10, 1 + bad as u64);
+        return refused(Refusal::NotValid, 1 + bad as u64);
     }
     if !valid::trim_valid(programme.objects, trim) {
-        return refused(10, 1 + count as u64);
+        return refused(Refusal::NotValid, 1 + count as u64);
     }
     write_form(programme, timing, records, trim, payload)
 }

@@ -1,65 +1,62 @@
 // The object element's fields: the timing, and the blocks of all objects, read from the records' bytes (5.5.5, 5.5.8).
-ghost use mathlib.Core.Path.{_≡_};
-ghost use Prim.Native.Nat.{_+_, _≤_};
-ghost use Rattle.writer.specs.Laying.{Laid};
-ghost use Prim.Native.Nat.{_*_};
+ghost use Prim.Native.Nat.{_+_, _*_, _≤_};
 ghost use lib.ListN.{length};
-ghost use Rattle.bits.specs.Writes.{eachBits};
-ghost use Rattle.form.specs.Form.{byObject, objectDataBits};
+ghost use Rattle.oamd.specs.Tables.{mostBlocks, recordStride};
+ghost use Rattle.form.specs.Form.{objectDataBits};
 ghost use Rattle.record.specs.Bytes.{recordsAt};
-ghost use Rattle.writer.specs.Parts.{objectBits};
+ghost use Rattle.laying.specs.Laying.{Laid, mostPosition};
+ghost use Rattle.writer.specs.Most.{mostObject, mostObjectFields, mostCounted};
+ghost use Rattle.writer.specs.Parts.{objectsBits, objectBits, Wide, Blocks};
 use crate::blocks::block_width;
 use crate::blocks::put_block;
-use crate::putting::put;
 use crate::timing::put_timing;
+use laying::put;
 use oamd::Programme;
 use oamd::Timing;
-use record::scene_at;
 use units::BitCount;
 use units::BitPos;
+use record::scene_at;
 
 // The blocks of one object, whose records begin at a byte.
 fn put_object_data(out: &mut [u8], at: BitPos, records: &[u8], from: usize, blocks: usize) -> BitPos
-    requires { ⌜ at .0 ≤ 1700000 ⌝ }
-    requires { ⌜ (blocks ≤ 8) × (from + 24 * blocks ≤ length (now records)) ⌝ }
-    ensures { λ r. ⌜ Laid (now (out .entry)) (now (out .exit)) (at .0) (r .0) (objectDataBits (recordsAt (now (records .entry)) blocks from)) ⌝ }
-    ensures { λ r. ⌜ r .0 ≤ at .0 + 616 ⌝ }
+    requires { ⌜ at .0 + mostObject ≤ mostPosition ⌝ }
+    requires { ⌜ (blocks ≤ mostBlocks) × (from + recordStride * blocks ≤ length (now records)) ⌝ }
+    ensures { λ r. ⌜ Laid mostObject (now (out .entry)) (now (out .exit)) (at .0) (r .0) (objectDataBits (recordsAt (now (records .entry)) blocks from)) ⌝ }
 {
-    let mut p = at;
+    let mut next = at;
     let mut k = from;
     let mut i: usize = 0;
     while i < blocks {
         let s = scene_at(records, k);
-        p = put_block(i == 0, out, p, s);
-        k = k + 24;
+        next = put_block(i == 0, out, next, s);
+        k = k + oamd::RECORD_STRIDE;
         i = i + 1;
     }
-    p
+    next
 }
 
 // The objects, one after the other.
 fn put_objects(out: &mut [u8], at: BitPos, records: &[u8], objects: usize, blocks: usize) -> BitPos
-    requires { ⌜ at .0 ≤ 1500000 ⌝ }
-    requires { ⌜ (objects ≤ 255) × (blocks ≤ 8) × (24 * (objects * blocks) ≤ length (now records)) ⌝ }
-    ensures { λ r. ⌜ Laid (now (out .entry)) (now (out .exit)) (at .0) (r .0) (eachBits (λ j rs. objectDataBits rs) 0 (byObject blocks objects (recordsAt (now (records .entry)) (objects * blocks) 0))) ⌝ }
-    ensures { λ r. ⌜ r .0 ≤ at .0 + 616 * objects ⌝ }
+    requires { ⌜ at .0 + mostObject * objects ≤ mostPosition ⌝ }
+    requires { ⌜ (objects ≤ mostCounted) × Blocks objects blocks (now records) ⌝ }
+    ensures { λ r. ⌜ Laid (mostObject * objects) (now (out .entry)) (now (out .exit)) (at .0) (r .0) (objectsBits (now (records .entry)) objects blocks) ⌝ }
 {
-    let step = 24 * blocks;
-    let mut p = at;
+    let step = oamd::RECORD_STRIDE * blocks;
+    let mut next = at;
     let mut k: usize = 0;
     let mut i: usize = 0;
     while i < objects {
-        p = put_object_data(out, p, records, k, blocks);
+        next = put_object_data(out, next, records, k, blocks);
         k = k + step;
         i = i + 1;
     }
-    p
+    next
 }
 
 // How many bits those of one object are.
 fn object_data_width(records: &[u8], from: usize, blocks: usize) -> BitCount
-    requires { ⌜ (blocks ≤ 8) × (from + 24 * blocks ≤ length (now records)) ⌝ }
-    ensures { λ r. ⌜ (r .0 ≡ length (objectDataBits (recordsAt (now (records .entry)) blocks from))) × (r .0 ≤ 616) ⌝ }
+    requires { ⌜ (blocks ≤ mostBlocks) × (from + recordStride * blocks ≤ length (now records)) ⌝ }
+    ensures { λ r. ⌜ Wide mostObject (r .0) (objectDataBits (recordsAt (now (records .entry)) blocks from)) ⌝ }
 {
     let mut total = BitCount::new(0);
     let mut k = from;
@@ -68,7 +65,7 @@ fn object_data_width(records: &[u8], from: usize, blocks: usize) -> BitCount
         let s = scene_at(records, k);
         let width = block_width(i == 0, s);
         total = total.plus(width);
-        k = k + 24;
+        k = k + oamd::RECORD_STRIDE;
         i = i + 1;
     }
     total
@@ -76,10 +73,10 @@ fn object_data_width(records: &[u8], from: usize, blocks: usize) -> BitCount
 
 // And those of all.
 pub fn objects_width(records: &[u8], objects: usize, blocks: usize) -> BitCount
-    requires { ⌜ (objects ≤ 255) × (blocks ≤ 8) × (24 * (objects * blocks) ≤ length (now records)) ⌝ }
-    ensures { λ r. ⌜ (r .0 ≡ length (eachBits (λ j rs. objectDataBits rs) 0 (byObject blocks objects (recordsAt (now (records .entry)) (objects * blocks) 0)))) × (r .0 ≤ 616 * objects) ⌝ }
+    requires { ⌜ (objects ≤ mostCounted) × Blocks objects blocks (now records) ⌝ }
+    ensures { λ r. ⌜ Wide (mostObject * objects) (r .0) (objectsBits (now (records .entry)) objects blocks) ⌝ }
 {
-    let step = 24 * blocks;
+    let step = oamd::RECORD_STRIDE * blocks;
     let mut total = BitCount::new(0);
     let mut k: usize = 0;
     let mut i: usize = 0;
@@ -96,16 +93,21 @@ pub fn objects_width(records: &[u8], objects: usize, blocks: usize) -> BitCount
 pub fn put_object_fields(
     out: &mut [u8],
     at: BitPos,
-    q: Programme,
-    t: Timing,
+    programme: Programme,
+    timing: Timing,
     records: &[u8],
 ) -> BitPos
-    requires { ⌜ at .0 ≤ 1400000 ⌝ }
-    requires { ⌜ (t .blocks ≤ 8) × (24 * (q .objects * (t .blocks)) ≤ length (now records)) ⌝ }
-    ensures { λ r. ⌜ Laid (now (out .entry)) (now (out .exit)) (at .0) (r .0) (objectBits q t (now (records .entry))) ⌝ }
-    ensures { λ r. ⌜ r .0 ≤ at .0 + 205 + 616 * (q .objects) ⌝ }
+    requires { ⌜ at .0 + mostObjectFields (programme .objects) ≤ mostPosition ⌝ }
+    requires { ⌜ Blocks (programme .objects) (timing .blocks) (now records) ⌝ }
+    ensures { λ r. ⌜ Laid (mostObjectFields (programme .objects)) (now (out .entry)) (now (out .exit)) (at .0) (r .0) (objectBits programme timing (now (records .entry))) ⌝ }
 {
-    let p = put_timing(out, at, t);
-    let p = put(out, p, 1, 1);
-    put_objects(out, p, records, q.objects as usize, t.blocks as usize)
+    let next = put_timing(out, at, timing);
+    let next = put(out, next, 1, 1);
+    put_objects(
+        out,
+        next,
+        records,
+        programme.objects as usize,
+        timing.blocks as usize,
+    )
 }

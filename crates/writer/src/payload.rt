@@ -1,27 +1,26 @@
 // The whole form: what stands before the elements, their count, and each where it is there (5.5.2).
-ghost use mathlib.Core.Path.{_≡_};
-ghost use Prim.Native.Nat.{_+_, _*_, _≤_};
-ghost use lib.ListN.{length};
-ghost use Rattle.bits.specs.Language.{pick};
-ghost use Rattle.form.specs.Form.{headerBits, sizeBits, sizeFor, formBits};
+ghost use Prim.Native.Nat.{_+_, _≤_};
+ghost use Rattle.oamd.specs.Tables.{mostBeds};
+ghost use Rattle.form.specs.Form.{headerBits, formBits};
 ghost use Rattle.form.specs.Answer.{tablesOf};
-ghost use Rattle.writer.specs.Laying.{Laid};
-ghost use Rattle.writer.specs.Parts.{Enough, Measured};
+ghost use Rattle.laying.specs.Laying.{Laid, mostPosition};
+ghost use Rattle.writer.specs.Most.{mostHeader, mostPadding, mostForm};
+ghost use Rattle.writer.specs.Parts.{Wide, Framed, Enough, Measured};
 use crate::Measures;
 use crate::element::extended_inside;
 use crate::element::object_inside;
-use crate::element::put_extended_element_if;
-use crate::element::put_object_element_if;
-use crate::element::put_trim_element_if;
+use crate::element::put_extended_element;
+use crate::element::put_object_element;
+use crate::element::put_trim_element;
 use crate::element::trim_inside;
 use crate::extended::groups_of;
 use crate::header::put_header;
-use crate::putting::put;
 use crate::sizes::put_size;
 use crate::sizes::room_of;
 use crate::sizes::size_for;
 use bits::as_flag;
 use bits::either;
+use laying::put;
 use oamd::Programme;
 use oamd::Timing;
 use units::BitCount;
@@ -29,19 +28,19 @@ use units::BitPos;
 use valid::record_count;
 
 // The bits before the element count, laid where there is no room.
-fn header_bits(q: Programme) -> BitCount
-    requires { ⌜ q .bedcount ≤ 9 ⌝ }
-    ensures { λ r. ⌜ (r .0 ≡ length (headerBits q)) × (r .0 ≤ 302) ⌝ }
+fn header_bits(programme: Programme) -> BitCount
+    requires { ⌜ programme .bedcount ≤ mostBeds ⌝ }
+    ensures { λ r. ⌜ Wide mostHeader (r .0) (headerBits programme) ⌝ }
 {
     let mut scratch = [0u8; 1];
     let start = BitPos::new(0);
-    put_header(&mut scratch, start, q).since(start)
+    put_header(&mut scratch, start, programme).since(start)
 }
 
 // The bits of an element with n bits inside: id, size, and the bytes that the size counts; 0 for one that is not there.
 fn element_bits(on: bool, n: BitCount) -> BitCount
-    requires { ⌜ (1 ≤ n .0) × (n .0 ≤ 200000) ⌝ }
-    ensures { λ r. ⌜ (r .0 ≡ pick on (4 + length (sizeBits (sizeFor (n .0))) + 8 * (sizeFor (n .0) + 1)) 0) × (r .0 ≤ 200100) ⌝ }
+    requires { ⌜ (1 ≤ n .0) × (n .0 + mostPadding ≤ mostPosition) ⌝ }
+    ensures { λ r. ⌜ Framed on (n .0) (r .0) ⌝ }
 {
     if on {
         let v = size_for(n);
@@ -54,19 +53,19 @@ fn element_bits(on: bool, n: BitCount) -> BitCount
 }
 
 // How long the form and its parts are, before a byte is written.
-pub fn measure(q: Programme, t: Timing, records: &[u8], trim: &[u8]) -> Measures
-    requires { ⌜ Enough q t (now records) (now trim) ⌝ }
-    ensures { λ r. ⌜ Measured (tablesOf q t (now (records .entry)) (now (trim .entry))) r ⌝ }
+pub fn measure(programme: Programme, timing: Timing, records: &[u8], trim: &[u8]) -> Measures
+    requires { ⌜ Enough programme timing (now records) (now trim) ⌝ }
+    ensures { λ r. ⌜ Measured (tablesOf programme timing (now (records .entry)) (now (trim .entry))) r ⌝ }
 {
-    let count = record_count(q.objects, t.blocks);
+    let count = record_count(programme.objects, timing.blocks);
     let groups = groups_of(records, count);
-    let object = object_inside(q, t, records);
+    let object = object_inside(programme, timing, records);
     let extended = extended_inside(records, count, groups);
-    let trims = trim_inside(trim, q.objects);
-    let first = element_bits(0 < t.blocks, object);
+    let trims = trim_inside(trim, programme.objects);
+    let first = element_bits(0 < timing.blocks, object);
     let second = element_bits(either(groups.diverges, groups.refines), extended);
     let third = element_bits(trim[0] == 1, trims);
-    let before = header_bits(q).plus(BitCount::new(4));
+    let before = header_bits(programme).plus(BitCount::new(4));
     Measures {
         count,
         groups,
@@ -80,28 +79,36 @@ pub fn measure(q: Programme, t: Timing, records: &[u8], trim: &[u8]) -> Measures
 // Lays the form from the buffer's first bit on.
 pub fn put_form(
     out: &mut [u8],
-    q: Programme,
-    t: Timing,
+    programme: Programme,
+    timing: Timing,
     records: &[u8],
     trim: &[u8],
     m: Measures,
 ) -> BitPos
-    requires { ⌜ Enough q t (now records) (now trim) ⌝ }
-    requires { ⌜ Measured (tablesOf q t (now records) (now trim)) m ⌝ }
-    ensures { λ r. ⌜ Laid (now (out .entry)) (now (out .exit)) 0 (r .0) (formBits (tablesOf q t (now (records .entry)) (now (trim .entry)))) ⌝ }
+    requires { ⌜ Enough programme timing (now records) (now trim) ⌝ }
+    requires { ⌜ Measured (tablesOf programme timing (now records) (now trim)) m ⌝ }
+    ensures { λ r. ⌜ Laid mostForm (now (out .entry)) (now (out .exit)) 0 (r .0) (formBits (tablesOf programme timing (now (records .entry)) (now (trim .entry)))) ⌝ }
 {
     let groups = m.groups;
     let some = either(groups.diverges, groups.refines);
     let there = trim[0] == 1;
-    let one = as_flag(0 < t.blocks);
+    let one = as_flag(0 < timing.blocks);
     let two = as_flag(some);
     let three = as_flag(there);
-    let header = put_header(out, BitPos::new(0), q);
+    let header = put_header(out, BitPos::new(0), programme);
     let count = put(out, header, 4, one as u32 + two as u32 + three as u32);
     let inside = m.object;
-    let object = put_object_element_if(0 < t.blocks, out, count, q, t, records, inside);
+    let object = put_object_element(
+        0 < timing.blocks,
+        out,
+        count,
+        programme,
+        timing,
+        records,
+        inside,
+    );
     let inside = m.extended;
-    let extended = put_extended_element_if(some, out, object, records, m.count, groups, inside);
+    let extended = put_extended_element(some, out, object, records, m.count, groups, inside);
     let inside = m.trim;
-    put_trim_element_if(there, out, extended, trim, q.objects, inside)
+    put_trim_element(there, out, extended, trim, programme.objects, inside)
 }

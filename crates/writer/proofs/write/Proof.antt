@@ -2,131 +2,132 @@
 use borrow.Author.Needs.{needs}
 use borrow.Author.Tests.{leb-true, not-true, not-false}
 use denote.Ref.{now}
-use mathlib.Core.Path.{sym, ap, _∙_}
+use mathlib.Core.Bool.{true}
+use mathlib.Core.Path.{_≡_, sym, ap, _∙_}
 use Prim.Native.Nat.{ℕ, _+_, _*_, _≤_}
-use lib.ListN.{length}
 use native.Mathlib.Omega.{arith}
+use Rattle.bits.specs.declared.Refusal.the-variants.{NotValid}
+use Rattle.bits.specs.Refusals.{numberOf}
 use Rattle.oamd.specs.declared.WriteAnswer.{WriteAnswer}
-use Rattle.oamd.specs.Tables.{recordStride}
-use Rattle.form.specs.Valid.{recordCount}
+use Rattle.oamd.specs.Programme.{shares}
+use Rattle.form.specs.Valid.{programmeValid, timingValid, recordCount, firstBad}
+use Rattle.record.specs.Bytes.{recordsAt}
 use Rattle.form.specs.Answer.{refusedWrite}
 use Rattle.form.specs.Lemmas.Tests.{halves}
-use Rattle.form.specs.Lemmas.Facts.{timing-facts}
-use Rattle.form.specs.Lemmas.Facts.{programme-facts, beds-le}
-use Rattle.writer.proofs.Whole.{gives, bad-programme, bad-timing, few-bytes, bad-record, bad-trim, good-trim}
+use Rattle.form.specs.Lemmas.Facts.{timing-facts, programme-facts, beds-le}
+use Rattle.writer.proofs.Whole.{gives, Accepted, bad-programme, bad-timing, few-bytes, bad-record, bad-trim, good-trim}
 use Rattle.writer.proofs.write.Statement.{statement}
 use Rattle.writer.proofs.write.Tie as tie
 
+-- where the call began, from behind each test that was passed
+abbrev from-programme : tie.After-programme-valid → tie.Start
+from-programme c = c .before .before .before .before .before
+
+abbrev from-timing : tie.After-timing-valid → tie.Start
+from-timing c = from-programme (c .before .before)
+
+abbrev from-count : tie.Else3 → tie.Start
+from-count c = from-timing (c .before .before)
+
+-- and what is known there
+good-programme : (c : tie.Else1) → programmeValid (from-programme (c .before) .args .programme) ≡ true
+good-programme c = sym (c .before .programme-valid .ensures) ∙ not-false _ (c .if1 .left)
+
+good-timing : (c : tie.Else2) → timingValid (from-timing (c .before) .args .timing) ≡ true
+good-timing c = sym (c .before .timing-valid .ensures) ∙ not-false _ (c .if2 .left)
+
+counted : (c : tie.After-programme-valid) → c .before .record-count .result ≡ recordCount (from-programme c .args .programme) (from-programme c .args .timing)
+counted c = let count = c .before .record-count .ensures in count .0
+
+accepted : (c : tie.Else3) → Accepted (from-count c .args .programme) (from-count c .args .timing) (now (from-count c .args .records))
+accepted c =
+    let timing = c .before in
+    let programme = timing .before .before in
+    record { programme = good-programme programme; timing = good-timing timing; whole = omega (arith, counted (programme .before), c .if3 .left) }
+
+first : (c : tie.After-first-bad) → let a = from-count (c .before) .args in
+    c .first-bad .result ≡ firstBad (shares (a .programme)) (a .timing .blocks) 0 (recordsAt (now (a .records)) (recordCount (a .programme) (a .timing)) 0)
+first c = let found = c .first-bad .ensures in found .0 (accepted (c .before) .whole)
+
+count-there : (c : tie.Else3) → c .before .before .before .before .before .record-count .result ≡ recordCount (from-count c .args .programme) (from-count c .args .timing)
+count-there c = counted (c .before .before .before .before)
+
 returns : tie.Need-returns
 returns c =
-    let p = c .before in
-    let pv = p .before in
-    let start = pv .before .before .before .before .before in
-    let a = start .args in
+    let test = c .before in
+    let a = from-programme (test .before) .args in
     ap (λ (r : WriteAnswer). gives r (now (a .payload))) (c .refused .ensures)
-    ∙ bad-programme (a .programme) (a .timing) (now (a .records)) (now (a .trim)) (now (a .payload)) (sym (pv .programme-valid .ensures) ∙ not-true _ (p .if1 .taken))
+    ∙ bad-programme (a .programme) (a .timing) (now (a .records)) (now (a .trim)) (now (a .payload))
+    (sym (test .before .programme-valid .ensures) ∙ not-true _ (test .if1 .taken))
 
 returns-2 : tie.Need-returns-2
 returns-2 c =
-    let t = c .before in
-    let tv = t .before in
-    let p = tv .before in
-    let pv = p .before in
-    let start = pv .before .before .before .before .before in
-    let a = start .args in
+    let test = c .before in
+    let timing = test .before in
+    let a = from-timing timing .args in
     ap (λ (r : WriteAnswer). gives r (now (a .payload))) (c .refused2 .ensures)
-    ∙ bad-timing (a .programme) (a .timing) (now (a .records)) (now (a .trim)) (now (a .payload)) (sym (pv .programme-valid .ensures) ∙ not-false _ (p .if1 .left)) (sym (tv .timing-valid .ensures) ∙ not-true _ (t .if2 .taken))
+    ∙ bad-timing (a .programme) (a .timing) (now (a .records)) (now (a .trim)) (now (a .payload)) (good-programme (timing .before))
+    (sym (timing .timing-valid .ensures) ∙ not-true _ (test .if2 .taken))
 
 returns-3 : tie.Need-returns-3
 returns-3 c =
-    let few = c .before in
-    let t = few .before in
-    let tv = t .before in
-    let p = tv .before in
-    let pv = p .before in
-    let count = pv .before in
-    let start = count .before .before .before .before in
-    let a = start .args in
+    let test = c .before in
+    let timing = test .before in
+    let programme = timing .before .before in
+    let a = from-timing (timing .before) .args in
     ap (λ (r : WriteAnswer). gives r (now (a .payload))) (c .refused3 .ensures)
-    ∙ few-bytes (a .programme) (a .timing) (now (a .records)) (now (a .trim)) (now (a .payload)) (sym (pv .programme-valid .ensures) ∙ not-false _ (p .if1 .left)) (sym (tv .timing-valid .ensures) ∙ not-false _ (t .if2 .left)) (omega (arith, count .record-count .ensures .0, few .if3 .taken))
+    ∙ few-bytes (a .programme) (a .timing) (now (a .records)) (now (a .trim)) (now (a .payload)) (good-programme programme) (good-timing timing)
+    (omega (arith, counted (programme .before), test .if3 .taken))
 
 returns-4 : tie.Need-returns-4
 returns-4 c =
-    let r = c .before in
-    let first = r .before in
-    let few = first .before in
-    let t = few .before in
-    let tv = t .before in
-    let p = tv .before in
-    let pv = p .before in
-    let count = pv .before in
-    let start = count .before .before .before .before in
-    let a = start .args in
-    let n = count .record-count .ensures .0 in
-    let enough : recordStride * recordCount (a .programme) (a .timing) ≤ length (now (a .records)) = omega (arith, n, few .if3 .left) in
+    let test = c .before in
+    let found = test .before in
+    let bytes = found .before in
+    let a = from-count bytes .args in
     ap (λ (r : WriteAnswer). gives r (now (a .payload))) (c .refused4 .ensures)
-    ∙ bad-record (a .programme) (a .timing) (now (a .records)) (now (a .trim)) (now (a .payload)) (sym (pv .programme-valid .ensures) ∙ not-false _ (p .if1 .left)) (sym (tv .timing-valid .ensures) ∙ not-false _ (t .if2 .left)) enough _ (first .first-bad .ensures .0 enough) (omega (arith, n, r .if4 .taken))
+    ∙ bad-record (a .programme) (a .timing) (now (a .records)) (now (a .trim)) (now (a .payload)) (accepted bytes) (first found)
+    (omega (arith, count-there bytes, test .if4 .taken))
 
 returns-5 : tie.Need-returns-5
 returns-5 c =
-    let x = c .before in
-    let xv = x .before in
-    let r = xv .before in
-    let first = r .before in
-    let few = first .before in
-    let t = few .before in
-    let tv = t .before in
-    let p = tv .before in
-    let pv = p .before in
-    let count = pv .before in
-    let start = count .before .before .before .before in
-    let a = start .args in
-    let n = count .record-count .ensures .0 in
-    let enough : recordStride * recordCount (a .programme) (a .timing) ≤ length (now (a .records)) = omega (arith, n, few .if3 .left) in
-    ap (λ (r : WriteAnswer). gives r (now (a .payload))) (c .refused5 .ensures ∙ ap (λ (k : ℕ). refusedWrite 10 (1 + k)) n)
-    ∙ bad-trim (a .programme) (a .timing) (now (a .records)) (now (a .trim)) (now (a .payload)) (sym (pv .programme-valid .ensures) ∙ not-false _ (p .if1 .left)) (sym (tv .timing-valid .ensures) ∙ not-false _ (t .if2 .left)) enough _ (first .first-bad .ensures .0 enough) (omega (arith, n, r .if4 .left))
-    (sym (xv .trim-valid .ensures) ∙ not-true _ (x .if5 .taken))
+    let test = c .before in
+    let trim = test .before in
+    let records = trim .before in
+    let found = records .before in
+    let bytes = found .before in
+    let a = from-count bytes .args in
+    ap (λ (r : WriteAnswer). gives r (now (a .payload))) (c .refused5 .ensures ∙ ap (λ (k : ℕ). refusedWrite (numberOf NotValid) (1 + k)) (count-there bytes))
+    ∙ bad-trim (a .programme) (a .timing) (now (a .records)) (now (a .trim)) (now (a .payload)) (accepted bytes) (first found)
+    (omega (arith, count-there bytes, records .if4 .left)) (sym (trim .trim-valid .ensures) ∙ not-true _ (test .if5 .taken))
 
 write-form-requires : tie.Need-write-form-requires
 write-form-requires c κs =
-    let x = c .before in
-    let xv = x .before in
-    let few = xv .before .before .before in
-    let t = few .before in
-    let tv = t .before in
-    let p = tv .before in
-    let pv = p .before in
-    let count = pv .before in
-    let start = count .before .before .before .before in
-    let a = start .args in
-    let q = programme-facts (a .programme) (sym (pv .programme-valid .ensures) ∙ not-false _ (p .if1 .left)) in
+    let test = c .before in
+    let trim = test .before in
+    let bytes = trim .before .before .before in
+    let a = from-count bytes .args in
+    let tables = accepted bytes in
+    let facts = programme-facts (a .programme) (tables .programme) in
     record {
-      beds = omega (arith, beds-le (a .programme) q, q .nine);
-      blocks = timing-facts (a .timing) (sym (tv .timing-valid .ensures) ∙ not-false _ (t .if2 .left)) .blocks;
-      records = omega (arith, count .record-count .ensures .0, few .if3 .left);
-      trim = leb-true _ _ (halves _ _ (sym (xv .trim-valid .ensures) ∙ not-false _ (x .if5 .left)) .0);
+      beds = omega (arith, beds-le (a .programme) facts, facts .nine);
+      blocks = timing-facts (a .timing) (tables .timing) .blocks;
+      records = tables .whole;
+      trim = leb-true _ _ (halves _ _ (sym (trim .trim-valid .ensures) ∙ not-false _ (test .if5 .left)) .0);
     }
 
 returns-6 : tie.Need-returns-6
 returns-6 c =
     let all = c .before .before in
-    let x = all .before .before in
-    let xv = x .before in
-    let r = xv .before in
-    let first = r .before in
-    let few = first .before in
-    let t = few .before in
-    let tv = t .before in
-    let p = tv .before in
-    let pv = p .before in
-    let count = pv .before in
-    let start = count .before .before .before .before in
-    let a = start .args in
-    let n = count .record-count .ensures .0 in
-    let enough : recordStride * recordCount (a .programme) (a .timing) ≤ length (now (a .records)) = omega (arith, n, few .if3 .left) in
+    let test = all .before .before in
+    let trim = test .before in
+    let records = trim .before in
+    let found = records .before in
+    let bytes = found .before in
+    let a = from-count bytes .args in
     all .write-form .ensures
-    ∙ good-trim (a .programme) (a .timing) (now (a .records)) (now (a .trim)) (now (a .payload)) (sym (pv .programme-valid .ensures) ∙ not-false _ (p .if1 .left)) (sym (tv .timing-valid .ensures) ∙ not-false _ (t .if2 .left)) enough _ (first .first-bad .ensures .0 enough) (omega (arith, n, r .if4 .left))
-    (sym (xv .trim-valid .ensures) ∙ not-false _ (x .if5 .left))
+    ∙ good-trim (a .programme) (a .timing) (now (a .records)) (now (a .trim)) (now (a .payload)) (accepted bytes) (first found)
+    (omega (arith, count-there bytes, records .if4 .left)) (sym (trim .trim-valid .ensures) ∙ not-false _ (test .if5 .left))
 
 pub write-spec : {M : Type 1} → statement M
 write-spec =

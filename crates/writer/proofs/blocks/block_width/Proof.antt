@@ -1,9 +1,12 @@
 use borrow.Author.Needs.{needs}
-use mathlib.Core.Path.{_≡_, _∙_}
-use Prim.Native.Nat.{_+_}
+use mathlib.Core.List.{append-assoc}
+use mathlib.Core.Path.{_∙_}
 use native.Mathlib.Omega.{arith}
-use Rattle.coding.proofs.Joins.{packs-length}
-use Rattle.writer.proofs.Parts.{block-length}
+use Rattle.bits.specs.Writes.{only}
+use Rattle.coding.specs.Packing.{openingBits, endingBits}
+use Rattle.writer.specs.Parts.{middleBits}
+use Rattle.writer.proofs.Parts.{block-parts}
+use Rattle.writer.proofs.Widths.{wide-bind, wide-is, packed-wide}
 use Rattle.writer.proofs.blocks.block_width.Statement.{statement}
 use Rattle.writer.proofs.blocks.block_width.Tie as tie
 
@@ -15,13 +18,11 @@ returns c =
     let opening = ending .before .before in
     let sent = opening .before in
     let a = sent .before .args in
-    let total : c .plus2 .result .0 ≡ opening .opening .result .width .0 + middle .middle-width .result .0 + ending .ending .result .width .0 =
-    omega (arith, c .plus2 .ensures, sum .plus .ensures, middle .middle-width .ensures .1, opening .opening .ensures .most, ending .ending .ensures .most) in (
-      total
-          ∙ block-length (a .first) (a .s) (sent .carries .result) _ _ _ (sent .carries .ensures) (packs-length (opening .opening .ensures .packs))
-          (middle .middle-width .ensures .0) (packs-length (ending .ending .ensures .packs)),
-      omega (arith, total, middle .middle-width .ensures .1, opening .opening .ensures .most, ending .ending .ensures .most),
-    )
+    let two = wide-bind (packed-wide (opening .opening .ensures)) (middle .middle-width .ensures) (omega arith) (sum .plus .ensures) in
+    let on = sent .carries .result in
+    let three = append-assoc (openingBits (a .first) (a .s)) (only on (middleBits (a .first) (a .s))) (endingBits on (a .s)) in
+    wide-is (three ∙ block-parts (a .first) (a .s) on (sent .carries .ensures))
+    (wide-bind two (packed-wide (ending .ending .ensures)) (omega arith) (c .plus2 .ensures))
 
 pub block-width-spec : {M : Type 1} → statement M
 block-width-spec =

@@ -1,9 +1,8 @@
 use borrow.Author.Needs.{needs}
-use mathlib.Core.Path.{_≡_, _∙_}
-use Prim.Native.Nat.{_+_}
+use mathlib.Core.List.{append-assoc}
 use native.Mathlib.Omega.{arith}
-use Rattle.coding.proofs.Joins.{packs-length}
-use Rattle.writer.proofs.Parts.{middle-length, no-middle}
+use Rattle.coding.specs.Packing.{positioningBits, aroundBits, sizedBits}
+use Rattle.writer.proofs.Widths.{wide-bind, wide-is, wide-on, wide-off, packed-wide}
 use Rattle.writer.proofs.blocks.middle_width.Statement.{statement}
 use Rattle.writer.proofs.blocks.middle_width.Tie as tie
 
@@ -14,17 +13,13 @@ returns c =
     let around = size .before .before in
     let position = around .before .before in
     let test = position .before in
+    let two = wide-bind (packed-wide (position .positioning .ensures)) (packed-wide (around .around .ensures)) (omega arith) (sum .plus .ensures) in
     let a = test .before .args in
-    let total : c .plus2 .result .0 ≡ position .positioning .result .width .0 + around .around .result .width .0 + size .sized .result .width .0 =
-    omega (arith, c .plus2 .ensures, sum .plus .ensures, position .positioning .ensures .most, around .around .ensures .most, size .sized .ensures .most) in (
-      total
-          ∙ middle-length (a .on) (a .first) (a .s) _ _ _ (test .if1 .taken) (packs-length (position .positioning .ensures .packs))
-          (packs-length (around .around .ensures .packs)) (packs-length (size .sized .ensures .packs)),
-      omega (arith, total, position .positioning .ensures .most, around .around .ensures .most, size .sized .ensures .most),
-    )
+    wide-on (test .if1 .taken)
+    (wide-is (append-assoc (positioningBits (a .first) (a .s)) (aroundBits (a .s)) (sizedBits (a .s))) (wide-bind two (packed-wide (size .sized .ensures)) (omega arith) (c .plus2 .ensures)))
 
 returns-2 : tie.Need-returns-2
-returns-2 c = let a = c .before .before .args in (c .new .ensures ∙ no-middle (a .on) (a .first) (a .s) (c .before .if1 .left), omega (arith, c .new .ensures))
+returns-2 c = wide-off _ (c .before .if1 .left) (c .new .ensures)
 
 pub middle-width-spec : {M : Type 1} → statement M
 middle-width-spec =

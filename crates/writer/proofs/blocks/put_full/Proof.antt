@@ -1,17 +1,18 @@
 use borrow.Author.Needs.{needs}
-use native.Mathlib.Omega.{arith}
-use Rattle.writer.proofs.LayLaws.{laid-bind, laid-is}
+use Rattle.laying.proofs.Laws.{laid-bind, laid-length}
+use Rattle.writer.proofs.Widths.{packed-laid}
 use Rattle.writer.proofs.blocks.put_full.Statement.{statement}
 use Rattle.writer.proofs.blocks.put_full.Tie as tie
 
 returns : tie.Need-returns
 returns c =
-    let opening = c .before .before .before .before .before .before .before .before .before .before .before .before .before .opening .ensures in
-    let ending = c .before .before .before .before .before .before .before .before .before .before .before .before .ending .ensures in
-    let a = c .before .before .before .before .before .before .before .before .before .before .put-packed .ensures in
-    let b = c .before .before .before .before .before .before .put-middle .ensures in
-    let d = c .before .before .put-packed2 .ensures in
-    (laid-bind (laid-is (opening .packs .same) (a .0)) (laid-bind (b .0) (laid-is (ending .packs .same) (d .0))), omega (arith, a .1, b .1, d .1, opening .most, ending .most))
+    let last = c .before .before in
+    let middle = last .before .before .before .before in
+    let first = middle .before .before .before .before in
+    let ending = first .before .before in
+    let opening = ending .before in
+    laid-bind (packed-laid (opening .opening .ensures) (first .put-packed .ensures))
+    (laid-bind (middle .put-middle .ensures) (packed-laid (ending .ending .ensures) (last .put-packed2 .ensures)))
 
 pub put-full-spec : {M : Type 1} → statement M
 put-full-spec =
@@ -22,5 +23,5 @@ put-full-spec =
     (λ c κs. search needs)
     (λ c κs. search needs)
     (λ c κs. search needs)
-    (λ c. search needs)
+    (λ c. laid-length (returns c))
     returns)

@@ -7,6 +7,7 @@ use native.Mathlib.Omega.{arith}
 use borrow.Author.Needs.{needs}
 use lib.Dec.{eqb, ltb}
 use Rattle.bits.specs.Language.{pick}
+use Rattle.oamd.specs.Tables.{recordStride}
 use Rattle.oamd.specs.declared.Divergence.{Divergence}
 use Rattle.oamd.specs.declared.Precise.{Precise}
 use Rattle.form.specs.Form.{any, diverges, refines}
@@ -17,7 +18,7 @@ use Rattle.writer.proofs.extended.groups_of.Tie as tie
 
 abbrev Inv-loop : tie.InvT-loop
 Inv-loop records n diverging₀ refining₀ k₀ i₀ diverging refining k i =
-    (i ≤ n) × (k ≡ 24 * i)
+    (i ≤ n) × (k ≡ recordStride * i)
     × (pick diverging true (any diverges (recordsAt records (n - i) k)) ≡ any diverges (recordsAt records n 0))
     × (pick refining true (any refines (recordsAt records (n - i) k)) ≡ any refines (recordsAt records n 0))
 
@@ -29,13 +30,18 @@ loop-holds c = (search needs, search needs, simp sub-zero, simp sub-zero)
 
 loop-again : tie.Need-loop-again Inv-loop μ-loop
 loop-again c =
-    let h = c .before .before .before .before .before .before .before .loop in
-    let d = c .before .before .before .before .before .divergence-at .ensures .0 (omega arith) in
-    let p = c .before .before .before .before .precise-at .ensures .0 (omega arith) in (
+    let first = c .before .before in
+    let precise = first .before .before in
+    let divergence = precise .before in
+    let h = divergence .before .before .loop in
+    let found = divergence .divergence-at .ensures in
+    let here = precise .precise-at .ensures in
+    let d = ap (λ (x : Divergence). eqb (x .used) 1) (found .0 (omega arith)) in
+    let p = ap (λ (x : Precise). ltb 0 (x .presence)) (here .0 (omega arith)) in (
       search needs,
       search needs,
-      any-more diverges _ _ (h .i) _ (h .diverges) _ _ (search needs) (ap (λ (x : Divergence). eqb (x .used) 1) d) (c .before .before .either .ensures) ∙ h .inv .2,
-      any-more refines _ _ (h .i) _ (h .refines) _ _ (search needs) (ap (λ (x : Precise). ltb 0 (x .presence)) p) (c .either2 .ensures) ∙ h .inv .3,
+      any-more diverges _ _ (h .i) _ (h .diverges) _ _ (search needs) d (first .either .ensures) ∙ h .inv .2,
+      any-more refines _ _ (h .i) _ (h .refines) _ _ (search needs) p (c .either2 .ensures) ∙ h .inv .3,
     )
 
 returns : tie.Need-returns Inv-loop μ-loop

@@ -1,15 +1,19 @@
 use borrow.Author.Needs.{needs}
-use Rattle.writer.proofs.LayLaws.{laid-bind, laid-length}
+use Rattle.laying.proofs.Laws.{laid-length}
 use Rattle.writer.proofs.Records.{axes-laid}
-use native.Mathlib.Omega.{arith}
 use Rattle.writer.proofs.extended.put_axes.Statement.{statement}
 use Rattle.writer.proofs.extended.put_axes.Tie as tie
 
-same-length : tie.Need-same-length
-same-length c = laid-length (laid-bind (c .before .before .before .before .before .before .before .before .before .before .before .before .put-if .ensures .0) (laid-bind (c .before .before .before .before .before .before .before .put-if2 .ensures .0) (c .before .before .put-if3 .ensures .0)))
-
 returns : tie.Need-returns
-returns c = (axes-laid _ _ _ _ _ _ _ _ (c .before .before .before .before .before .before .before .before .before .before .before .before .before .before .before .before .before .before .before .before .before .before .args .q) _ _ _ (c .before .before .before .before .before .before .before .before .before .before .before .before .before .before .before .before .before .before .before .has-x .ensures) (c .before .before .before .before .before .before .before .before .before .before .before .before .before .before .before .before .before .has-y .ensures) (c .before .before .before .before .before .before .before .before .before .before .before .before .before .before .before .has-z .ensures) (c .before .before .before .before .before .before .before .before .before .before .before .before .put-if .ensures .0) (c .before .before .before .before .before .before .before .put-if2 .ensures .0) (c .before .before .put-if3 .ensures .0), omega (arith, c .before .before .before .before .before .before .before .before .before .before .before .before .put-if .ensures .1, c .before .before .before .before .before .before .before .put-if2 .ensures .1, c .before .before .put-if3 .ensures .1))
+returns c =
+    let third = c .before .before in
+    let second = third .before .before .before .before .before in
+    let first = second .before .before .before .before .before in
+    let z = first .before .before .before in
+    let y = z .before .before in
+    let x = y .before .before in
+    let start = x .before .before .before in
+    axes-laid (start .args .precise) (x .has-x .ensures) (y .has-y .ensures) (z .has-z .ensures) (first .put-if .ensures) (second .put-if2 .ensures) (third .put-if3 .ensures)
 
 pub put-axes-spec : {M : Type 1} → statement M
 put-axes-spec =
@@ -27,5 +31,5 @@ put-axes-spec =
     (λ c κs. search needs)
     (λ c. search needs)
     (λ c κs. search needs)
-    same-length
+    (λ c. laid-length (returns c))
     returns)

@@ -1,15 +1,18 @@
 use borrow.Author.Needs.{needs}
-use Rattle.writer.proofs.LayLaws.{laid-length}
+use Rattle.laying.proofs.Laws.{laid-length}
 use Rattle.writer.proofs.Extra.{divergence-at}
-use native.Mathlib.Omega.{arith}
 use Rattle.writer.proofs.extended.put_divergence_at.Statement.{statement}
 use Rattle.writer.proofs.extended.put_divergence_at.Tie as tie
 
-same-length : tie.Need-same-length
-same-length c = laid-length (c .before .before .put-divergence .ensures .0)
-
 returns : tie.Need-returns
-returns c = (divergence-at _ _ _ _ _ _ _ _ _ (c .before .before .before .before .before .before .scene-at .ensures .0 (search needs)) (c .before .before .before .before .before .carries .ensures) (c .before .before .before .before .divergence-at .ensures .0 (search needs)) (c .before .before .put-divergence .ensures .0), omega (arith, c .before .before .put-divergence .ensures .1))
+returns c =
+    let laid = c .before .before in
+    let found = laid .before .before in
+    let sent = found .before in
+    let scene = sent .before in
+    let there = scene .scene-at .ensures in
+    let here = found .divergence-at .ensures in
+    divergence-at _ _ (there .0 (search needs)) (sent .carries .ensures) (here .0 (search needs)) (laid .put-divergence .ensures)
 
 pub put-divergence-at-spec : {M : Type 1} → statement M
 put-divergence-at-spec =
@@ -19,5 +22,5 @@ put-divergence-at-spec =
     (λ c κs. search needs)
     (λ c κs. search needs)
     (λ c κs. search needs)
-    same-length
+    (λ c. laid-length (returns c))
     returns)

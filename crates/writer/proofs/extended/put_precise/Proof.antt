@@ -1,15 +1,17 @@
 use borrow.Author.Needs.{needs}
-use Rattle.writer.proofs.LayLaws.{laid-bind, laid-length}
+use Rattle.laying.proofs.Laws.{laid-length}
 use Rattle.writer.proofs.Records.{precise-laid}
-use native.Mathlib.Omega.{arith}
 use Rattle.writer.proofs.extended.put_precise.Statement.{statement}
 use Rattle.writer.proofs.extended.put_precise.Tie as tie
 
-same-length : tie.Need-same-length
-same-length c = laid-length (laid-bind (c .before .before .before .before .before .before .before .before .before .before .before .before .put-if .ensures .0) (laid-bind (c .before .before .before .before .before .before .put-if2 .ensures .0) (c .before .before .put-axes .ensures .0)))
-
 returns : tie.Need-returns
-returns c = (precise-laid _ _ _ _ _ _ _ _ _ (c .before .before .before .before .before .before .before .before .before .before .before .before .before .before .before .before .before .args .q) _ (c .before .before .before .before .before .before .before .before .before .before .before .before .before .before .as-flag .ensures) (c .before .before .before .before .before .before .before .before .before .before .before .before .put-if .ensures .0) (c .before .before .before .before .before .before .put-if2 .ensures .0) (c .before .before .put-axes .ensures .0), omega (arith, c .before .before .before .before .before .before .before .before .before .before .before .before .put-if .ensures .1, c .before .before .before .before .before .before .put-if2 .ensures .1, c .before .before .put-axes .ensures .1))
+returns c =
+    let axes = c .before .before in
+    let presence = axes .before .before .before .before in
+    let flag = presence .before .before .before .before .before .before in
+    let some = flag .before .before in
+    let start = some .before .before .before in
+    precise-laid (start .args .precise) (start .args .sent) (some .as-flag .ensures) (flag .put-if .ensures) (presence .put-if2 .ensures) (axes .put-axes .ensures)
 
 pub put-precise-spec : {M : Type 1} → statement M
 put-precise-spec =
@@ -21,5 +23,5 @@ put-precise-spec =
     (λ c. search needs)
     (λ c κs. search needs)
     (λ c κs. search needs)
-    same-length
+    (λ c. laid-length (returns c))
     returns)

@@ -1,15 +1,18 @@
 use borrow.Author.Needs.{needs}
-use Rattle.writer.proofs.LayLaws.{laid-length}
+use Rattle.laying.proofs.Laws.{laid-length}
 use Rattle.writer.proofs.Extra.{precise-at}
-use native.Mathlib.Omega.{arith}
 use Rattle.writer.proofs.extended.put_precise_at.Statement.{statement}
 use Rattle.writer.proofs.extended.put_precise_at.Tie as tie
 
-same-length : tie.Need-same-length
-same-length c = laid-length (c .before .before .put-precise .ensures .0)
-
 returns : tie.Need-returns
-returns c = (precise-at _ _ _ _ _ _ _ _ _ (c .before .before .before .before .before .before .scene-at .ensures .0 (search needs)) (c .before .before .before .before .before .carries .ensures) (c .before .before .before .before .precise-at .ensures .0 (search needs)) (c .before .before .put-precise .ensures .0), omega (arith, c .before .before .put-precise .ensures .1))
+returns c =
+    let laid = c .before .before in
+    let found = laid .before .before in
+    let sent = found .before in
+    let scene = sent .before in
+    let there = scene .scene-at .ensures in
+    let here = found .precise-at .ensures in
+    precise-at _ _ (there .0 (search needs)) (sent .carries .ensures) (here .0 (search needs)) (laid .put-precise .ensures)
 
 pub put-precise-at-spec : {M : Type 1} → statement M
 put-precise-at-spec =
@@ -19,5 +22,5 @@ put-precise-at-spec =
     (λ c κs. search needs)
     (λ c κs. search needs)
     (λ c κs. search needs)
-    same-length
+    (λ c. laid-length (returns c))
     returns)

@@ -1,15 +1,18 @@
 use borrow.Author.Needs.{needs}
-use Rattle.writer.proofs.LayLaws.{laid-bind, laid-length}
+use Rattle.laying.proofs.Laws.{laid-length}
 use Rattle.writer.proofs.Heads.{header-laid}
-use native.Mathlib.Omega.{arith}
 use Rattle.writer.proofs.header.put_header.Statement.{statement}
 use Rattle.writer.proofs.header.put_header.Tie as tie
 
-same-length : tie.Need-same-length
-same-length c = laid-length (laid-bind (c .before .before .before .before .before .before .before .before .before .before .before .before .before .before .put .ensures .0) (laid-bind (c .before .before .before .before .before .before .before .before .before .before .put-count .ensures .0) (laid-bind (c .before .before .before .before .before .before .put-assignment .ensures .0) (c .before .before .put2 .ensures .0))))
-
 returns : tie.Need-returns
-returns c = (header-laid _ _ _ _ _ _ _ _ _ _ _ _ (c .before .before .before .before .before .before .before .before .before .before .before .before .before .before .before .before .less .ensures) (c .before .before .before .before .before .before .before .before .before .before .before .before .before .before .put .ensures .0) (c .before .before .before .before .before .before .before .before .before .before .put-count .ensures .0) (c .before .before .before .before .before .before .put-assignment .ensures .0) (c .before .before .put2 .ensures .0), omega (arith, c .before .before .before .before .before .before .before .before .before .before .before .before .before .before .put .ensures .1, c .before .before .before .before .before .before .before .before .before .before .put-count .ensures .1, c .before .before .before .before .before .before .put-assignment .ensures .1, c .before .before .put2 .ensures .1))
+returns c =
+    let ids = c .before .before in
+    let assignment = ids .before .before .before .before in
+    let count = assignment .before .before .before .before in
+    let version = count .before .before .before .before in
+    let more = version .before .before in
+    let start = more .before .before in
+    header-laid (start .args .programme) (more .less .ensures) (version .put .ensures) (count .put-count .ensures) (assignment .put-assignment .ensures) (ids .put2 .ensures)
 
 pub put-header-spec : {M : Type 1} → statement M
 put-header-spec =
@@ -20,5 +23,5 @@ put-header-spec =
     (λ c κs. search needs)
     (λ c κs. search needs)
     (λ c κs. search needs)
-    same-length
+    (λ c. laid-length (returns c))
     returns)

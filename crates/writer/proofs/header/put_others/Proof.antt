@@ -1,15 +1,17 @@
 use borrow.Author.Needs.{needs}
-use Rattle.writer.proofs.LayLaws.{laid-bind, laid-length}
+use Rattle.laying.proofs.Laws.{laid-length}
 use Rattle.writer.proofs.Heads.{others-laid}
-use native.Mathlib.Omega.{arith}
 use Rattle.writer.proofs.header.put_others.Statement.{statement}
 use Rattle.writer.proofs.header.put_others.Tie as tie
 
-same-length : tie.Need-same-length
-same-length c = laid-length (laid-bind (c .before .before .before .before .before .before .put-if .ensures .0) (c .before .before .put-count-if .ensures .0))
-
 returns : tie.Need-returns
-returns c = (others-laid _ _ _ _ _ _ (c .before .before .before .before .before .before .before .before .before .before .before .before .before .before .args .q) _ _ (c .before .before .before .before .before .before .before .before .before .before .before .has-isf .ensures) (c .before .before .before .before .before .before .before .before .before .has-dynamic .ensures) (c .before .before .before .before .before .before .put-if .ensures .0) (c .before .before .put-count-if .ensures .0), omega (arith, c .before .before .before .before .before .before .put-if .ensures .1, c .before .before .put-count-if .ensures .1))
+returns c =
+    let count = c .before .before in
+    let isf = count .before .before .before .before in
+    let dynamic = isf .before .before .before in
+    let spatial = dynamic .before .before in
+    let start = spatial .before .before .before in
+    others-laid (start .args .programme) (spatial .has-isf .ensures) (dynamic .has-dynamic .ensures) (isf .put-if .ensures) (count .put-count-if .ensures)
 
 pub put-others-spec : {M : Type 1} → statement M
 put-others-spec =
@@ -22,5 +24,5 @@ put-others-spec =
     (λ c. search needs)
     (λ c κs. search needs)
     (λ c κs. search needs)
-    same-length
+    (λ c. laid-length (returns c))
     returns)

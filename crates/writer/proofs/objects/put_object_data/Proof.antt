@@ -1,44 +1,48 @@
--- `put_object_data` meets its contract: whoever lays what is left from here has laid all from the start. Assumes nothing.
-use mathlib.Core.Path.{_≡_, refl, ap}
+-- `put_object_data` meets its contract: whoever lays the blocks left from here has laid all from the start. Assumes nothing.
+use mathlib.Core.Path.{_≡_, ap}
 use Prim.Native.Nat.{_+_, _-_, _*_, _≤_}
 use native.Mathlib.Nat.{sub-zero}
 use native.Mathlib.Omega.{arith}
 use borrow.Author.Needs.{needs}
-use lib.ListN.{length}
-use Rattle.bits.specs.Writes.{eachBits}
-use Rattle.writer.proofs.LayLaws.{Rest, rest-start, rest-step, rest-end, laid-is}
-use Rattle.record.specs.Bytes.{recordsAt}
 use lib.Dec.{eqb}
+use Rattle.bits.specs.Writes.{eachBits}
+use Rattle.oamd.specs.Tables.{recordStride}
 use Rattle.oamd.specs.declared.Scene.{Scene}
+use Rattle.record.specs.Bytes.{recordsAt}
 use Rattle.form.specs.Form.{blockBits, objectDataBits}
+use Rattle.laying.proofs.Laws.{Rest, rest-start, rest-step, rest-end, laid-is}
+use Rattle.writer.specs.Most.{mostBlock}
 use Rattle.writer.proofs.Records.{records-more, records-none}
 use Rattle.writer.proofs.objects.put_object_data.Statement.{statement}
 use Rattle.writer.proofs.objects.put_object_data.Tie as tie
 
 abbrev Inv-loop : tie.InvT-loop
-Inv-loop out₀ records from blocks p₀ k₀ i₀ out p k i =
-    (length out ≡ length out₀) × (i ≤ blocks) × (k ≡ from + 24 * i) × (p .0 ≤ p₀ .0 + 77 * i)
-    × Rest out₀ out (p₀ .0) (p .0) (objectDataBits (recordsAt records blocks from)) (eachBits (λ blk r. blockBits (eqb blk 0) (r .scene)) i (recordsAt records (blocks - i) k))
+Inv-loop out₀ records from blocks next₀ k₀ i₀ out next k i =
+    Rest (mostBlock * i) out₀ out (next₀ .0) (next .0) (objectDataBits (recordsAt records blocks from))
+    (eachBits (λ blk r. blockBits (eqb blk 0) (r .scene)) i (recordsAt records (blocks - i) k))
+    × (i ≤ blocks) × (k ≡ from + recordStride * i)
 
 abbrev μ-loop : tie.MeasureT-loop
-μ-loop out₀ records from blocks p₀ k₀ i₀ out p k i = blocks - i
+μ-loop out₀ records from blocks next₀ k₀ i₀ out next k i = blocks - i
 
 loop-holds : tie.Need-loop-holds Inv-loop μ-loop
 unfolding objectDataBits
-loop-holds c = (refl, search needs, search needs, search needs, rest-start _ _ _ _ (simp sub-zero))
+loop-holds c = (rest-start (simp sub-zero), search needs, search needs)
 
 loop-again : tie.Need-loop-again Inv-loop μ-loop
 loop-again c =
-    let h = c .before .before .before .before .before .before .loop in (
-      search needs,
-      search needs,
-      search needs,
-      search needs,
-      rest-step _ _ (records-more _ _ _ (h .i) _ (search needs)) (h .inv .4) (laid-is (ap (λ (x : Scene). blockBits (eqb (h .i) 0) x) (c .before .before .before .before .scene-at .ensures .0 (omega arith))) (c .before .before .put-block .ensures .0)),
-    )
+    let laid = c .before .before in
+    let scene = laid .before .before in
+    let turn = scene .before in
+    let h = turn .before .loop in
+    let start = turn .before .before .before .before in
+    let found = scene .scene-at .ensures in
+    let there = found .0 (omega (arith, turn .loop-test .taken, h .inv .2, start .pre)) in
+    let here = laid-is (ap (λ (x : Scene). blockBits (eqb (h .i) 0) x) there) (laid .put-block .ensures) in
+    (rest-step (omega arith) (records-more _ _ _ (h .i) _ (search needs)) (h .inv .0) here, search needs, search needs)
 
 returns : tie.Need-returns Inv-loop μ-loop
-returns c = (rest-end (records-none _ _ _ _ _ (omega arith)) (c .before .loop .inv .4), search needs)
+returns c = rest-end (omega arith) (records-none _ _ _ _ _ (omega arith)) (c .before .loop .inv .0)
 
 pub put-object-data-spec : {M : Type 1} → statement M
 put-object-data-spec =

@@ -1,16 +1,15 @@
 use borrow.Author.Needs.{needs}
-use Rattle.writer.proofs.LayLaws.{laid-bind, laid-length}
+use Rattle.laying.proofs.Laws.{laid-bind, laid-length}
 use Rattle.form.specs.Form.{groupBits}
-use native.Mathlib.Omega.{arith}
 use Rattle.writer.proofs.sizes.put_group.Statement.{statement}
 use Rattle.writer.proofs.sizes.put_group.Tie as tie
 
-same-length : tie.Need-same-length
-same-length c = laid-length (laid-bind (c .before .before .before .before .before .before .put .ensures .0) (c .before .before .put2 .ensures .0))
-
 returns : tie.Need-returns
 unfolding groupBits
-returns c = ((laid-bind (c .before .before .before .before .before .before .put .ensures .0) (c .before .before .put2 .ensures .0)), omega (arith, c .before .before .before .before .before .before .put .ensures .1, c .before .before .put2 .ensures .1))
+returns c =
+    let more = c .before .before in
+    let digit = more .before .before .before .before in
+    laid-bind (digit .put .ensures) (more .put2 .ensures)
 
 pub put-group-spec : {M : Type 1} → statement M
 put-group-spec =
@@ -18,5 +17,5 @@ put-group-spec =
     (tie.spec
     (λ c κs. search needs)
     (λ c κs. search needs)
-    same-length
+    (λ c. laid-length (returns c))
     returns)

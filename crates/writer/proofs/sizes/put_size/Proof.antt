@@ -1,15 +1,21 @@
 use borrow.Author.Needs.{needs}
-use Rattle.writer.proofs.LayLaws.{laid-bind, laid-length}
+use Rattle.laying.proofs.Laws.{laid-length}
 use Rattle.writer.proofs.Heads.{size-groups}
-use native.Mathlib.Omega.{arith}
 use Rattle.writer.proofs.sizes.put_size.Statement.{statement}
 use Rattle.writer.proofs.sizes.put_size.Tie as tie
 
-same-length : tie.Need-same-length
-same-length c = laid-length (laid-bind (c .before .before .before .before .before .before .before .before .before .before .before .before .before .before .put-group-if .ensures .0) (laid-bind (c .before .before .before .before .before .before .before .before .before .before .put-group-if2 .ensures .0) (laid-bind (c .before .before .before .before .before .before .put-group-if3 .ensures .0) (c .before .before .put-group .ensures .0))))
-
 returns : tie.Need-returns
-returns c = (size-groups _ _ _ _ _ _ _ _ _ _ _ _ _ _ (c .before .before .before .before .before .before .before .before .before .before .before .before .before .before .before .before .before .before .minus .ensures) (c .before .before .before .before .before .before .before .before .before .before .before .before .before .before .before .before .before .minus2 .ensures) (c .before .before .before .before .before .before .before .before .before .before .before .before .before .before .before .before .minus3 .ensures) (c .before .before .before .before .before .before .before .before .before .before .before .before .before .before .put-group-if .ensures .0) (c .before .before .before .before .before .before .before .before .before .before .put-group-if2 .ensures .0) (c .before .before .before .before .before .before .put-group-if3 .ensures .0) (c .before .before .put-group .ensures .0), omega (arith, c .before .before .before .before .before .before .before .before .before .before .before .before .before .before .put-group-if .ensures .1, c .before .before .before .before .before .before .before .before .before .before .put-group-if2 .ensures .1, c .before .before .before .before .before .before .put-group-if3 .ensures .1, c .before .before .put-group .ensures .1))
+returns c =
+    let last = c .before .before in
+    let second = last .before .before .before .before in
+    let third = second .before .before .before .before in
+    let fourth = third .before .before .before .before in
+    let c₃ = fourth .before .before in
+    let b₂ = c₃ .before in
+    let a₁ = b₂ .before in
+    let start = a₁ .before .before in
+    size-groups (start .args .v) (a₁ .minus .ensures) (b₂ .minus2 .ensures) (c₃ .minus3 .ensures) (fourth .put-group-if .ensures) (third .put-group-if2 .ensures)
+    (second .put-group-if3 .ensures) (last .put-group .ensures)
 
 pub put-size-spec : {M : Type 1} → statement M
 put-size-spec =
@@ -22,5 +28,5 @@ put-size-spec =
     (λ c κs. search needs)
     (λ c κs. search needs)
     (λ c κs. search needs)
-    same-length
+    (λ c. laid-length (returns c))
     returns)

@@ -1,14 +1,15 @@
 use borrow.Author.Needs.{needs}
-use Rattle.writer.proofs.LayLaws.{laid-bind, laid-length}
-use native.Mathlib.Omega.{arith}
+use Rattle.laying.proofs.Laws.{laid-bind, laid-length}
 use Rattle.writer.proofs.timing.put_ramp.Statement.{statement}
 use Rattle.writer.proofs.timing.put_ramp.Tie as tie
 
-same-length : tie.Need-same-length
-same-length c = laid-length (laid-bind (c .before .before .before .before .before .before .before .before .before .before .before .before .before .before .put .ensures .0) (laid-bind (c .before .before .before .before .before .before .before .before .before .before .put-if .ensures .0) (laid-bind (c .before .before .before .before .before .before .put-if2 .ensures .0) (c .before .before .put-both .ensures .0))))
-
 returns : tie.Need-returns
-returns c = ((laid-bind (c .before .before .before .before .before .before .before .before .before .before .before .before .before .before .put .ensures .0) (laid-bind (c .before .before .before .before .before .before .before .before .before .before .put-if .ensures .0) (laid-bind (c .before .before .before .before .before .before .put-if2 .ensures .0) (c .before .before .put-both .ensures .0)))), omega (arith, c .before .before .before .before .before .before .before .before .before .before .before .before .before .before .put .ensures .1, c .before .before .before .before .before .before .before .before .before .before .put-if .ensures .1, c .before .before .before .before .before .before .put-if2 .ensures .1, c .before .before .put-both .ensures .1))
+returns c =
+    let bits = c .before .before in
+    let index = bits .before .before .before .before in
+    let indexed = index .before .before .before .before in
+    let code = indexed .before .before .before .before in
+    laid-bind (code .put .ensures) (laid-bind (indexed .put-if .ensures) (laid-bind (index .put-if2 .ensures) (bits .put-both .ensures)))
 
 pub put-ramp-spec : {M : Type 1} → statement M
 put-ramp-spec =
@@ -18,5 +19,5 @@ put-ramp-spec =
     (λ c κs. search needs)
     (λ c κs. search needs)
     (λ c κs. search needs)
-    same-length
+    (λ c. laid-length (returns c))
     returns)

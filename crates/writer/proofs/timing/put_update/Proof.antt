@@ -1,15 +1,22 @@
 use borrow.Author.Needs.{needs}
-use Rattle.writer.proofs.LayLaws.{laid-bind, laid-length}
+use Rattle.laying.proofs.Laws.{laid-length}
 use Rattle.writer.proofs.Heads.{update-laid}
-use native.Mathlib.Omega.{arith}
 use Rattle.writer.proofs.timing.put_update.Statement.{statement}
 use Rattle.writer.proofs.timing.put_update.Tie as tie
 
-same-length : tie.Need-same-length
-same-length c = laid-length (laid-bind (c .before .before .before .before .before .before .put .ensures .0) (c .before .before .put-ramp .ensures .0))
-
 returns : tie.Need-returns
-returns c = (update-laid _ _ _ _ _ _ (c .before .before .before .before .before .before .before .before .before .before .before .before .before .before .before .args .u) _ _ _ _ _ _ (c .before .before .before .before .before .before .before .before .before .before .before .before .before .raw .ensures) (c .before .before .before .before .before .before .before .before .before .before .before .before .raw2 .ensures) (c .before .before .before .before .before .before .before .before .before .before .before .ramp-code .ensures) (c .before .before .before .before .before .before .before .before .before .before .ramp-indexed .ensures) (c .before .before .before .before .before .before .before .before .before .ramp-index .ensures) (c .before .before .before .before .before .before .before .before .ramp-bits .ensures) (c .before .before .before .before .before .before .put .ensures .0) (c .before .before .put-ramp .ensures .0), omega (arith, c .before .before .before .before .before .before .put .ensures .1, c .before .before .put-ramp .ensures .1))
+returns c =
+    let laid = c .before .before in
+    let factor = laid .before .before .before .before in
+    let bits = factor .before .before in
+    let index = bits .before in
+    let indexed = index .before in
+    let code = indexed .before in
+    let ramp = code .before in
+    let begin = ramp .before in
+    let start = begin .before .before in
+    update-laid (start .args .update) (begin .raw .ensures) (ramp .raw2 .ensures) (code .ramp-code .ensures) (indexed .ramp-indexed .ensures) (index .ramp-index .ensures)
+    (bits .ramp-bits .ensures) (factor .put .ensures) (laid .put-ramp .ensures)
 
 pub put-update-spec : {M : Type 1} → statement M
 put-update-spec =
@@ -24,5 +31,5 @@ put-update-spec =
     (λ c. search needs)
     (λ c κs. search needs)
     (λ c κs. search needs)
-    same-length
+    (λ c. laid-length (returns c))
     returns)

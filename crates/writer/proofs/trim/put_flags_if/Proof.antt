@@ -1,24 +1,7 @@
 use borrow.Author.Needs.{needs}
-use Rattle.writer.proofs.LayLaws.{laid-on, laid-off}
+use Rattle.laying.proofs.Laws.{laid-on, laid-off}
 use Rattle.writer.proofs.trim.put_flags_if.Statement.{statement}
 use Rattle.writer.proofs.trim.put_flags_if.Tie as tie
 
-returns : tie.Need-returns
-returns c =
-    let a = c .before .before in
-    let start = a .before .before .before .before .before in
-    (laid-on (start .args .on) (search needs) (a .put-flags .ensures .0), search needs)
-
-returns-2 : tie.Need-returns-2
-returns-2 c =
-    let start = c .before .before .before in
-    (laid-off _ (start .args .on) (search needs), search needs)
-
 pub put-flags-if-spec : {M : Type 1} → statement M
-put-flags-if-spec =
-    tie.close
-    (tie.spec
-    (λ c κs. search needs)
-    (λ c. search needs)
-    returns
-    returns-2)
+put-flags-if-spec = tie.close (tie.spec (λ c κs. search needs) (λ c. search needs) (λ c. search laid-on) (λ c. search laid-off))

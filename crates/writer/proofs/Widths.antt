@@ -1,0 +1,53 @@
+-- How many bits: of one part behind the other, of a part that may be absent, of packed bits, and of a loop's entries. Assumes nothing.
+use mathlib.Core.Path.{_≡_, refl, ap, _∙_, subst}
+use mathlib.Core.Bool.{Bool, true, false}
+use mathlib.Core.List.{List, [], _++_}
+use Prim.Native.Nat.{ℕ, _+_, _%_, _≤_, _<_}
+use native.Mathlib.Omega.{arith}
+use lib.ListN.{length, length-append}
+use Rattle.bits.specs.Writes.{only, toBits}
+use Rattle.coding.specs.declared.Packed.{Packed}
+use Rattle.coding.specs.Packing.{PacksIn}
+use Rattle.coding.proofs.Joins.{packs-length}
+use Rattle.laying.specs.Laying.{Laid}
+use Rattle.laying.proofs.Laws.{laid-is, laid-within}
+use Rattle.writer.specs.Parts.{Wide}
+
+-- a sum of counts that are not long does not wrap
+pub wide-bind : {k n a b r : ℕ} {l m : List ℕ} → Wide k a l → Wide n b m → k + n < 4294967296 → r ≡ (a + b) % 4294967296 → Wide (k + n) r (l ++ m)
+wide-bind {l = l} {m} f g h e =
+    record { same = omega (arith, f .same, f .most, g .same, g .most, length-append l m); most = omega (arith, f .most, g .most) }
+
+pub wide-is : {k n : ℕ} {l m : List ℕ} → l ≡ m → Wide k n l → Wide k n m
+wide-is {k} {n} e h = subst (λ (x : List ℕ). Wide k n x) e h
+
+pub wide-on : {k n : ℕ} {on : Bool} {l : List ℕ} → on ≡ true → Wide k n l → Wide k n (only on l)
+wide-on e h = rw e h
+
+pub wide-off : {k n : ℕ} {on : Bool} (l : List ℕ) → on ≡ false → n ≡ 0 → Wide k n (only on l)
+wide-off l e f = rw e (record { same = f; most = omega arith })
+
+-- what is promised of packed bits: what they are, and how wide
+module _ {k : ℕ} {p : Packed} {l : List ℕ} (h : PacksIn 1 k p l) where
+  pub packed-wide : Wide k (p .width .0) l
+  packed-wide = record { same = packs-length (h .packs); most = h .most }
+
+  pub packed-laid : {s t : List ℕ} {at r : ℕ} → Laid (p .width .0) s t at r (toBits (p .width .0) (p .value)) → Laid k s t at r l
+  packed-laid g = laid-within (h .most) (laid-is (h .packs .same) g)
+
+-- a loop's invariant: n bits are counted, k at the most, and m is left of l
+pub record Counted (k n : ℕ) (l m : List ℕ) : Type 0 where
+  pub same : n + length m ≡ length l
+  pub most : n ≤ k
+
+pub counted-start : {k n : ℕ} {l m : List ℕ} → n ≡ 0 → m ≡ l → Counted k n l m
+counted-start e f = record { same = omega (arith, e, ap length f); most = omega arith }
+
+pub counted-step : {k w j n b r : ℕ} {l m a c : List ℕ} → k + w ≤ j → j < 4294967296 → m ≡ a ++ c → Counted k n l m → Wide w b a → r ≡ (n + b) % 4294967296
+    → Counted j r l c
+counted-step {a = a} {c} h i e f g d =
+    let all : _ = ap length e ∙ length-append a c in
+    record { same = omega (arith, all, f .same, f .most, g .same, g .most); most = omega (arith, f .most, g .most) }
+
+pub counted-end : {k j n : ℕ} {l m : List ℕ} → k ≤ j → m ≡ [] → Counted k n l m → Wide j n l
+counted-end h e f = record { same = omega (arith, f .same, ap length e); most = omega (arith, f .most) }
