@@ -17,10 +17,10 @@ use laying::put_both;
 use laying::put_if;
 use oamd::Divergence;
 use oamd::Precise;
-use units::BitPos;
 use record::divergence_at;
 use record::precise_at;
 use record::scene_at;
+use units::BitPos;
 
 fn put_divergence(sent: bool, out: &mut [u8], at: BitPos, d: Divergence) -> BitPos
     requires { ⌜ at .0 + mostDivergence ≤ mostPosition ⌝ }

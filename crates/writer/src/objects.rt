@@ -13,9 +13,9 @@ use crate::timing::put_timing;
 use laying::put;
 use oamd::Programme;
 use oamd::Timing;
+use record::scene_at;
 use units::BitCount;
 use units::BitPos;
-use record::scene_at;
 
 // The blocks of one object, whose records begin at a byte.
 fn put_object_data(out: &mut [u8], at: BitPos, records: &[u8], from: usize, blocks: usize) -> BitPos
