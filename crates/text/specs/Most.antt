@@ -12,7 +12,7 @@ use Rattle.bits.specs.Writes.{only}
 use Rattle.oamd.specs.declared.ReadAnswer.{ReadAnswer}
 use Rattle.oamd.specs.declared.Programme.{Programme}
 use Rattle.oamd.specs.declared.Update.{Update}
-use Rattle.oamd.specs.Tables.{recordBytes, mostObjects, mostBlocks, roomBytes, mostTrim}
+use Rattle.oamd.specs.Tables.{recordBytes, mostObjects, mostBlocks, roomBytes, mostTrim, recordStride}
 use Rattle.oamd.specs.Programme.{shares}
 use Rattle.oamd.specs.Timing.{noUpdate}
 use Rattle.form.specs.Lemmas.Tests.{by-test}
@@ -70,7 +70,7 @@ record-most object blk records i h l =
     let a = decimal-length 3 object (omega arith) (omega arith) in
     let b = decimal-length 1 blk (omega arith) (omega arith) in
     let bytes = recordAt records i in
-    let few = length-take recordBytes (drop (24 * i) records) in
+    let few = length-take recordBytes (drop (recordStride * i) records) in
     omega (arith, three-long recordKey (decimal object) (decimal blk) (hex bytes), hex-long bytes)
 
 -- ---- the whole
