@@ -52,15 +52,15 @@ fn read_objects(
     s: &[u8],
     l: Limit,
     c: Cur,
-    w: Scope,
+    scope: Scope,
     blocks: usize,
     out: &mut [u8; ROOM_BYTES],
 ) -> Cur
-    requires { ⌜ ObjectsRoom (w .objects) blocks (now out) ⌝ }
-    ensures { λ r. ⌜ ObjectsRead (w .objects) (w .shares) blocks (bit (now (s .entry))) c l (now (out .entry)) r (now (out .exit)) ⌝ }
+    requires { ⌜ ObjectsRoom (scope .objects) blocks (now out) ⌝ }
+    ensures { λ r. ⌜ ObjectsRead (scope .objects) (scope .shares) blocks (bit (now (s .entry))) c l (now (out .entry)) r (now (out .exit)) ⌝ }
 {
-    let shares = w.shares;
-    let n = w.objects;
+    let shares = scope.shares;
+    let n = scope.objects;
     let mut cur = c;
     let mut at: usize = 0;
     let mut j: usize = 0;
@@ -81,16 +81,16 @@ pub fn read_object_element(
     s: &[u8],
     l: Limit,
     c: Cur,
-    w: Scope,
+    scope: Scope,
     out: &mut [u8; ROOM_BYTES],
 ) -> TimingStep
-    requires { ⌜ (w .objects ≤ mostObjects) × (length (now out) ≡ roomBytes) ⌝ }
-    ensures { λ r. ⌜ ElementRead (w .objects) (w .shares) (bit (now (s .entry))) c l (now (out .entry)) r (now (out .exit)) ⌝ }
+    requires { ⌜ (scope .objects ≤ mostObjects) × (length (now out) ≡ roomBytes) ⌝ }
+    ensures { λ r. ⌜ ElementRead (scope .objects) (scope .shares) (bit (now (s .entry))) c l (now (out .entry)) r (now (out .exit)) ⌝ }
 {
     let step = read_timing(s, l, c);
     let timing = step.timing;
     let absent = bits::take(s, l, step.cur, 1);
     let reserved = bits::take_if(absent.v == 0, s, l, absent, 5);
-    let cur = read_objects(s, l, reserved, w, timing.blocks as usize, out);
+    let cur = read_objects(s, l, reserved, scope, timing.blocks as usize, out);
     TimingStep { timing, cur }
 }

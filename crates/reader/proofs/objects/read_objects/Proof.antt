@@ -19,7 +19,7 @@ fits : (c : tie.In-loop Inv-loop μ-loop) → c .before .loop .at + recordStride
 fits c =
     let head = c .before in
     let entry = head .before .before .before in
-    omega (arith, head .loop .inv .place, room (entry .args .w .objects) (entry .args .blocks) (head .loop .j) (entry .pre .many) (entry .pre .few) (omega arith))
+    omega (arith, head .loop .inv .place, room (entry .args .scope .objects) (entry .args .blocks) (head .loop .j) (entry .pre .many) (entry .pre .few) (omega arith))
 
 read-object-requires : tie.Need-read-object-requires Inv-loop μ-loop
 read-object-requires c κs =
