@@ -56,28 +56,31 @@ fn read_fields(
     requires { ⌜ Underway scope st (lent (now out) (now table)) ⌝ }
     ensures { λ r. ⌜ FieldsRead kind scope st (bit (now (s .entry))) c l (lent (now (out .entry)) (now (table .entry))) r (lent (now (out .exit)) (now (table .exit))) ⌝ }
 {
-    let mut state = st;
-    let mut cur = c;
     match kind {
-        Kind::Unknown => {}
+        Kind::Unknown => StateStep { state: st, cur: c },
         Kind::Object => {
             let step = read_object_element(s, l, c, scope, out);
             let timing = step.timing;
+            let cur = step.cur;
+            let mut state = st;
             state.timing = timing;
             state.object = true;
-            cur = step.cur;
+            StateStep { state, cur }
         }
         Kind::Trim => {
-            cur = read_trim(s, l, c, scope.objects, table);
+            let cur = read_trim(s, l, c, scope.objects, table);
+            let mut state = st;
             state.trim = true;
+            StateStep { state, cur }
         }
         Kind::Extended => {
             let timing = st.timing;
-            cur = read_extended(s, l, c, scope.objects * timing.blocks as usize, out);
+            let cur = read_extended(s, l, c, scope.objects * timing.blocks as usize, out);
+            let mut state = st;
             state.extended = true;
+            StateStep { state, cur }
         }
     }
-    StateStep { state, cur }
 }
 
 // ---- the same for every kind
