@@ -8,7 +8,7 @@ use native.Mathlib.Omega.{arith}
 use lib.Dec.{lit<}
 use lib.ListN.{getD}
 use lib.Pow.{shr-shr, shl-shr, field, mod-mod-pow, mod-pow-add}
-use Rattle.bits.specs.Language.{Bits, slice, number, bit}
+use Rattle.bits.specs.Language.{widestField, Bits, slice, number, bit}
 use Rattle.bits.specs.Steps.{length-slice}
 use Rattle.bits.specs.View.{wordAt}
 
@@ -81,7 +81,7 @@ module _ (s : List ℕ) (bytes : (i : ℕ) → getD s i 0 < 256) where
       ∙ ap (λ (k : ℕ). wordAt s i / 2 ^ k % 2 ^ suc w) f
 
   -- what the two shifts leave of x, the word at the byte of p
-  pub shifted : (p w x : ℕ) → w ≤ 24 → x ≡ wordAt s (p / 8) → x * 2 ^ (p % 8) % 2 ^ 32 / 2 ^ (32 - w) ≡ number (slice (bit s) p w)
+  pub shifted : (p w x : ℕ) → w ≤ widestField → x ≡ wordAt s (p / 8) → x * 2 ^ (p % 8) % 2 ^ 32 / 2 ^ (32 - w) ≡ number (slice (bit s) p w)
   shifted p w x h q =
       let o = p % 8 in
       let e : 32 ≡ w + (32 - w) = omega arith in

@@ -66,4 +66,5 @@ pub enum Refusal {
     Room,
     NotValid,
     NoFit,
+    ShortText,
 }

@@ -19,5 +19,6 @@ pub fn number(r: Refusal) -> u8
         Refusal::Room => 9,
         Refusal::NotValid => 10,
         Refusal::NoFit => 11,
+        Refusal::ShortText => 18,
     }
 }

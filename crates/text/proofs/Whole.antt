@@ -13,7 +13,9 @@ use Rattle.oamd.specs.Record.{onto}
 use Rattle.oamd.specs.Answer.{Outcome, reading}
 use Rattle.text.specs.declared.TextAnswer.{TextAnswer}
 use Rattle.text.specs.Listing.{listingOf, zeros, read, listing}
-use Rattle.text.specs.Answer.{shortText, textAnswer, Texted, texted}
+use Rattle.bits.specs.declared.Refusal.the-variants.{ShortText}
+use Rattle.bits.specs.Refusals.{numberOf}
+use Rattle.text.specs.Answer.{textAnswer, Texted, texted}
 use Rattle.text.specs.Ranges.{Small, accepted-small}
 use Rattle.text.specs.Most.{mostText, zeros-long, most-text}
 use Rattle.text.specs.Laying.{capped, Laid, Holds}
@@ -27,11 +29,11 @@ module _ (l buffer : List ℕ) (few : length l ≤ mostText) (needed : ℕ) (lon
   long-is : needed ≡ length l
   long-is = omega arith
 
-  pub no-room : length buffer < needed → gives (textAnswer shortText needed 0) buffer ≡ texted l buffer
+  pub no-room : length buffer < needed → gives (textAnswer (numberOf ShortText) needed 0) buffer ≡ texted l buffer
   unfolding texted
   no-room h =
       let e = long-is in
-      ap (λ (n : ℕ). gives (textAnswer shortText n 0) buffer) e ∙ sym (rw (lt-leb (length l) (length buffer) (omega arith)) refl)
+      ap (λ (n : ℕ). gives (textAnswer (numberOf ShortText) n 0) buffer) e ∙ sym (rw (lt-leb (length l) (length buffer) (omega arith)) refl)
 
   pub fits : (u : List ℕ) (r : ℕ) → needed ≤ length buffer → Laid buffer u 0 r l → gives (textAnswer 0 0 needed) u ≡ texted l buffer
   unfolding texted onto

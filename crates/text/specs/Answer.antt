@@ -3,13 +3,11 @@ use mathlib.Core.List.{List}
 use Prim.Native.Nat.{ℕ}
 use lib.Dec.{leb}
 use lib.ListN.{length}
+use Rattle.bits.specs.declared.Refusal.the-variants.{ShortText}
+use Rattle.bits.specs.Refusals.{numberOf}
 use Rattle.bits.specs.Language.{pick}
 use Rattle.oamd.specs.Record.{onto}
 use Rattle.text.specs.declared.TextAnswer.{TextAnswer}
-
--- refusal 18: the lent buffer is shorter than the text
-abbrev pub shortText : ℕ
-shortText = 18
 
 -- the answer, and afterwards the buffer lent for the text
 pub record Texted : Type 0 where
@@ -24,4 +22,4 @@ unfoldable pub texted : List ℕ → List ℕ → Texted
 texted text buffer =
     pick (leb (length text) (length buffer))
     (record { answer = textAnswer 0 0 (length text); buffer = onto text buffer })
-    (record { answer = textAnswer shortText (length text) 0; buffer = buffer })
+    (record { answer = textAnswer (numberOf ShortText) (length text) 0; buffer = buffer })

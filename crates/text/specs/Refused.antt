@@ -8,11 +8,13 @@ use borrow.Author.Tests.{lt-leb, le-leb}
 use lib.ListN.{length}
 use Rattle.bits.specs.Steps.{by-order}
 use Rattle.text.specs.Listing.{listing}
-use Rattle.text.specs.Answer.{shortText, texted}
+use Rattle.bits.specs.declared.Refusal.the-variants.{ShortText}
+use Rattle.bits.specs.Refusals.{numberOf}
+use Rattle.text.specs.Answer.{texted}
 use Rattle.text.specs.Most.{mostText, most-text}
 
 -- 18: the lent buffer is shorter than the text
-pub short-when : (text buffer : List ℕ) → (texted text buffer .answer .refusal ≡ shortText) ↔ (length buffer < length text)
+pub short-when : (text buffer : List ℕ) → (texted text buffer .answer .refusal ≡ numberOf ShortText) ↔ (length buffer < length text)
 unfolding texted
 short-when text buffer = (
   (λ e. by-order (length text) (length buffer)

@@ -7,6 +7,7 @@ ghost use Rattle.text.specs.Listing.{listingOf, zeros, listing};
 ghost use Rattle.text.specs.Answer.{textAnswer, texted};
 ghost use Rattle.text.specs.Most.{mostText};
 ghost use Rattle.text.specs.Laying.{Holds};
+use bits::Refusal;
 use oamd::MOST_TRIM;
 use oamd::ROOM_BYTES;
 use oamd::ReadAnswer;
@@ -19,9 +20,6 @@ pub use laying::lay_bytes;
 pub use laying::lay_decimal;
 pub use laying::lay_hex;
 pub use laying::lay_line;
-
-// Refusal 18: the lent buffer is shorter than the text.
-const SHORT_TEXT: u8 = 18;
 
 // What a call that lays a text answers: on a refusal the length is 0.
 #[repr(C)]
@@ -62,7 +60,7 @@ fn list_answer(a: ReadAnswer, records: &[u8], text: &mut [u8]) -> TextAnswer
     let mut none = [0u8; 1];
     let needed = listing::lay_listing(&mut none, 0, a, records);
     if text.len() < needed {
-        return answered(SHORT_TEXT, needed as u64, 0);
+        return answered(bits::number(Refusal::ShortText), needed as u64, 0);
     }
     listing::lay_listing(text, 0, a, records);
     answered(0, 0, needed as u32)

@@ -5,11 +5,15 @@ ghost use lib.ListN.{length, take, drop};
 ghost use Rattle.oamd.specs.Tables.{recordBytes, recordStride, mostBlocks};
 ghost use Rattle.text.specs.Listing.{blockLine, blockLines, recordLine, objectLines, recordLines, shareLines, tableLines, listingOf};
 ghost use Rattle.text.specs.Laying.{Laid, Holds};
+ghost use lib.Dec.{eqb};
+ghost use Rattle.bits.specs.Refusals.{numberOf};
+ghost use Rattle.bits.specs.declared.Refusal.the-variants.{EndsEarly};
 use crate::laying::lay_byte;
 use crate::laying::lay_bytes;
 use crate::laying::lay_hex;
 use crate::laying::lay_line;
 use crate::laying::lay_number;
+use bits::Refusal;
 use oamd::Programme;
 use oamd::RECORD_BYTES;
 use oamd::RECORD_STRIDE;
@@ -132,6 +136,13 @@ fn lay_tables(text: &mut [u8], at: usize, a: ReadAnswer, records: &[u8]) -> usiz
     lay_objects(text, to, objects, blocks, records)
 }
 
+// Whether a payload ended early.
+fn ended_early(refusal: u8) -> bool
+    ensures { λ r. ⌜ r ≡ eqb refusal (numberOf EndsEarly) ⌝ }
+{
+    refusal == bits::number(Refusal::EndsEarly)
+}
+
 // The whole listing.
 pub fn lay_listing(text: &mut [u8], at: usize, a: ReadAnswer, records: &[u8]) -> usize
     requires { ⌜ (a .refusal ≡ 0 → Holds a (now records)) ⌝ }
@@ -142,7 +153,7 @@ pub fn lay_listing(text: &mut [u8], at: usize, a: ReadAnswer, records: &[u8]) ->
     if a.refusal == 0 {
         return lay_tables(text, to, a, records);
     }
-    if a.refusal == 2 {
+    if ended_early(a.refusal) {
         return lay_line(text, to, &keys::MISSING, a.missing as u64);
     }
     to

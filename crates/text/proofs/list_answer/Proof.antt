@@ -2,19 +2,22 @@
 use borrow.Author.Needs.{needs}
 use denote.Ref.{now}
 use mathlib.Core.Path.{ap, _∙_}
+use Prim.Native.Nat.{ℕ}
 use Rattle.text.specs.declared.TextAnswer.{TextAnswer}
 use Rattle.text.specs.Listing.{listingOf}
+use Rattle.text.specs.Answer.{textAnswer}
 use Rattle.text.proofs.Whole.{gives, no-room, fits}
 use Rattle.text.proofs.list_answer.Statement.{statement}
 use Rattle.text.proofs.list_answer.Tie as tie
 
 returns : tie.Need-returns
 returns c =
-    let room = c .before in
+    let number = c .before in
+    let room = number .before in
     let measured = room .before .before in
     let start = measured .before .before .before .before in
     let a = start .args in
-    ap (λ (r : TextAnswer). gives r (now (a .text))) (c .answered .ensures)
+    ap (λ (r : TextAnswer). gives r (now (a .text))) (c .answered .ensures ∙ ap (λ (n : ℕ). textAnswer n (measured .lay-listing .result) 0) (number .number .ensures .0))
     ∙ no-room (listingOf (a .a) (now (a .records))) (now (a .text)) (start .pre .1) _ (measured .lay-listing .ensures .next) (room .if1 .taken)
 
 returns-2 : tie.Need-returns-2
@@ -32,6 +35,7 @@ list-answer-spec =
     tie.close
     (tie.spec
     (λ c. search needs)
+    (λ c κs. search needs)
     (λ c κs. search needs)
     (λ c κs. search needs)
     returns

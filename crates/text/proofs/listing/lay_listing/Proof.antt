@@ -1,4 +1,6 @@
 use borrow.Author.Needs.{needs}
+use borrow.Author.Tests.{eqb-true, eqb-false}
+use mathlib.Core.Path.{sym, _∙_}
 use Rattle.text.specs.Listing.{listingOf}
 use Rattle.text.proofs.LayLaws.{laid-bind}
 use Rattle.text.proofs.LineLaws.{accepted-laid, early-laid, refused-laid}
@@ -25,16 +27,22 @@ unfolding listingOf
 returns-2 c =
     let missing = c .before .before in
     let test = missing .before .before .before .before in
-    let place = test .before .before .before .before .before .before in
+    let early = test .before in
+    let place = early .before .before .before .before .before in
     let refusal = place .before .before .before .before .before in
-    laid-bind (refusal .lay-line .ensures) (laid-bind (place .lay-line2 .ensures) (early-laid _ _ _ (test .if2 .taken) (missing .lay-line3 .ensures)))
+    let a = refusal .before .before .before .before .before .before .args .a in
+    laid-bind (refusal .lay-line .ensures)
+    (laid-bind (place .lay-line2 .ensures) (early-laid (a .refusal) _ _ (eqb-true (a .refusal) 2 (sym (early .ended-early .ensures) ∙ test .if2 .taken)) (missing .lay-line3 .ensures)))
 
 returns-3 : tie.Need-returns-3
 unfolding listingOf
 returns-3 c =
-    let place = c .before .before .before .before .before .before in
+    let early = c .before in
+    let place = early .before .before .before .before .before in
     let refusal = place .before .before .before .before .before in
-    laid-bind (refusal .lay-line .ensures) (refused-laid _ _ _ _ (c .before .before .if1 .left) (c .if2 .left) (place .lay-line2 .ensures))
+    let a = refusal .before .before .before .before .before .before .args .a in
+    laid-bind (refusal .lay-line .ensures)
+    (refused-laid (a .refusal) _ _ _ (early .before .if1 .left) (eqb-false (a .refusal) 2 (sym (early .ended-early .ensures) ∙ c .if2 .left)) (place .lay-line2 .ensures))
 
 pub lay-listing-spec : {M : Type 1} → statement M
 lay-listing-spec =
@@ -48,6 +56,7 @@ lay-listing-spec =
     lay-tables-requires
     (λ c. search needs)
     returns
+    (λ c κs. search needs)
     (λ c. search needs)
     (λ c. search needs)
     (λ c κs. search needs)
