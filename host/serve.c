@@ -2,9 +2,11 @@
  * serve: the library over standard input and output, for a program that cannot be linked to it (bench/compare on a machine that is not x86-64).
  *
  * Numbers have their lowest byte first, lengths and the skew 4 bytes; tables and answers are their fields in the header's order, without padding. What a
- * call looks at is sent as its length and its bytes, a lent buffer as its length, its skew and its bytes.
+ * call looks at is sent as its length and its bytes, a list as its length and 8 bytes for each number, a lent buffer as its length, its skew and its bytes.
  *   request v                                                answer: version
  *   request r, payload, record buffer, trim buffer           answer: place, refusal, unknown, programme, timing, missing, the bytes of both buffers
+ *   request b, store, starts, lengths, both slot lengths (8 bytes each), buffers of records, trim tables and answers
+ *                                                            answer: place, refusal, the bytes of the three buffers
  *   request w, programme, timing, records, trim, buffer      answer: place, length, refusal, the bytes of the buffer
  * A buffer is sent as it is lent and answered whole. It is lent at an address that leaves the remainder `skew` by 16, with canaries around it.
  * Exit status: 0 at the end of the input; 1 for a request that is not one, or a call that changed a canary or what it may only look at.
@@ -15,7 +17,8 @@
 #include <stdlib.h>
 #include <string.h>
 
-#define MOST 65536
+#define MOST 1048576
+#define MOST_NUMBERS 4096
 #define SIDE 64
 #define CANARY 0x5C
 
@@ -24,6 +27,12 @@ typedef struct given {
     uint8_t bytes[MOST], kept[MOST];
     size_t length;
 } given;
+
+/* A list that a call looks at, and a copy of it. */
+typedef struct list {
+    uint64_t numbers[MOST_NUMBERS], kept[MOST_NUMBERS];
+    size_t length;
+} list;
 
 /* A lent buffer, and the bytes in which it lies. */
 typedef struct lent {
@@ -44,15 +53,20 @@ static void get_bytes(uint8_t *bytes, size_t count)
         stop("the input ends within a request");
 }
 
-static uint32_t get(size_t bytes)
+static uint64_t get_long(size_t bytes)
 {
-    uint8_t from[4];
-    uint32_t value = 0;
+    uint8_t from[8];
+    uint64_t value = 0;
 
     get_bytes(from, bytes);
     while (bytes-- > 0)
         value = value << 8 | from[bytes];
     return value;
+}
+
+static uint32_t get(size_t bytes)
+{
+    return (uint32_t)get_long(bytes);
 }
 
 static uint8_t get_byte(void)
@@ -163,6 +177,24 @@ static void hold_given(const given *g)
         stop("what a call may only look at has changed");
 }
 
+static void get_list(list *l)
+{
+    size_t i;
+
+    l->length = get_length();
+    if (l->length > MOST_NUMBERS)
+        stop("a list is too long");
+    for (i = 0; i < l->length; i++)
+        l->numbers[i] = get_long(8);
+    memcpy(l->kept, l->numbers, 8 * l->length);
+}
+
+static void hold_list(const list *l)
+{
+    if (memcmp(l->numbers, l->kept, 8 * l->length) != 0)
+        stop("a list has changed");
+}
+
 /* Takes a lent buffer, and lays canaries around it. */
 static void get_lent(lent *l)
 {
@@ -212,6 +244,34 @@ static void serve_read(void)
     put_lent(&trim);
 }
 
+static void serve_batch(void)
+{
+    static given store;
+    static list starts, lengths;
+    static lent records, trims, answers;
+    size_t record_slot, trim_slot;
+    skriemelt_batch_answer a;
+
+    get_given(&store);
+    get_list(&starts);
+    get_list(&lengths);
+    record_slot = get_long(8);
+    trim_slot = get_long(8);
+    get_lent(&records);
+    get_lent(&trims);
+    get_lent(&answers);
+    a = skriemelt_read_batch(store.bytes, store.length, starts.numbers, starts.length, lengths.numbers, lengths.length, record_slot, trim_slot,
+                             records.bytes, records.length, trims.bytes, trims.length, (skriemelt_read_answer *)(void *)answers.bytes, answers.length);
+    hold_given(&store);
+    hold_list(&starts);
+    hold_list(&lengths);
+    put(a.place, 8);
+    put(a.refusal, 1);
+    put_lent(&records);
+    put_lent(&trims);
+    put_lent(&answers);
+}
+
 static void serve_write(void)
 {
     static given records, trim;
@@ -244,6 +304,8 @@ int main(void)
             put(skriemelt_version(), 4);
         else if (request == 'r')
             serve_read();
+        else if (request == 'b')
+            serve_batch();
         else if (request == 'w')
             serve_write();
         else

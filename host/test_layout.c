@@ -12,6 +12,7 @@ static void sizes(void)
     SIZE(skriemelt_timing, 34);
     SIZE(skriemelt_read_answer, 136);
     SIZE(skriemelt_write_answer, 16);
+    SIZE(skriemelt_batch_answer, 16);
 }
 
 static void offsets(void)
@@ -43,6 +44,8 @@ static void offsets(void)
     AT(skriemelt_write_answer, place, 0);
     AT(skriemelt_write_answer, length, 8);
     AT(skriemelt_write_answer, refusal, 12);
+    AT(skriemelt_batch_answer, place, 0);
+    AT(skriemelt_batch_answer, refusal, 8);
 }
 
 int main(void)

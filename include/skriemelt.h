@@ -6,19 +6,21 @@
  *
  * Slices. A slice is passed as two arguments: a pointer to its first byte, and its length in bytes. A pointer with length 0 may be NULL. A pointer with a
  * length above 0 must point to that many bytes; it needs no alignment. Bytes of every sort are fine in a payload, in records and in a trim table, and every
- * length is fine for them. What a call fills must not overlap any other slice of that call.
+ * length is fine for them. What a call fills must not overlap any other slice of that call. The lists of a batch are slices of numbers: their length is a
+ * count, and they are aligned as arrays of uint64_t are.
  *
  * Tables. The programme and the timing are passed and answered by value. Values of every sort are fine in them.
  *
- * Refusals. A refused call leaves every byte of its lent buffers (read: the records and the trim table, write: the payload) as it came, and all fields of
- * its answer but refusal and place, and with SKRIEMELT_PAST_PAYLOAD the missing bits, are 0. An accepted read writes the first 24 * objects * blocks bytes of the record buffer, the first 94 + objects bytes
- * of the trim buffer, and no others; an accepted write writes the first `length` bytes of its buffer and no others.
+ * Refusals. A refused call leaves every byte of its lent buffers (read: the records and the trim table, batch: these of all entries and the answers, write:
+ * the payload) as it came, and all fields of its answer but refusal and place, and with SKRIEMELT_PAST_PAYLOAD the missing bits, are 0. An accepted read writes
+ * the first 24 * objects * blocks bytes of the record buffer, the first 94 + objects bytes of the trim buffer, and no others; an accepted write writes the first
+ * `length` bytes of its buffer and no others. What a batch writes is said at its call.
  *
- * Threads. Every call works on its arguments and its own stack alone (a read: about 32 kB, a write: about 1 kB). Calls may run at once in several threads,
- * as long as no two are lent the same buffer to be filled. What a call only looks at (read: the payload, write: the records and the trim table) may be
- * shared.
+ * Threads. Every call works on its arguments and its own stack alone (a read: about 32 kB, a batch: about 35 kB, a write: about 1 kB). Calls may run at once in
+ * several threads, as long as no two are lent the same buffer to be filled. What a call only looks at (read: the payload, batch: the store and the lists, write: the
+ * records and the trim table) may be shared.
  *
- * Bytes between the fields of an answer (padding) carry nothing: compare field by field.
+ * Bytes between the fields of an answer by value (padding) carry nothing: compare field by field. In the answers of a batch they are 0.
  */
 #ifndef SKRIEMELT_H
 #define SKRIEMELT_H
@@ -31,7 +33,7 @@ extern "C" {
 #endif
 
 /* The version of this interface: a thousand times the major number, plus the minor. */
-#define SKRIEMELT_VERSION 2001
+#define SKRIEMELT_VERSION 2002
 
 /* Limits. */
 #define SKRIEMELT_MOST_PAYLOAD_BYTES 4096 /* a longer payload is refused with 1, a longer written form with 11 */
@@ -54,10 +56,12 @@ extern "C" {
 #define SKRIEMELT_EXTENDED_EARLY 7     /* an extended object element before any object element; place: first bit of its id */
 #define SKRIEMELT_PAST_ELEMENT 8       /* a field of a known element passes the element's declared end; place: first bit of that field */
 #define SKRIEMELT_NO_ROOM 9            /* the record buffer is too short, or, if that is not, the trim buffer; place: bytes needed */
-/* A read is refused with 1 to 9, a write with 10 or 11; 10 comes first. */
+/* A read is refused with 1 to 9, a write with 10 or 11; 10 comes first. An entry of a batch is refused with 12 or as a read is, 12 first; a whole batch with 13. */
 #define SKRIEMELT_NOT_VALID 10         /* not valid: programme, timing or too few record bytes, place 0; a record, place: 1 + index of the first bad one;
                                           the trim table or too few bytes of it, place: 1 + number of records */
 #define SKRIEMELT_NO_FIT 11            /* the form is longer than the payload buffer or 4,096 bytes; place: bytes needed */
+#define SKRIEMELT_OUTSIDE 12           /* start and length leave the store; place: the start, in bytes */
+#define SKRIEMELT_LISTS 13             /* the lists differ in length, or slots or answers of all entries do not fit; place: the number of starts */
 
 /*
  * Records. One record for each object and block, objects outermost: the record of object o and block b begins at byte
@@ -171,7 +175,7 @@ typedef struct skriemelt_timing {
 /* What a read answers, beside the records and the trim table. On a refusal all but refusal and place is 0, and but missing with SKRIEMELT_PAST_PAYLOAD. */
 typedef struct skriemelt_read_answer {
     uint64_t place;  /* see the refusals above */
-    uint8_t refusal; /* SKRIEMELT_ACCEPTED to SKRIEMELT_NO_ROOM */
+    uint8_t refusal; /* SKRIEMELT_ACCEPTED to SKRIEMELT_NO_ROOM; in a batch SKRIEMELT_OUTSIDE too */
     uint8_t unknown; /* number of unknown elements, 0 to 46 */
     skriemelt_programme programme;
     skriemelt_timing timing;
@@ -185,6 +189,12 @@ typedef struct skriemelt_write_answer {
     uint8_t refusal; /* SKRIEMELT_ACCEPTED, SKRIEMELT_NOT_VALID or SKRIEMELT_NO_FIT */
 } skriemelt_write_answer;
 
+/* What a batch answers, beside the answers of its entries. */
+typedef struct skriemelt_batch_answer {
+    uint64_t place;  /* see the refusals above */
+    uint8_t refusal; /* SKRIEMELT_ACCEPTED, whatever the entries were answered, or SKRIEMELT_LISTS */
+} skriemelt_batch_answer;
+
 /* The version of the library; it equals SKRIEMELT_VERSION of the header that belongs to it. */
 uint32_t skriemelt_version(void);
 
@@ -194,6 +204,31 @@ uint32_t skriemelt_version(void);
  * they need not be cleared. Every input is answered: there is nothing to check beforehand.
  */
 skriemelt_read_answer skriemelt_read(const uint8_t *payload, size_t payload_bytes, uint8_t *records, size_t records_bytes, uint8_t *trim, size_t trim_bytes);
+
+/*
+ * Reads a shelf of payloads, n = starts_count of them, in one call. Payload i is bytes starts[i] to starts[i] + lengths[i] - 1 of the store, and is read as
+ * skriemelt_read reads it by itself, into slot i of the records, slot i of the trim tables and answers[i]. Every input is answered: there is nothing to check
+ * beforehand, and no sum or product of what is given wraps around.
+ *
+ * Slots. Slot i of the records begins at byte i * record_slot and has record_slot bytes; likewise trim_slot bytes in trims. Each is the buffer of its entry: one
+ * that is too short is SKRIEMELT_NO_ROOM for that entry alone. Slots of SKRIEMELT_MOST_RECORD_BYTES and SKRIEMELT_MOST_TRIM_BYTES suffice for every payload. A slot
+ * length may be 0; then that pointer may be NULL with length 0.
+ *
+ * Store. Payloads may overlap, repeat and stand in any order. A start and length that leave the store are SKRIEMELT_OUTSIDE for that entry alone, before its
+ * length is looked at; a start at the store's end with length 0 is an empty payload.
+ *
+ * What is written. The whole answer of every entry, a refused one too, padding as 0. Of an accepted entry the first bytes of its two slots, as a read writes
+ * them; of a refused entry nothing in either slot, and the entries behind it are read all the same. Nothing else: the rest of a slot, and what lies behind n slots
+ * or n answers, stays. The call itself then answers SKRIEMELT_ACCEPTED with place 0.
+ *
+ * SKRIEMELT_LISTS with place n, before anything is read or written: lengths_count is not n, records_bytes is below n * record_slot, trims_bytes below n * trim_slot,
+ * or answers_bytes below n * sizeof(skriemelt_read_answer). answers_bytes is in bytes, as the length of every lent buffer. n may be 0.
+ *
+ * Records, trims and answers must overlap neither one another nor the store or the lists; the store and the lists are only looked at.
+ */
+skriemelt_batch_answer skriemelt_read_batch(const uint8_t *store, size_t store_bytes, const uint64_t *starts, size_t starts_count, const uint64_t *lengths,
+                                            size_t lengths_count, size_t record_slot, size_t trim_slot, uint8_t *records, size_t records_bytes,
+                                            uint8_t *trims, size_t trims_bytes, skriemelt_read_answer *answers, size_t answers_bytes);
 
 /*
  * Writes the payload of a programme, a timing, 24 * objects * blocks bytes of records and SKRIEMELT_TRIM_FIXED + objects bytes of a trim table: the one

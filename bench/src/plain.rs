@@ -4,6 +4,7 @@
 //! one and held by the constant assertions at the end of this file.
 
 mod assignment;
+mod batch;
 mod bits;
 mod extended;
 mod object;
@@ -20,6 +21,7 @@ mod canonical_tests;
 
 use reader::Scratch;
 
+pub use batch::{answer_bytes, read_batch, BatchAnswer, Shelf, ANSWER_BYTES};
 pub use record::{Record, RECORD_BYTES};
 
 /// Longest payload in bytes (house rule).
@@ -49,6 +51,8 @@ pub mod refusal {
     pub const ROOM: u32 = 9;
     pub const TABLES: u32 = 10;
     pub const FORM: u32 = 11;
+    pub const OUTSIDE: u32 = 12;
+    pub const LISTS: u32 = 13;
 }
 
 /// One bed instance (5.5.3). 8 bytes, aligned to 4: assignment at 0, lfeonly at

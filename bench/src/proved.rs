@@ -66,6 +66,14 @@ pub struct WriteAnswer {
     pub refusal: u8,
 }
 
+/// skriemelt_batch_answer.
+#[repr(C)]
+#[derive(Clone, Copy, Debug)]
+pub struct BatchAnswer {
+    pub place: u64,
+    pub refusal: u8,
+}
+
 const _: () = {
     use core::mem::{align_of, offset_of, size_of};
     assert!(size_of::<Bed>() == 8 && align_of::<Bed>() == 4);
@@ -89,6 +97,9 @@ const _: () = {
     assert!(size_of::<WriteAnswer>() == 16 && align_of::<WriteAnswer>() == 8);
     assert!(offset_of!(WriteAnswer, place) == 0 && offset_of!(WriteAnswer, length) == 8);
     assert!(offset_of!(WriteAnswer, refusal) == 12);
+    assert!(size_of::<BatchAnswer>() == 16 && align_of::<BatchAnswer>() == 8);
+    assert!(offset_of!(BatchAnswer, place) == 0 && offset_of!(BatchAnswer, refusal) == 8);
+    assert!(size_of::<ReadAnswer>() == plain::ANSWER_BYTES);
 };
 
 #[cfg(not(feature = "served"))]
@@ -97,9 +108,9 @@ mod linked;
 mod served;
 
 #[cfg(not(feature = "served"))]
-pub use linked::{read, version, write};
+pub use linked::{read, read_batch, version, write};
 #[cfg(feature = "served")]
-pub use served::{read, version, write};
+pub use served::{read, read_batch, version, write};
 
 impl From<&plain::Programme> for Programme {
     fn from(p: &plain::Programme) -> Self {
@@ -131,6 +142,16 @@ impl From<&plain::Timing> for Timing {
                 start: u.start,
                 ramp: u.ramp,
             }),
+        }
+    }
+}
+
+impl BatchAnswer {
+    /// The same answer in the plain reader's types, every field of it.
+    pub fn plain(&self) -> plain::BatchAnswer {
+        plain::BatchAnswer {
+            refusal: self.refusal.into(),
+            place: self.place,
         }
     }
 }

@@ -1,6 +1,7 @@
 //! The library's functions, linked.
 
-use super::{Programme, ReadAnswer, Timing, WriteAnswer};
+use super::{BatchAnswer, Programme, ReadAnswer, Timing, WriteAnswer};
+use crate::plain::Shelf;
 
 #[link(name = "host", kind = "static")]
 extern "C" {
@@ -13,6 +14,22 @@ extern "C" {
         trim: *mut u8,
         trim_bytes: usize,
     ) -> ReadAnswer;
+    fn skriemelt_read_batch(
+        store: *const u8,
+        store_bytes: usize,
+        starts: *const u64,
+        starts_count: usize,
+        lengths: *const u64,
+        lengths_count: usize,
+        record_slot: usize,
+        trim_slot: usize,
+        records: *mut u8,
+        records_bytes: usize,
+        trims: *mut u8,
+        trims_bytes: usize,
+        answers: *mut ReadAnswer,
+        answers_bytes: usize,
+    ) -> BatchAnswer;
     fn skriemelt_write(
         programme: Programme,
         timing: Timing,
@@ -43,6 +60,35 @@ pub fn read(payload: &[u8], records: &mut [u8], trim: &mut [u8]) -> ReadAnswer {
             records.len(),
             trim.as_mut_ptr(),
             trim.len(),
+        )
+    }
+}
+
+/// Reads a shelf of payloads with the proved library. The answers are bytes here: the library writes them one by one, at any alignment.
+#[inline]
+pub fn read_batch(
+    shelf: &Shelf,
+    records: &mut [u8],
+    trims: &mut [u8],
+    answers: &mut [u8],
+) -> BatchAnswer {
+    // SAFETY: the slices are valid for their lengths, and those to be filled overlap none.
+    unsafe {
+        skriemelt_read_batch(
+            shelf.store.as_ptr(),
+            shelf.store.len(),
+            shelf.starts.as_ptr(),
+            shelf.starts.len(),
+            shelf.lengths.as_ptr(),
+            shelf.lengths.len(),
+            shelf.record_slot,
+            shelf.trim_slot,
+            records.as_mut_ptr(),
+            records.len(),
+            trims.as_mut_ptr(),
+            trims.len(),
+            answers.as_mut_ptr().cast(),
+            answers.len(),
         )
     }
 }

@@ -1,12 +1,14 @@
 //! The library's functions, asked of host/serve.c, which says how requests and answers are laid out. The command that runs it is in the variable SERVE.
 
-use super::{Bed, Programme, ReadAnswer, Timing, Update, WriteAnswer};
+use super::{BatchAnswer, Bed, Programme, ReadAnswer, Timing, Update, WriteAnswer};
+use crate::plain::Shelf;
 use std::cell::RefCell;
 use std::io::{Read, Write};
 use std::process::{ChildStdin, ChildStdout, Command, Stdio};
 
 const READ_ANSWER_BYTES: usize = 8 + 1 + 1 + (10 + 9 * 6) + (1 + 8 * 4) + 4;
 const WRITE_ANSWER_BYTES: usize = 8 + 4 + 1;
+const BATCH_ANSWER_BYTES: usize = 8 + 1;
 
 /// The serving process.
 struct Server {
@@ -153,6 +155,36 @@ pub fn read(payload: &[u8], records: &mut [u8], trim: &mut [u8]) -> ReadAnswer {
         programme: answer.programme(),
         timing: answer.timing(),
         missing: answer.u32(),
+    }
+}
+
+/// Adds a list of numbers, as its length and 8 bytes for each.
+fn add_list(request: &mut Vec<u8>, list: &[u64]) {
+    add_number(request, list.len());
+    request.extend(list.iter().flat_map(|number| number.to_le_bytes()));
+}
+
+/// Reads a shelf of payloads with the proved library.
+pub fn read_batch(
+    shelf: &Shelf,
+    records: &mut [u8],
+    trims: &mut [u8],
+    answers: &mut [u8],
+) -> BatchAnswer {
+    let mut request = b"b".to_vec();
+    add_given(&mut request, shelf.store);
+    add_list(&mut request, shelf.starts);
+    add_list(&mut request, shelf.lengths);
+    request.extend((shelf.record_slot as u64).to_le_bytes());
+    request.extend((shelf.trim_slot as u64).to_le_bytes());
+    add_lent(&mut request, records);
+    add_lent(&mut request, trims);
+    add_lent(&mut request, answers);
+    let mut buffers = [records, trims, answers];
+    let mut answer = ask(&request, BATCH_ANSWER_BYTES, &mut buffers);
+    BatchAnswer {
+        place: answer.u64(),
+        refusal: answer.u8(),
     }
 }
 

@@ -66,5 +66,7 @@ pub enum Refusal {
     Room,
     NotValid,
     NoFit,
+    Outside,
+    Lists,
     ShortText,
 }

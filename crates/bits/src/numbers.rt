@@ -19,6 +19,8 @@ pub fn number(r: Refusal) -> u8
         Refusal::Room => 9,
         Refusal::NotValid => 10,
         Refusal::NoFit => 11,
+        Refusal::Outside => 12,
+        Refusal::Lists => 13,
         Refusal::ShortText => 18,
     }
 }

@@ -14,3 +14,6 @@ pub mod Passing
 pub mod Codes
 pub mod Stopping
 pub mod Carried
+pub mod Arrays
+pub mod Shelves
+pub mod AnswerBytes

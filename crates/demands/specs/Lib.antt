@@ -16,3 +16,4 @@ pub mod Answers
 pub mod Numbers
 pub mod ExactlyWhen
 pub mod Missing
+pub mod Batch

@@ -3,18 +3,23 @@ use mathlib.Core.Path.{_≡_}
 use mathlib.Core.Bool.{Bool, true, false}
 use mathlib.Core.List.{List, _∷_, _++_}
 use mathlib.Core.Option.{some}
-use Prim.Native.Nat.{ℕ, _*_, _≤_, _<_}
-use lib.ListN.{length, take, drop}
+use Prim.Native.Nat.{ℕ, _+_, _*_, _^_, _≤_, _<_}
+use lib.ListN.{length, getD, take, drop}
 use Rattle.bits.specs.declared.Refusal.the-variants.{EndsEarly, TooLong}
 use Rattle.bits.specs.Refusals.{numberOf}
 use Rattle.bits.specs.Writes.{Binary}
+use Rattle.bits.specs.Terms.{Every}
+use Rattle.oamd.specs.declared.Bed.{Bed}
+use Rattle.oamd.specs.declared.Update.{Update}
+use Rattle.oamd.specs.declared.ReadAnswer.{ReadAnswer}
 use Rattle.oamd.specs.declared.Kind.the-variants.{Unknown}
-use Rattle.oamd.specs.Tables.{mostBytes, mostElements, recordStride, trimConfigs}
+use Rattle.oamd.specs.Tables.{mostBytes, mostElements, mostBeds, mostBlocks, recordStride, trimConfigs, answerBytes}
 use Rattle.oamd.specs.Trim.{TrimTable, trimBytesOf, trimNeeded}
 use Rattle.oamd.specs.Record.{Record, bytesOf}
 use Rattle.oamd.specs.Element.{there}
 use Rattle.oamd.specs.Payload.{Header, Payload}
 use Rattle.oamd.specs.Answer.{Outcome, refused, reading}
+use Rattle.oamd.specs.Batch.{answerBytesOf, entry, Shelf, Batched, batching}
 use Rattle.demands.specs.Skeleton.{Body, outline, SameTables}
 use Rattle.demands.specs.Assembly.{Head, Element, payloadOf}
 
@@ -98,3 +103,71 @@ pub data After (s s' buffer trim : List ℕ) : Type 0 where
   ends-early : (n place missing : ℕ) → s' ≡ take n s → 1 ≤ missing → reading s' buffer trim ≡ refused buffer trim (numberOf EndsEarly) place missing
       → After s s' buffer trim
   too-long : mostBytes < length s' → reading s' buffer trim ≡ refused buffer trim (numberOf TooLong) (length s') 0 → After s s' buffer trim
+
+-- ---- a shelf of payloads
+
+-- what a batch is called with
+pub record Call : Type 0 where
+  pub store : List ℕ
+  pub starts : List ℕ
+  pub lengths : List ℕ
+  pub recordslot : ℕ
+  pub trimslot : ℕ
+  pub shelf : Shelf
+
+-- what it answers, and what the lent buffers hold afterwards
+abbrev pub batched : Call → Batched
+batched c = batching (c .store) (c .starts) (c .lengths) (c .recordslot) (c .trimslot) (c .shelf)
+
+-- a length for each start, and room for a slot of each sort and a place for each of them
+pub record Roomy (c : Call) : Type 0 where
+  pub lists : length (c .lengths) ≡ length (c .starts)
+  pub records : length (c .starts) * c .recordslot ≤ length (c .shelf .records)
+  pub trims : length (c .starts) * c .trimslot ≤ length (c .shelf .trims)
+  pub places : length (c .starts) * answerBytes ≤ length (c .shelf .answers)
+
+-- slot i of those of one size
+abbrev pub slot : ℕ → ℕ → List ℕ → List ℕ
+slot size i s = take size (drop (i * size) s)
+
+-- the start and the length of entry i
+abbrev pub startOf : Call → ℕ → ℕ
+startOf c i = getD (c .starts) i 0
+
+abbrev pub lengthOf : Call → ℕ → ℕ
+lengthOf c i = getD (c .lengths) i 0
+
+-- the payload of entry i
+abbrev pub payloadAt : Call → ℕ → List ℕ
+payloadAt c i = take (lengthOf c i) (drop (startOf c i) (c .store))
+
+-- what entry i comes to by itself, in its slots as they came
+abbrev pub entryOf : Call → ℕ → Outcome
+entryOf c i = entry (c .store) (startOf c i) (lengthOf c i) (slot (c .recordslot) i (c .shelf .records)) (slot (c .trimslot) i (c .shelf .trims))
+
+-- afterwards the place of entry i holds this answer, and its slots these bytes
+pub record Holds (c : Call) (i : ℕ) (o : Outcome) : Type 0 where
+  pub place : slot answerBytes i (batched c .shelf .answers) ≡ answerBytesOf (o .answer)
+  pub records : slot (c .recordslot) i (batched c .shelf .records) ≡ o .buffer
+  pub trim : slot (c .trimslot) i (batched c .shelf .trims) ≡ o .trim
+
+-- the bytes behind the last slot of each sort, and behind the last place, are as they came
+pub record Beyond (c : Call) : Type 0 where
+  pub records : drop (length (c .starts) * c .recordslot) (batched c .shelf .records) ≡ drop (length (c .starts) * c .recordslot) (c .shelf .records)
+  pub trims : drop (length (c .starts) * c .trimslot) (batched c .shelf .trims) ≡ drop (length (c .starts) * c .trimslot) (c .shelf .trims)
+  pub answers : drop (length (c .starts) * answerBytes) (batched c .shelf .answers) ≡ drop (length (c .starts) * answerBytes) (c .shelf .answers)
+
+-- an entry of a call that is not refused, whose payload lies in the store
+pub record Stored (c : Call) (i : ℕ) : Type 0 where
+  pub roomy : Roomy c
+  pub listed : i < length (c .starts)
+  pub inside : startOf c i + lengthOf c i ≤ length (c .store)
+
+-- the fields of an answer fit their types, and its arrays have their lengths
+pub record InTypes (a : ReadAnswer) : Type 0 where
+  pub place : a .place < 2 ^ 64
+  pub missing : a .missing < 2 ^ 32
+  pub nine : length (a .programme .beds) ≡ mostBeds
+  pub beds : Every (λ (b : Bed). b .assignment < 2 ^ 32) (a .programme .beds)
+  pub eight : length (a .timing .updates) ≡ mostBlocks
+  pub updates : Every (λ (u : Update). (u .start .0 < 2 ^ 16) × (u .ramp .0 < 2 ^ 16)) (a .timing .updates)

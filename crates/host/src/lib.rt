@@ -1,18 +1,20 @@
 // What a C program calls. Numbers, byte slices and tables of numbers cross this border, and one answer by value; include/skriemelt.h declares the same for C.
 ghost use mathlib.Core.Path.{_≡_};
 ghost use Rattle.oamd.specs.Answer.{reading};
+ghost use Rattle.oamd.specs.Batch.{batching};
 ghost use Rattle.form.specs.Answer.{writing};
+use oamd::BatchAnswer;
 use oamd::Programme;
 use oamd::ReadAnswer;
 use oamd::Timing;
 use oamd::WriteAnswer;
 
 // The version of this interface: a thousand times the major number, plus the minor.
-const VERSION: u32 = 2001;
+const VERSION: u32 = 2002;
 
 #[no_mangle]
 pub extern "C" fn skriemelt_version() -> u32
-    ensures { λ r. ⌜ r ≡ 2001 ⌝ }
+    ensures { λ r. ⌜ r ≡ 2002 ⌝ }
 {
     VERSION
 }
@@ -27,6 +29,37 @@ pub extern "C" fn skriemelt_read(payload: &[u8], records: &mut [u8], trim: &mut 
         ⌝ }
 {
     reader::read(payload, records, trim)
+}
+
+// Reads each payload of a shelf as a part of the store: each entry's slots and place as a read of it alone would give them. Refused with 13: nothing is read, and no byte of
+// the three lent buffers changes.
+#[no_mangle]
+pub extern "C" fn skriemelt_read_batch(
+    store: &[u8],
+    starts: &[u64],
+    lengths: &[u64],
+    recordslot: usize,
+    trimslot: usize,
+    records: &mut [u8],
+    trims: &mut [u8],
+    answers: &mut [u8],
+) -> BatchAnswer
+    ensures { λ r. ⌜
+        (record { answer = r; shelf = record { records = now (records .exit); trims = now (trims .exit); answers = now (answers .exit) } })
+        ≡ batching (now (store .entry)) (now (starts .entry)) (now (lengths .entry)) recordslot trimslot
+        (record { records = now (records .entry); trims = now (trims .entry); answers = now (answers .entry) })
+        ⌝ }
+{
+    batch::read_batch(
+        store,
+        starts,
+        lengths,
+        recordslot,
+        trimslot,
+        records,
+        trims,
+        answers,
+    )
 }
 
 // Writes tables. Accepted: the payload is the first bytes of the lent buffer, and no other byte of it changes. Refused: none changes.

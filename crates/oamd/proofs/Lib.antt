@@ -1,5 +1,6 @@
 pub mod Table
 pub mod Reserved
 pub mod Worked
+pub mod WorkedBatch
 pub mod Ends
 pub mod Seed

@@ -8,7 +8,9 @@ pub mod Extended
 pub mod Trim
 pub mod Meaning
 pub mod Record
-pub mod Lengths
 pub mod Element
 pub mod Payload
 pub mod Answer
+pub mod LeastFirst
+pub mod Batch
+pub mod Lengths

@@ -58,6 +58,10 @@ trimFixed = 94
 abbrev pub mostTrim : ℕ
 mostTrim = 253
 
+-- the bytes of an answer in a batch
+abbrev pub answerBytes : ℕ
+answerBytes = 136
+
 -- Table 11b, number of objects by intermediate_spatial_format_idx; 6 and 7 are reserved
 abbrev pub isfObjects : List ℕ
 isfObjects = 4 ∷ 8 ∷ 10 ∷ 14 ∷ 15 ∷ 30 ∷ []

@@ -8,6 +8,7 @@ mod kinds; // kinds.rt: what an element is known as
 mod presence; // presence.rt: which fields are there
 
 pub use kinds::kind_of;
+pub use limits::ANSWER_BYTES;
 pub use limits::CONFIG_BYTES;
 pub use limits::MOST_BEDS;
 pub use limits::MOST_BLOCKS;
@@ -270,5 +271,12 @@ pub struct ReadAnswer {
 pub struct WriteAnswer {
     pub place: u64,
     pub length: ByteCount,
+    pub refusal: u8,
+}
+
+// What a batch answers, beside the answers of its entries.
+#[repr(C)]
+pub struct BatchAnswer {
+    pub place: u64,
     pub refusal: u8,
 }

@@ -15,6 +15,9 @@ pub const RECORD_BYTES: usize = 24;
 // From one record to the next.
 pub const RECORD_STRIDE: usize = 24;
 
+// The bytes of an answer in a batch.
+pub const ANSWER_BYTES: usize = 136;
+
 // Room for the records of every payload.
 pub const ROOM_BYTES: usize = 30720;
 

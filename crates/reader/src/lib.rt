@@ -20,6 +20,8 @@ mod element; // element.rt: one element after the other
 mod payload; // payload.rt: the whole payload
 mod answers; // answers.rt: what is answered
 
+pub use answers::refused_with;
+
 pub struct TimingStep {
     pub timing: Timing,
     pub cur: Cur,

@@ -1,17 +1,18 @@
--- The functions that callers use: `read` of reader, `write` of writer, and the three of host.
+-- The functions that callers use: `read` of reader (and `refused_with`, which makes an answer of a refusal), `write` of writer, and the four of host.
 use mathlib.Core.Path.{refl}
-use base.Stored.{coded-set, codedVia, codedℕ, coded×, codedList}
 use denote.Ref.{now}
 use Rattle.host.proofs.skriemelt_read as skriemelt-read
+use Rattle.host.proofs.skriemelt_read_batch as skriemelt-read-batch
 use Rattle.host.proofs.skriemelt_version as skriemelt-version
 use Rattle.host.proofs.skriemelt_write as skriemelt-write
-use Rattle.oamd.proofs.ReadAnswer as read-answer
-use Rattle.oamd.proofs.WriteAnswer as write-answer
 use Rattle.oamd.specs.Answer.{Outcome, reading}
 use Rattle.reader.proofs.read as read
+use Rattle.reader.proofs.refused_with as refused-with
 use Rattle.writer.proofs.write as write
 use Rattle.form.specs.Answer.{Written, writing}
+use Rattle.unique.specs.Batch.{OneBatch, one-read-batch}
 use Rattle.unique.specs.OneAnswer.{ClausesOf, SpecOf, OneAnswer, by-equation, said, result-set, _beside_}
+use Rattle.unique.specs.Sets.{outcome-set, written-set}
 
 -- Two answers, each with the bytes that it leaves in the two lent buffers, are the same, buffers too, if the payload's bytes and the bytes that stood in the
 -- buffers are.
@@ -20,11 +21,6 @@ OneReading clauses spec =
     OneAnswer read.ended clauses spec (λ κs a. now (a .0) beside now (a .1 .0) beside now (a .1 .1 .0))
     {O = Outcome} (λ κs a r z. record { answer = r; buffer = z .1 .0; trim = z .1 .1 .0 })
 
-outcome-set : IsSet Outcome
-outcome-set =
-    coded-set (codedVia (coded× (read-answer.the-row .coded) (coded× (codedList codedℕ) (codedList codedℕ))) (λ (o : Outcome). o .answer beside o .buffer beside o .trim)
-    (λ x y h i. record { answer = h i .0; buffer = h i .1 .0; trim = h i .1 .1 }))
-
 pub one-read : OneReading (λ M. read.clauses) (λ M. read.spec)
 one-read = by-equation (λ κs. outcome-set) (λ w. refl) (λ i. reading (i .0) (i .1 .0) (i .1 .1)) (λ w κs a r z p. said (λ h. h) (p .holds))
 
@@ -32,17 +28,16 @@ one-read = by-equation (λ κs. outcome-set) (λ w. refl) (λ i. reading (i .0) 
 pub one-skriemelt-read : OneReading (λ M. skriemelt-read.clauses) (λ M. skriemelt-read.spec)
 one-skriemelt-read = one-read
 
+-- The contract is that of `read_batch`.
+pub one-skriemelt-read-batch : OneBatch (λ M. skriemelt-read-batch.clauses) (λ M. skriemelt-read-batch.spec)
+one-skriemelt-read-batch = one-read-batch
+
 -- Two answers, each with the bytes that it leaves in the payload's buffer, are the same, buffer too, if the programme, the timing, the record bytes, the bytes
 -- of the trim table and those that stood in the payload's buffer are.
 abbrev pub OneWriting : ClausesOf write.ended → SpecOf write.ended → Type 2
 OneWriting clauses spec =
     OneAnswer write.ended clauses spec (λ κs a. a .0 beside a .1 .0 beside now (a .1 .1 .0) beside now (a .1 .1 .1 .0) beside now (a .1 .1 .1 .1 .0))
     {O = Written} (λ κs a r z. record { answer = r; out = z .1 .1 .1 .1 .0 })
-
-written-set : IsSet Written
-written-set =
-    coded-set (codedVia (coded× (write-answer.the-row .coded) (codedList codedℕ)) (λ (o : Written). o .answer beside o .out)
-    (λ x y h i. record { answer = h i .0; out = h i .1 }))
 
 pub one-write : OneWriting (λ M. write.clauses) (λ M. write.spec)
 one-write =
@@ -54,4 +49,7 @@ pub one-skriemelt-write : OneWriting (λ M. skriemelt-write.clauses) (λ M. skri
 one-skriemelt-write = one-write
 
 pub one-skriemelt-version : OneAnswer skriemelt-version.ended (λ M. skriemelt-version.clauses) (λ M. skriemelt-version.spec) (λ κs a. a) (λ κs a r z. r)
-one-skriemelt-version = by-equation (result-set skriemelt-version.ended) (λ w. refl) (λ a. 2001) (λ w κs a r z p. said (λ h. h) (p .holds))
+one-skriemelt-version = by-equation (result-set skriemelt-version.ended) (λ w. refl) (λ a. 2002) (λ w κs a r z p. said (λ h. h) (p .holds))
+
+pub one-refused-with : OneAnswer refused-with.ended (λ M. refused-with.clauses) (λ M. refused-with.spec) (λ κs a. a) (λ κs a r z. r)
+one-refused-with = by-equation (result-set refused-with.ended) (λ w. refl) _ (λ w κs a r z p. said (λ h. h) (p .holds))

@@ -1,5 +1,7 @@
 pub mod OneAnswer
+pub mod Sets
 pub mod Readings
+pub mod Batch
 pub mod Callers
 pub mod Units
 pub mod Bits

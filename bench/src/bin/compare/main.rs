@@ -1,13 +1,16 @@
 //! The proved library against the plain reader and writer.
 //!
 //! `compare N [SEED]`: N generated payloads, valid, faulty and damaged; answers, places, missing bits, tables and both whole buffers, with canaries around them. The
-//! tables of each accepted payload are written, as they are and damaged, and so are N generated tables.
+//! tables of each accepted payload are written, as they are and damaged, and so are N generated tables. The payloads, some of them cut or longer, are read once more
+//! on shelves of a few.
 //! `compare --damaged N [SEED]`: N random and damaged inputs: the library ends, and touches nothing that it may not.
 
 mod lent;
+mod shelves;
 mod writes;
 
 use lent::Lent;
+use shelves::Shelves;
 use skriemelt_bench::gen::rng::Rng;
 use skriemelt_bench::gen::Gen;
 use skriemelt_bench::{plain, proved};
@@ -34,6 +37,7 @@ struct Tally {
     trims: u64,
     differences: u64,
     writer: Writer,
+    shelves: Shelves,
 }
 
 impl Tally {
@@ -43,6 +47,7 @@ impl Tally {
             trims: 0,
             differences: 0,
             writer: Writer::new(seed),
+            shelves: Shelves::new(seed),
         }
     }
 }
@@ -103,9 +108,11 @@ fn count(tally: &mut Tally, index: u64, (payload, rooms): Input, result: Result<
         match read.answer.refusal {
             0 => {
                 tally.trims += u64::from(read.trim[0]);
+                let needs = (read.records.len(), read.trim.len());
+                tally.shelves.add(payload, Some(needs))?;
                 tally.writer.rewrite(&read)
             }
-            _ => Ok(()),
+            _ => tally.shelves.add(payload, None),
         }
     });
     if let Err(message) = result {
@@ -122,6 +129,13 @@ fn differ(tally: &mut Tally, message: String) {
     tally.differences += 1;
     if tally.differences <= 5 {
         println!("{message}");
+    }
+}
+
+/// Reads the last shelf.
+fn finish(tally: &mut Tally) {
+    if let Err(message) = tally.shelves.read() {
+        differ(tally, format!("the last shelf: {message}"));
     }
 }
 
@@ -148,6 +162,7 @@ fn generated(number: u64, seed: u64) -> Tally {
     if let Err(message) = tally.writer.longest() {
         differ(&mut tally, message);
     }
+    finish(&mut tally);
     tally
 }
 
@@ -201,6 +216,7 @@ fn damaged(number: u64, seed: u64) -> Tally {
         let result = both(&mut rng, &payload, rooms);
         count(&mut tally, index, (&payload, rooms), result);
     }
+    finish(&mut tally);
     tally
 }
 
@@ -230,6 +246,7 @@ fn main() -> ExitCode {
     }
     println!("read, accepted with a trim element: {}", tally.trims);
     tally.writer.writes.print();
+    tally.shelves.print();
     let what = if random { "damaged inputs" } else { "payloads" };
     println!("{number} {what}, {} differences", tally.differences);
     ExitCode::from(u8::from(tally.differences != 0))

@@ -1,6 +1,6 @@
 //! What is read and what is written, prepared before the clock starts.
 
-use crate::times::{Buffers, Work};
+use crate::times::{Buffers, Work, PART};
 use skriemelt_bench::gen::rng::Rng;
 use skriemelt_bench::plain::{
     self, needed, trim_needed, Programme, Record, Timing, Update, MAX_PAYLOAD, RECORD_BYTES,
@@ -53,10 +53,12 @@ impl Tables {
 
 pub fn reading() -> Work<impl Fn(&&[u8], &mut Buffers), impl Fn(&&[u8], &mut Buffers)> {
     Work {
-        proved: |payload: &&[u8], lent: &mut Buffers| {
+        names: ("proved", "plain"),
+        part: PART,
+        first: |payload: &&[u8], lent: &mut Buffers| {
             black_box(proved::read(payload, &mut lent.bytes, &mut lent.trim));
         },
-        plain: |payload: &&[u8], lent: &mut Buffers| {
+        second: |payload: &&[u8], lent: &mut Buffers| {
             black_box(plain::read(payload, &mut lent.bytes, &mut lent.trim));
         },
     }
@@ -64,12 +66,14 @@ pub fn reading() -> Work<impl Fn(&&[u8], &mut Buffers), impl Fn(&&[u8], &mut Buf
 
 pub fn writing() -> Work<impl Fn(&&Tables, &mut Buffers), impl Fn(&&Tables, &mut Buffers)> {
     Work {
-        proved: |t: &&Tables, lent: &mut Buffers| {
+        names: ("proved", "plain"),
+        part: PART,
+        first: |t: &&Tables, lent: &mut Buffers| {
             let (programme, timing) = (t.proved_programme, t.proved_timing);
             let out = &mut lent.bytes;
             black_box(proved::write(programme, timing, &t.records, &t.trim, out));
         },
-        plain: |t: &&Tables, lent: &mut Buffers| {
+        second: |t: &&Tables, lent: &mut Buffers| {
             black_box(t.write(&mut lent.bytes));
         },
     }

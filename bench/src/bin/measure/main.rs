@@ -1,11 +1,13 @@
-//! The speed of the proved library and of the plain reader and writer, side by side in one process.
+//! The speed of the proved library and of the plain reader and writer, side by side in one process; and of a batch beside single reads.
 //!
-//! `measure [ROUNDS] [PAYLOADS] [SEED]`. Its last line is `read ratio R, write ratio W`.
+//! `measure [ROUNDS] [PAYLOADS] [SEED]`. Its last line is `read ratio R, write ratio W, batch ratio B`.
 
+mod batch;
 mod inputs;
 mod scaling;
 mod times;
 
+use batch::{batching, Lists, Slots};
 use inputs::{reading, writing, Tables};
 use skriemelt_bench::gen::Gen;
 use skriemelt_bench::plain::RECORD_BYTES;
@@ -51,6 +53,7 @@ fn describe(store: &Store, tables: &[Tables], rounds: usize) -> usize {
         tables.len()
     );
     println!("{written} of them are accepted again, with {written_bytes} bytes");
+    println!("batch: the payloads that are read, on shelves of {PART}, against single reads of them by the proved library into the same slots");
     println!("both at opt-level 3 for x86-64; {rounds} rounds each, by turns in parts of {PART}; best and median are sums over the parts; buffers are not cleared between calls");
     written_bytes
 }
@@ -76,8 +79,10 @@ fn main() {
     let tables: Vec<&Tables> = tables.iter().collect();
     let write = Times::new(&tables, rounds, &mut lent, &writing());
     write.print("write", tables.len(), written_bytes);
+    let batch = Times::new(&Lists::all(&store), rounds, &mut Slots::new(), &batching());
+    batch.print("batch", count, store.bytes.len());
     scaling::by_length(&accepted, rounds / 2);
     scaling::by_objects(rounds / 2);
-    let (read, write) = (read.ratio(), write.ratio());
-    println!("\nread ratio {read:.2}, write ratio {write:.2}");
+    let (read, write, batch) = (read.ratio(), write.ratio(), batch.ratio());
+    println!("\nread ratio {read:.2}, write ratio {write:.2}, batch ratio {batch:.2}");
 }

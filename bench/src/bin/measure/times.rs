@@ -1,10 +1,10 @@
-//! Two functions timed by turns on the same inputs.
+//! Two ways to do the same work, timed by turns on the same inputs.
 
 use skriemelt_bench::plain::{MAX_RECORD_BYTES, MAX_TRIM_BYTES};
 use std::hint::black_box;
 use std::time::Instant;
 
-/// Inputs in one part of the file: a part takes less time than a slice of the scheduler, so that a part's best time was not interrupted.
+/// Payloads in one part of the file: a part takes less time than a slice of the scheduler, so that a part's best time was not interrupted.
 pub const PART: usize = 50;
 
 /// What is lent to a call: the records or the payload, and the trim table. Buffers are not cleared.
@@ -22,21 +22,25 @@ impl Buffers {
     }
 }
 
-/// The same work by the proved library and by the plain code, on an input and lent buffers.
+/// The same work done in two ways, on an input and lent buffers.
 pub struct Work<P, Q> {
-    pub proved: P,
-    pub plain: Q,
+    /// What the two are called.
+    pub names: (&'static str, &'static str),
+    /// Inputs in one part.
+    pub part: usize,
+    pub first: P,
+    pub second: Q,
 }
 
-/// Best and median nanoseconds of both, proved first, each the sum over the parts of the file.
-#[derive(Default)]
+/// Best and median nanoseconds of both, each the sum over the parts of the file.
 pub struct Times {
+    names: (&'static str, &'static str),
     pub best: (f64, f64),
     pub median: (f64, f64),
 }
 
 /// Nanoseconds of one pass over a part.
-fn pass<T>(part: &[T], lent: &mut Buffers, work: &impl Fn(&T, &mut Buffers)) -> f64 {
+fn pass<T, B>(part: &[T], lent: &mut B, work: &impl Fn(&T, &mut B)) -> f64 {
     let start = Instant::now();
     for input in part {
         work(black_box(input), lent);
@@ -45,54 +49,58 @@ fn pass<T>(part: &[T], lent: &mut Buffers, work: &impl Fn(&T, &mut Buffers)) -> 
 }
 
 impl Times {
-    /// Each part is worked on by turns, one pass each; every second round begins with the other code.
-    pub fn new<T, P, Q>(inputs: &[T], rounds: usize, lent: &mut Buffers, work: &Work<P, Q>) -> Self
+    /// Each part is worked on by turns, one pass each; every second round begins with the second way.
+    pub fn new<T, B, P, Q>(inputs: &[T], rounds: usize, lent: &mut B, work: &Work<P, Q>) -> Self
     where
-        P: Fn(&T, &mut Buffers),
-        Q: Fn(&T, &mut Buffers),
+        P: Fn(&T, &mut B),
+        Q: Fn(&T, &mut B),
     {
-        let parts: Vec<_> = inputs.chunks(PART).collect();
+        let parts: Vec<_> = inputs.chunks(work.part).collect();
         let mut times = vec![(vec![], vec![]); parts.len()];
         for round in 0..rounds {
-            for (part, (proved, plain)) in parts.iter().zip(&mut times) {
+            for (part, (first, second)) in parts.iter().zip(&mut times) {
                 if round % 2 == 0 {
-                    proved.push(pass(part, lent, &work.proved));
+                    first.push(pass(part, lent, &work.first));
                 }
-                plain.push(pass(part, lent, &work.plain));
+                second.push(pass(part, lent, &work.second));
                 if round % 2 != 0 {
-                    proved.push(pass(part, lent, &work.proved));
+                    first.push(pass(part, lent, &work.first));
                 }
             }
         }
-        let mut sum = Self::default();
-        for (proved, plain) in &mut times {
-            proved.sort_by(f64::total_cmp);
-            plain.sort_by(f64::total_cmp);
-            sum.best.0 += proved[0];
-            sum.best.1 += plain[0];
-            sum.median.0 += proved[rounds / 2];
-            sum.median.1 += plain[rounds / 2];
+        let mut sum = Self {
+            names: work.names,
+            best: (0.0, 0.0),
+            median: (0.0, 0.0),
+        };
+        for (first, second) in &mut times {
+            first.sort_by(f64::total_cmp);
+            second.sort_by(f64::total_cmp);
+            sum.best.0 += first[0];
+            sum.best.1 += second[0];
+            sum.median.0 += first[rounds / 2];
+            sum.median.1 += second[rounds / 2];
         }
         sum
     }
 
-    /// Best time of the proved library over best time of the plain code.
+    /// Best time of the first way over best time of the second.
     pub fn ratio(&self) -> f64 {
         self.best.0 / self.best.1
     }
 
-    /// Best and median of both, for a number of calls that read or write so many bytes of payloads.
-    pub fn print(&self, what: &str, calls: usize, bytes: usize) {
-        for (name, (proved, plain)) in [("best", self.best), ("median", self.median)] {
-            for (who, ns) in [("proved", proved), ("plain", plain)] {
+    /// Best and median of both, for a number of payloads that have so many bytes.
+    pub fn print(&self, what: &str, payloads: usize, bytes: usize) {
+        for (name, (first, second)) in [("best", self.best), ("median", self.median)] {
+            for (who, ns) in [(self.names.0, first), (self.names.1, second)] {
                 println!(
-                    "{what:>5} {name:>6} {who:>6}: {:8.1} ns a call, {:10.0} calls/s, {:7.1} MB/s",
-                    ns / calls as f64,
-                    calls as f64 / ns * 1e9,
+                    "{what:>5} {name:>6} {who:>6}: {:8.1} ns a payload, {:10.0} payloads/s, {:7.1} MB/s",
+                    ns / payloads as f64,
+                    payloads as f64 / ns * 1e9,
                     bytes as f64 / ns * 1e3
                 );
             }
-            println!("{what:>5} {name:>6}  ratio: {:.3}", proved / plain);
+            println!("{what:>5} {name:>6}  ratio: {:.3}", first / second);
         }
     }
 }
