@@ -1,4 +1,4 @@
-// Decides whether tables are valid (document 01, "The written form"; document 02, item 1): every test here equals its definition in form, for all
+// Decides whether tables are valid (docs/DECISIONS.md, "The written form" and "The trim element"): every test here equals its definition in form, for all
 // tables and all bytes.
 mod ranges; // ranges.rt: one value, by whether it is carried
 mod programme; // programme.rt: the program assignment
