@@ -13,6 +13,7 @@ static void sizes(void)
     SIZE(skriemelt_read_answer, 136);
     SIZE(skriemelt_write_answer, 16);
     SIZE(skriemelt_batch_answer, 16);
+    SIZE(skriemelt_text_answer, 16);
 }
 
 static void offsets(void)
@@ -46,6 +47,9 @@ static void offsets(void)
     AT(skriemelt_write_answer, refusal, 12);
     AT(skriemelt_batch_answer, place, 0);
     AT(skriemelt_batch_answer, refusal, 8);
+    AT(skriemelt_text_answer, place, 0);
+    AT(skriemelt_text_answer, length, 8);
+    AT(skriemelt_text_answer, refusal, 12);
 }
 
 int main(void)

@@ -2,7 +2,9 @@
  * skriemelt.h: reading and writing of object audio metadata (OAMD, ETSI TS 103 420 V1.2.1) from C and C++.
  *
  * The library is libhost.a (`rt staticlib host`). It needs memcpy and memset of the C library and nothing else: it has no state, takes no memory,
- * opens nothing and never ends the program. Link with -lskriemelt behind `make -C host install`, or with target/staticlib/libhost.a.
+ * opens nothing and never ends the program. Behind `make -C host install` it is libskriemelt, an archive and a shared library (`pkg-config --cflags --libs
+ * skriemelt`, with --static for the archive alone); without, link with target/staticlib/libhost.a. What stands here as a function with a body is small, reads what it is given and nothing else, and is
+ * not part of what is proved.
  *
  * Slices. A slice is passed as two arguments: a pointer to its first byte, and its length in bytes. A pointer with length 0 may be NULL. A pointer with a
  * length above 0 must point to that many bytes; it needs no alignment. Bytes of every sort are fine in a payload, in records and in a trim table, and every
@@ -12,19 +14,23 @@
  * Tables. The programme and the timing are passed and answered by value. Values of every sort are fine in them.
  *
  * Refusals. A refused call leaves every byte of its lent buffers (read: the records and the trim table, batch: these of all entries and the answers, write:
- * the payload) as it came, and all fields of its answer but refusal and place, and with SKRIEMELT_PAST_PAYLOAD the missing bits, are 0. An accepted read writes
+ * the payload, listing: the text) as it came, and all fields of its answer but refusal and place, and with SKRIEMELT_PAST_PAYLOAD the missing bits, are 0. An accepted read writes
  * the first 24 * objects * blocks bytes of the record buffer, the first 94 + objects bytes of the trim buffer, and no others; an accepted write writes the first
  * `length` bytes of its buffer and no others. What a batch writes is said at its call.
  *
- * Threads. Every call works on its arguments and its own stack alone (a read: about 32 kB, a batch: about 35 kB, a write: about 1 kB). Calls may run at once in
+ * Threads. Every call works on its arguments and its own stack alone (a read: about 32 kB, a batch: about 35 kB, a write: about 1 kB, a listing: about 64 kB). Calls may run at once in
  * several threads, as long as no two are lent the same buffer to be filled. What a call only looks at (read: the payload, batch: the store and the lists, write: the
- * records and the trim table) may be shared.
+ * records and the trim table, listing: the payload) may be shared.
+ *
+ * There and back. A payload that is read and written again may have other bytes: the written form is the one form of the tables, and what is not in the tables
+ * (unknown elements, reserved data, alternate ids, how a value was coded) is gone. Read again, it gives the same tables and no unknown element.
  *
  * Bytes between the fields of an answer by value (padding) carry nothing: compare field by field. In the answers of a batch they are 0.
  */
 #ifndef SKRIEMELT_H
 #define SKRIEMELT_H
 
+#include <math.h>
 #include <stddef.h>
 #include <stdint.h>
 
@@ -32,8 +38,29 @@
 extern "C" {
 #endif
 
-/* The version of this interface: a thousand times the major number, plus the minor. */
-#define SKRIEMELT_VERSION 2002
+/* The version of this interface: a thousand times the major number, plus the minor. A program built for a lower minor number of the same major one still works. */
+#define SKRIEMELT_VERSION 2003
+#define SKRIEMELT_VERSION_MAJOR 2
+#define SKRIEMELT_VERSION_MINOR 3
+#define SKRIEMELT_VERSION_STRING "2.3"
+
+/* A result that must not be dropped: the refusal stands in it. */
+#if defined(__GNUC__)
+#define SKRIEMELT_MUST_USE __attribute__((warn_unused_result))
+#else
+#define SKRIEMELT_MUST_USE
+#endif
+
+#if defined(__cplusplus) || (defined(__STDC_VERSION__) && __STDC_VERSION__ >= 199901L)
+#define SKRIEMELT_INLINE static inline
+#elif defined(__GNUC__)
+#define SKRIEMELT_INLINE static __inline__
+#else
+#define SKRIEMELT_INLINE static
+#endif
+
+/* A line that does not compile where a struct has another size than in the library. */
+#define SKRIEMELT_HAS_SIZE(type, bytes) typedef char type##_has_its_size[sizeof(type) == (bytes) ? 1 : -1]
 
 /* Limits. */
 #define SKRIEMELT_MOST_PAYLOAD_BYTES 4096 /* a longer payload is refused with 1, a longer written form with 11 */
@@ -43,55 +70,86 @@ extern "C" {
 #define SKRIEMELT_MOST_BLOCKS 8
 #define SKRIEMELT_MOST_BEDS 9
 #define SKRIEMELT_MOST_UNKNOWN 46
+#define SKRIEMELT_MOST_TEXT_BYTES 80000   /* the listing of every payload fits */
 
-/* Refusals. Where it says "bit", the place is a bit position counted from 0 at the top bit of the payload's first byte. */
-#define SKRIEMELT_ACCEPTED 0           /* place 0 */
-#define SKRIEMELT_TOO_LONG 1           /* the payload is longer than 4,096 bytes; place: its length in bytes */
-#define SKRIEMELT_PAST_PAYLOAD 2       /* a field, or an element's declared size, passes the payload's end; place: first bit of that field or size;
-                                          missing: the bits that it lacks */
-#define SKRIEMELT_OTHER_VERSION 3      /* the version is not 0; place 0 */
-#define SKRIEMELT_COUNTS_DISAGREE 4    /* object counts disagree; place: first bit behind the program assignment */
-#define SKRIEMELT_RESERVED_VALUE 5     /* a value that the standard marks reserved; place: first bit of that field */
-#define SKRIEMELT_SECOND_ELEMENT 6     /* a second known element of the same id; place: first bit of its id */
-#define SKRIEMELT_EXTENDED_EARLY 7     /* an extended object element before any object element; place: first bit of its id */
-#define SKRIEMELT_PAST_ELEMENT 8       /* a field of a known element passes the element's declared end; place: first bit of that field */
-#define SKRIEMELT_NO_ROOM 9            /* the record buffer is too short, or, if that is not, the trim buffer; place: bytes needed */
-/* A read is refused with 1 to 9, a write with 10 or 11; 10 comes first. An entry of a batch is refused with 12 or as a read is, 12 first; a whole batch with 13. */
-#define SKRIEMELT_NOT_VALID 10         /* not valid: programme, timing or too few record bytes, place 0; a record, place: 1 + index of the first bad one;
-                                          the trim table or too few bytes of it, place: 1 + number of records */
-#define SKRIEMELT_NO_FIT 11            /* the form is longer than the payload buffer or 4,096 bytes; place: bytes needed */
-#define SKRIEMELT_OUTSIDE 12           /* start and length leave the store; place: the start, in bytes */
-#define SKRIEMELT_LISTS 13             /* the lists differ in length, or slots or answers of all entries do not fit; place: the number of starts */
+/*
+ * Refusals. Where it says "bit", the place is a bit position counted from 0 at the top bit of the payload's first byte. A read is refused with 1 to 9, a write with
+ * 10 or 11; 10 comes first. An entry of a batch is refused with 12 or as a read is, 12 first; a whole batch with 13; a listing with 18. The numbers between are not
+ * given. `switch ((skriemelt_refusal)answer.refusal)` lets the compiler say which case is missing.
+ */
+typedef enum skriemelt_refusal {
+    SKRIEMELT_ACCEPTED = 0,        /* place 0 */
+    SKRIEMELT_TOO_LONG = 1,        /* the payload is longer than 4,096 bytes; place: its length in bytes */
+    SKRIEMELT_PAST_PAYLOAD = 2,    /* a field, or an element's declared size, passes the payload's end; place: first bit of that field or size;
+                                      missing: the bits that it lacks */
+    SKRIEMELT_OTHER_VERSION = 3,   /* the version is not 0; place 0 */
+    SKRIEMELT_COUNTS_DISAGREE = 4, /* object counts disagree; place: first bit behind the program assignment */
+    SKRIEMELT_RESERVED_VALUE = 5,  /* a value that the standard marks reserved; place: first bit of that field */
+    SKRIEMELT_SECOND_ELEMENT = 6,  /* a second known element of the same id; place: first bit of its id */
+    SKRIEMELT_EXTENDED_EARLY = 7,  /* an extended object element before any object element; place: first bit of its id */
+    SKRIEMELT_PAST_ELEMENT = 8,    /* a field of a known element passes the element's declared end; place: first bit of that field */
+    SKRIEMELT_NO_ROOM = 9,         /* the record buffer is too short, or, if that is not, the trim buffer; place: bytes needed */
+    SKRIEMELT_NOT_VALID = 10,      /* not valid: programme, timing or too few record bytes, place 0; a record, place: 1 + index of the first bad one;
+                                      the trim table or too few bytes of it, place: 1 + number of records */
+    SKRIEMELT_NO_FIT = 11,         /* the form is longer than the payload buffer or 4,096 bytes; place: bytes needed */
+    SKRIEMELT_OUTSIDE = 12,        /* start and length leave the store; place: the start, in bytes */
+    SKRIEMELT_LISTS = 13,          /* the lists differ in length, or slots or answers of all entries do not fit; place: the number of starts */
+    SKRIEMELT_SHORT_TEXT = 18      /* the text is longer than the text buffer; place: bytes needed */
+} skriemelt_refusal;
+
+/* The names are macros too, as they were before there was the enum: #ifdef finds them. */
+#define SKRIEMELT_ACCEPTED SKRIEMELT_ACCEPTED
+#define SKRIEMELT_TOO_LONG SKRIEMELT_TOO_LONG
+#define SKRIEMELT_PAST_PAYLOAD SKRIEMELT_PAST_PAYLOAD
+#define SKRIEMELT_OTHER_VERSION SKRIEMELT_OTHER_VERSION
+#define SKRIEMELT_COUNTS_DISAGREE SKRIEMELT_COUNTS_DISAGREE
+#define SKRIEMELT_RESERVED_VALUE SKRIEMELT_RESERVED_VALUE
+#define SKRIEMELT_SECOND_ELEMENT SKRIEMELT_SECOND_ELEMENT
+#define SKRIEMELT_EXTENDED_EARLY SKRIEMELT_EXTENDED_EARLY
+#define SKRIEMELT_PAST_ELEMENT SKRIEMELT_PAST_ELEMENT
+#define SKRIEMELT_NO_ROOM SKRIEMELT_NO_ROOM
+#define SKRIEMELT_NOT_VALID SKRIEMELT_NOT_VALID
+#define SKRIEMELT_NO_FIT SKRIEMELT_NO_FIT
+#define SKRIEMELT_OUTSIDE SKRIEMELT_OUTSIDE
+#define SKRIEMELT_LISTS SKRIEMELT_LISTS
+#define SKRIEMELT_SHORT_TEXT SKRIEMELT_SHORT_TEXT
 
 /*
  * Records. One record for each object and block, objects outermost: the record of object o and block b begins at byte
- * SKRIEMELT_RECORD_STRIDE * (o * blocks + b) of the buffer. A record's bytes:
+ * SKRIEMELT_RECORD_STRIDE * (o * blocks + b) of the buffer (skriemelt_record). Beds stand first, then ISF, then dynamic objects (skriemelt_counts_of).
+ *
+ * Axes (4.2 of the standard). In the room, without the screen flag: x from 0 at the left wall to 1 at the right, y from 0 at the front wall to 1 at the back, z from -1 at the floor over
+ * 0 at the listener to 1 at the ceiling. With the screen flag x and z run over the screen: x from its left edge to its right, z from its bottom edge to its top.
+ * Width lies along x, depth along y, height along z. A bed or ISF object has no position of its own: its bytes from x on are the defaults.
+ *
+ * A record's bytes:
  */
 #define SKRIEMELT_RECORD_STRIDE 24
 #define SKRIEMELT_RECORD_ACTIVE 0            /* 1 active, 0 not */
 #define SKRIEMELT_RECORD_CLASS 1             /* one of SKRIEMELT_CLASS_.. */
-#define SKRIEMELT_RECORD_GAIN 2              /* gain in dB plus 50, 1 to 65; 0 is minus infinity */
-#define SKRIEMELT_RECORD_PRIORITY 3          /* priority in 32nds, 0 to 32 */
-#define SKRIEMELT_RECORD_X 4                 /* x in 62nds, 0 to 62 */
-#define SKRIEMELT_RECORD_Y 5                 /* y in 62nds, 0 to 62 */
-#define SKRIEMELT_RECORD_Z 6                 /* z in 15ths with its sign, plus 64: 49 to 79 */
-#define SKRIEMELT_RECORD_DISTANCE 7          /* 0 not given, 1 infinity, else 2 + index of the standard's table */
-#define SKRIEMELT_RECORD_WIDTH 8             /* width in 31sts */
-#define SKRIEMELT_RECORD_DEPTH 9             /* depth in 31sts */
-#define SKRIEMELT_RECORD_HEIGHT 10           /* height in 31sts */
-#define SKRIEMELT_RECORD_ZONE 11             /* zone index, 0 to 5 */
-#define SKRIEMELT_RECORD_ELEVATION 12        /* elevation flag */
-#define SKRIEMELT_RECORD_SCREEN 13           /* screen flag */
-#define SKRIEMELT_RECORD_SCREEN_FACTOR 14    /* screen factor bits; 0 without the flag */
-#define SKRIEMELT_RECORD_SCREEN_DEPTH 15     /* depth index; 0 without the flag */
-#define SKRIEMELT_RECORD_SNAP 16             /* snap flag */
-#define SKRIEMELT_RECORD_DIVERGENCE 17       /* divergence flag */
-#define SKRIEMELT_RECORD_DIVERGENCE_MODE 18  /* divergence mode */
-#define SKRIEMELT_RECORD_DIVERGENCE_VALUE 19 /* the mode's table index or code */
-#define SKRIEMELT_RECORD_PRECISE 20          /* precise position: presence bits, as carried: 4 z, 2 y, 1 x */
-#define SKRIEMELT_RECORD_PRECISE_X 21        /* code of x */
-#define SKRIEMELT_RECORD_PRECISE_Y 22        /* code of y */
-#define SKRIEMELT_RECORD_PRECISE_Z 23        /* code of z */
+#define SKRIEMELT_RECORD_GAIN 2              /* gain in dB plus 50, 1 to 65: -49 to +15 dB; 0 is minus infinity (skriemelt_gain_db) */
+#define SKRIEMELT_RECORD_PRIORITY 3          /* priority in 32nds, 0 to 32: 32 is the highest */
+#define SKRIEMELT_RECORD_X 4                 /* x in 62nds, 0 (left) to 62 (right) */
+#define SKRIEMELT_RECORD_Y 5                 /* y in 62nds, 0 (front) to 62 (back) */
+#define SKRIEMELT_RECORD_Z 6                 /* z in 15ths with its sign, plus 64: 49 (floor, -1) to 79 (ceiling, +1) */
+#define SKRIEMELT_RECORD_DISTANCE 7          /* 0: not given, in the room; 1: at infinity; else 2 + distance_factor_idx, 0 to 15 for 1.1 1.3 1.6 2.0 2.5 3.2 4.0 5.0 6.3 7.9 10.0 12.6
+                                                15.8 20.0 25.1 50.1: so many times as far from (0.5, 0.5, 0) as the wall is that way (5.2.1.2) */
+#define SKRIEMELT_RECORD_WIDTH 8             /* width in 31sts, 0 to 31, of the room along x */
+#define SKRIEMELT_RECORD_DEPTH 9             /* depth in 31sts, 0 to 31, of the room along y */
+#define SKRIEMELT_RECORD_HEIGHT 10           /* height in 31sts, 0 to 31, of the room along z */
+#define SKRIEMELT_RECORD_ZONE 11             /* zone_constraints_idx: 0 none, 1 no back, 2 no side, 3 centre and back only, 4 screen only, 5 surround only */
+#define SKRIEMELT_RECORD_ELEVATION 12        /* 1: the top and bottom zone is included, 0: excluded */
+#define SKRIEMELT_RECORD_SCREEN 13           /* 1: the position is related to the screen, 0: to the room */
+#define SKRIEMELT_RECORD_SCREEN_FACTOR 14    /* screen_factor_bits, 0 to 7: the factor is (bits + 1) / 8; 0 without the flag, where the factor is 0 */
+#define SKRIEMELT_RECORD_SCREEN_DEPTH 15     /* depth_factor_idx, 0 to 3: 0.25, 0.5, 1, 2; 0 without the flag */
+#define SKRIEMELT_RECORD_SNAP 16             /* 1: locked to a channel */
+#define SKRIEMELT_RECORD_DIVERGENCE 17       /* 1: divergence is carried */
+#define SKRIEMELT_RECORD_DIVERGENCE_MODE 18  /* object_div_mode: 0 by table, 1 as in the block before, 2 by code */
+#define SKRIEMELT_RECORD_DIVERGENCE_VALUE 19 /* mode 0: 0 to 3 for 0.500755, 0.608529, 0.704833, 1.0; mode 1: 0; mode 2: object_div_code, 1 (divergence 0) to 63 (1), Table 42 */
+#define SKRIEMELT_RECORD_PRECISE 20          /* precise position: presence bits, as carried: 4 z, 2 y, 1 x; the bytes above do not have it added (skriemelt_x, _y, _z) */
+#define SKRIEMELT_RECORD_PRECISE_X 21        /* code of x, 0 to 3: 1, 2, -1, -2 fifths of a 62nd; 0 also where the presence bit is not set */
+#define SKRIEMELT_RECORD_PRECISE_Y 22        /* code of y, likewise */
+#define SKRIEMELT_RECORD_PRECISE_Z 23        /* code of z, 0 to 3: 1, 2, -1, -2 fifths of a 15th; likewise */
 
 #define SKRIEMELT_CLASS_BED 0
 #define SKRIEMELT_CLASS_ISF 1
@@ -102,7 +160,7 @@ extern "C" {
  * bits, the flags of the objects last. What is not carried is 0; without a trim element all bytes are 0. Places in the table:
  */
 #define SKRIEMELT_TRIM_PRESENT 0     /* 1 if there is a trim element */
-#define SKRIEMELT_TRIM_WARP_MODE 1   /* warp_mode, 0 or 1 */
+#define SKRIEMELT_TRIM_WARP_MODE 1   /* warp_mode: 1: y is to be doubled before rendering; the records hold y as carried */
 #define SKRIEMELT_TRIM_GLOBAL_MODE 2 /* global_trim_mode, one of SKRIEMELT_TRIM_MODE_.. */
 #define SKRIEMELT_TRIM_CONFIG 3      /* the first of SKRIEMELT_TRIM_CONFIGS configurations, all 0 unless the mode is SKRIEMELT_TRIM_MODE_CUSTOM */
 #define SKRIEMELT_TRIM_PER_OBJECT 93 /* b_disable_trim_per_obj: whether the objects' flags are carried */
@@ -114,13 +172,13 @@ extern "C" {
 #define SKRIEMELT_TRIM_CONFIG_DEFAULT 0    /* b_default_trim; if 1, all else is 0 */
 #define SKRIEMELT_TRIM_CONFIG_DISABLE 1    /* b_disable_trim; if 1, all else is 0 */
 #define SKRIEMELT_TRIM_CONFIG_CARRIED 2    /* trim_balance_presence[], 5 bits as carried: SKRIEMELT_TRIM_CARRIED_.. */
-#define SKRIEMELT_TRIM_CONFIG_CENTRE 3     /* trim_centre, 0 to 15 */
-#define SKRIEMELT_TRIM_CONFIG_SURROUND 4   /* trim_surround, 4 to 15 */
-#define SKRIEMELT_TRIM_CONFIG_HEIGHT 5     /* trim_height, 4 to 15 */
-#define SKRIEMELT_TRIM_CONFIG_SIGN_TB 6    /* bal3D_Y_sign_tb_code */
-#define SKRIEMELT_TRIM_CONFIG_AMOUNT_TB 7  /* bal3D_Y_amount_tb, 0 to 15 */
-#define SKRIEMELT_TRIM_CONFIG_SIGN_LIS 8   /* bal3D_Y_sign_lis_code */
-#define SKRIEMELT_TRIM_CONFIG_AMOUNT_LIS 9 /* bal3D_Y_amount_lis, 0 to 15 */
+#define SKRIEMELT_TRIM_CONFIG_CENTRE 3     /* trim_centre, 0 to 15: +6 +3 +1.5 +0.75 -0.75 -1.5 -3 -4.5 -6 -7.5 -9 -10.5 -12 -13.5 -16 -36 dB */
+#define SKRIEMELT_TRIM_CONFIG_SURROUND 4   /* trim_surround, 4 to 15: -0.75 to -36 dB, as trim_centre */
+#define SKRIEMELT_TRIM_CONFIG_HEIGHT 5     /* trim_height, 4 to 15: -0.75 to -36 dB, as trim_centre */
+#define SKRIEMELT_TRIM_CONFIG_SIGN_TB 6    /* bal3D_Y_sign_tb_code: 0 towards the front, 1 towards the back */
+#define SKRIEMELT_TRIM_CONFIG_AMOUNT_TB 7  /* bal3D_Y_amount_tb, 0 to 15: (amount + 1) / 16 */
+#define SKRIEMELT_TRIM_CONFIG_SIGN_LIS 8   /* bal3D_Y_sign_lis_code: 0 towards the front, 1 towards the back */
+#define SKRIEMELT_TRIM_CONFIG_AMOUNT_LIS 9 /* bal3D_Y_amount_lis, 0 to 15: (amount + 1) / 16 */
 
 #define SKRIEMELT_TRIM_MODE_DEFAULT 0
 #define SKRIEMELT_TRIM_MODE_DISABLE 1
@@ -138,9 +196,13 @@ extern "C" {
 #define SKRIEMELT_CONTENT_DYNAMIC 4
 #define SKRIEMELT_CONTENT_RESERVED 8
 
-/* One bed of the program assignment (5.5.3), as carried. */
+/*
+ * One bed of the program assignment (5.5.3), as carried. Bits of the assignment, from the one of weight 1 on (skriemelt_channel_label): standard, a flag for one channel or two:
+ * L R, C, LFE, LS RS, LB RB, TFL TFR, TSL TSR, TBL TBR, LW RW, LFE2; not standard: L, R, C, LFE, LS, RS, LB, RB, TFL, TFR, TSL, TSR, TBL, TBR, LW, RW, LFE2. The
+ * objects of a bed follow its channels in this order.
+ */
 typedef struct skriemelt_bed {
-    uint32_t assignment; /* channel assignment flags, 10 bits (standard) or 17, index 0 the top bit; 0 for an LFE-only bed */
+    uint32_t assignment; /* channel assignment flags, 10 bits (standard) or 17, index 0 of the standard's array the top bit; 0 for an LFE-only bed */
     uint8_t lfeonly;     /* b_lfe_only */
     uint8_t standard;    /* b_standard_chan_assign; 0 for an LFE-only bed */
 } skriemelt_bed;
@@ -155,15 +217,18 @@ typedef struct skriemelt_programme {
     uint8_t multiple;   /* b_multiple_bed_instances_present */
     uint8_t instances;  /* num_bed_instances_bits, 0 to 7 */
     uint8_t bedcount;   /* beds in use, 0 to 9 */
-    uint8_t isf;        /* intermediate_spatial_format_idx, 0 to 5 */
-    uint8_t dynamics;   /* num_dynamic_objects_bits with its extension added */
+    uint8_t isf;        /* intermediate_spatial_format_idx, 0 to 5: SR3.1.0.0 (4 objects), SR5.3.0.0 (8), SR7.3.0.0 (10), SR9.5.0.0 (14), SR7.5.3.0 (15), SR15.9.5.1 (30) */
+    uint8_t dynamics;   /* num_dynamic_objects_bits with its extension added: one less than the dynamic objects, if SKRIEMELT_CONTENT_DYNAMIC is set */
     skriemelt_bed beds[SKRIEMELT_MOST_BEDS]; /* those from bedcount on are 0 */
 } skriemelt_programme;
 
-/* When an update starts, and how long it takes to take hold; both in samples. */
+/*
+ * When an update starts, and how long it takes to take hold; both in samples of the audio (the rate is not in the payload). A start is counted from the first sample that the payload applies
+ * to, the sample offset included (5.3.2); starts need not rise from block to block. The ramp runs from the start on, from the values of the update before to those of this one.
+ */
 typedef struct skriemelt_update {
     uint16_t start; /* 0 to 2,047 */
-    uint16_t ramp;  /* 0 to 2,048 */
+    uint16_t ramp;  /* 0 to 2,048; 0: at once */
 } skriemelt_update;
 
 /* The timing of each block. */
@@ -195,7 +260,24 @@ typedef struct skriemelt_batch_answer {
     uint8_t refusal; /* SKRIEMELT_ACCEPTED, whatever the entries were answered, or SKRIEMELT_LISTS */
 } skriemelt_batch_answer;
 
+/* What a listing answers, beside the text. On a refusal the length is 0. */
+typedef struct skriemelt_text_answer {
+    uint64_t place;  /* see the refusals above */
+    uint32_t length; /* bytes of the text */
+    uint8_t refusal; /* SKRIEMELT_ACCEPTED, whether or not the payload was accepted, or SKRIEMELT_SHORT_TEXT */
+} skriemelt_text_answer;
+
+SKRIEMELT_HAS_SIZE(skriemelt_bed, 8);
+SKRIEMELT_HAS_SIZE(skriemelt_programme, 84);
+SKRIEMELT_HAS_SIZE(skriemelt_update, 4);
+SKRIEMELT_HAS_SIZE(skriemelt_timing, 34);
+SKRIEMELT_HAS_SIZE(skriemelt_read_answer, 136);
+SKRIEMELT_HAS_SIZE(skriemelt_write_answer, 16);
+SKRIEMELT_HAS_SIZE(skriemelt_batch_answer, 16);
+SKRIEMELT_HAS_SIZE(skriemelt_text_answer, 16);
+
 /* The version of the library; it equals SKRIEMELT_VERSION of the header that belongs to it. */
+SKRIEMELT_MUST_USE
 uint32_t skriemelt_version(void);
 
 /*
@@ -203,6 +285,7 @@ uint32_t skriemelt_version(void);
  * SKRIEMELT_MOST_RECORD_BYTES, the trim buffer SKRIEMELT_TRIM_FIXED + objects bytes, never more than SKRIEMELT_MOST_TRIM_BYTES, with or without a trim element;
  * they need not be cleared. Every input is answered: there is nothing to check beforehand.
  */
+SKRIEMELT_MUST_USE
 skriemelt_read_answer skriemelt_read(const uint8_t *payload, size_t payload_bytes, uint8_t *records, size_t records_bytes, uint8_t *trim, size_t trim_bytes);
 
 /*
@@ -226,6 +309,7 @@ skriemelt_read_answer skriemelt_read(const uint8_t *payload, size_t payload_byte
  *
  * Records, trims and answers must overlap neither one another nor the store or the lists; the store and the lists are only looked at.
  */
+SKRIEMELT_MUST_USE
 skriemelt_batch_answer skriemelt_read_batch(const uint8_t *store, size_t store_bytes, const uint64_t *starts, size_t starts_count, const uint64_t *lengths,
                                             size_t lengths_count, size_t record_slot, size_t trim_slot, uint8_t *records, size_t records_bytes,
                                             uint8_t *trims, size_t trims_bytes, skriemelt_read_answer *answers, size_t answers_bytes);
@@ -247,8 +331,138 @@ skriemelt_batch_answer skriemelt_read_batch(const uint8_t *store, size_t store_b
  * could stem from such a payload: what is not carried is 0; the class of each record follows from the programme; all starts leave the same remainder by 32;
  * an inactive record holds the defaults behind its class (x and y 31, z 64, elevation flag 1, all else 0), a bed or ISF record from x on.
  */
+SKRIEMELT_MUST_USE
 skriemelt_write_answer skriemelt_write(skriemelt_programme programme, skriemelt_timing timing, const uint8_t *records, size_t records_bytes,
                                        const uint8_t *trim, size_t trim_bytes, uint8_t *payload, size_t payload_bytes);
+
+/*
+ * Lists one payload: the text of its listing, lines key=value, as the programs of this project print it. A payload that is refused has a listing too. No byte 0 ends the
+ * text: it has `length` bytes, never more than SKRIEMELT_MOST_TEXT_BYTES. A buffer that is too short is SKRIEMELT_SHORT_TEXT with the bytes needed as the place, so with text NULL and
+ * length 0 the length can be asked for. Accepted, the text is the first bytes of the buffer, and no other byte changes. The buffer need not be cleared. Every input is answered: there is
+ * nothing to check beforehand.
+ */
+SKRIEMELT_MUST_USE
+skriemelt_text_answer skriemelt_list_text(const uint8_t *payload, size_t payload_bytes, uint8_t *text, size_t text_bytes);
+
+/* A sentence for a refusal; never NULL. */
+SKRIEMELT_INLINE const char *skriemelt_refusal_text(unsigned refusal)
+{
+    switch (refusal) {
+    case SKRIEMELT_ACCEPTED: return "accepted";
+    case SKRIEMELT_TOO_LONG: return "the payload is longer than 4,096 bytes";
+    case SKRIEMELT_PAST_PAYLOAD: return "the payload ends before a field or an element does";
+    case SKRIEMELT_OTHER_VERSION: return "the version is not 0";
+    case SKRIEMELT_COUNTS_DISAGREE: return "the object count is not the number of objects that the program assignment names";
+    case SKRIEMELT_RESERVED_VALUE: return "a field has a value that the standard reserves";
+    case SKRIEMELT_SECOND_ELEMENT: return "an element comes a second time";
+    case SKRIEMELT_EXTENDED_EARLY: return "an extended object element comes before any object element";
+    case SKRIEMELT_PAST_ELEMENT: return "a field passes the end that its element declares";
+    case SKRIEMELT_NO_ROOM: return "the buffer for the records or for the trim table is too short";
+    case SKRIEMELT_NOT_VALID: return "the programme, the timing, a record or the trim table is not valid";
+    case SKRIEMELT_NO_FIT: return "the written form is longer than its buffer or than 4,096 bytes";
+    case SKRIEMELT_OUTSIDE: return "the payload does not lie within the store";
+    case SKRIEMELT_LISTS: return "the lists of a batch differ in length, or its slots or answers do not fit their buffers";
+    case SKRIEMELT_SHORT_TEXT: return "the text is longer than its buffer";
+    }
+    return "no refusal of this library";
+}
+
+/* The record of an object and a block, of the records that a read with this timing has left; NULL where there is no such block or, in an answer, object. */
+SKRIEMELT_INLINE const uint8_t *skriemelt_record(const skriemelt_read_answer *answer, const uint8_t *records, unsigned object, unsigned block)
+{
+    if (object >= answer->programme.objects || block >= answer->timing.blocks)
+        return NULL;
+    return records + SKRIEMELT_RECORD_STRIDE * ((size_t)object * answer->timing.blocks + block);
+}
+
+/* A record's gain in dB; -HUGE_VAL for minus infinity. */
+SKRIEMELT_INLINE double skriemelt_gain_db(const uint8_t *record)
+{
+    return record[SKRIEMELT_RECORD_GAIN] == 0 ? -HUGE_VAL : record[SKRIEMELT_RECORD_GAIN] - 50.0;
+}
+
+/* What a code of the precise position adds, in fifths of a step (Tables 44 to 46); `bit` is its presence bit. */
+SKRIEMELT_INLINE int skriemelt_precise_fifths(const uint8_t *record, unsigned bit, unsigned code)
+{
+    if ((record[SKRIEMELT_RECORD_PRECISE] & bit) == 0)
+        return 0;
+    return code < 2 ? (int)code + 1 : 1 - (int)code;
+}
+
+/* A record's position, the precise position added, by the equations of 5.6.1.1: x and y from 0 to 1, z from -1 to 1; with a precise code up to two fifths of a step beyond, but for x and y at 1. */
+SKRIEMELT_INLINE double skriemelt_x(const uint8_t *record)
+{
+    double x = (5 * record[SKRIEMELT_RECORD_X] + skriemelt_precise_fifths(record, 1, record[SKRIEMELT_RECORD_PRECISE_X])) / 310.0;
+
+    return x < 1 ? x : 1;
+}
+
+SKRIEMELT_INLINE double skriemelt_y(const uint8_t *record)
+{
+    double y = (5 * record[SKRIEMELT_RECORD_Y] + skriemelt_precise_fifths(record, 2, record[SKRIEMELT_RECORD_PRECISE_Y])) / 310.0;
+
+    return y < 1 ? y : 1;
+}
+
+SKRIEMELT_INLINE double skriemelt_z(const uint8_t *record)
+{
+    return (5 * (record[SKRIEMELT_RECORD_Z] - 64) + skriemelt_precise_fifths(record, 4, record[SKRIEMELT_RECORD_PRECISE_Z])) / 75.0;
+}
+
+/*
+ * The channel or channels that a bit of a bed's assignment stands for, bit 0 the one of weight 1 (Tables 12 and 13, without the prefix RC_); NULL where there is no such
+ * bit. A standard bit may stand for two channels, "L R"; then the bed has an object for each. An LFE-only bed has one channel: bit 0, "LFE".
+ */
+SKRIEMELT_INLINE const char *skriemelt_channel_label(const skriemelt_bed *bed, unsigned bit)
+{
+    static const char *const standard[10] = {"L R", "C", "LFE", "LS RS", "LB RB", "TFL TFR", "TSL TSR", "TBL TBR", "LW RW", "LFE2"};
+    static const char *const other[17] = {"L", "R", "C", "LFE", "LS", "RS", "LB", "RB", "TFL", "TFR", "TSL", "TSR", "TBL", "TBR", "LW", "RW", "LFE2"};
+
+    if (bed->lfeonly)
+        return bit == 0 ? "LFE" : NULL;
+    if (bed->standard)
+        return bit < 10 ? standard[bit] : NULL;
+    return bit < 17 ? other[bit] : NULL;
+}
+
+/* How many objects a bed has: one for each of its channels. */
+SKRIEMELT_INLINE unsigned skriemelt_bed_objects(const skriemelt_bed *bed)
+{
+    unsigned bit, objects = 0;
+
+    if (bed->lfeonly)
+        return 1;
+    for (bit = 0; skriemelt_channel_label(bed, bit) != NULL; bit++) {
+        if ((bed->assignment >> bit & 1) != 0)
+            objects += bed->standard && bit != 1 && bit != 2 && bit != 9 ? 2 : 1;
+    }
+    return objects;
+}
+
+/* How many objects there are of each class; they stand in this order. */
+typedef struct skriemelt_counts {
+    unsigned bed, isf, dynamic;
+} skriemelt_counts;
+
+/* The counts of an accepted payload's programme. */
+SKRIEMELT_INLINE skriemelt_counts skriemelt_counts_of(const skriemelt_programme *programme)
+{
+    static const unsigned char isf_objects[6] = {4, 8, 10, 14, 15, 30};
+    skriemelt_counts counts = {0, 0, 0};
+    unsigned i;
+
+    if (programme->dynonly) {
+        counts.bed = programme->lfe;
+    } else {
+        for (i = 0; i < programme->bedcount && i < SKRIEMELT_MOST_BEDS; i++)
+            counts.bed += skriemelt_bed_objects(&programme->beds[i]);
+        if ((programme->content & SKRIEMELT_CONTENT_ISF) != 0 && programme->isf < 6)
+            counts.isf = isf_objects[programme->isf];
+    }
+    if (counts.bed + counts.isf < programme->objects)
+        counts.dynamic = programme->objects - counts.bed - counts.isf;
+    return counts;
+}
 
 #ifdef __cplusplus
 }

@@ -3,18 +3,21 @@ ghost use mathlib.Core.Path.{_≡_};
 ghost use Rattle.oamd.specs.Answer.{reading};
 ghost use Rattle.oamd.specs.Batch.{batching};
 ghost use Rattle.form.specs.Answer.{writing};
+ghost use Rattle.text.specs.Answer.{texted};
+ghost use Rattle.text.specs.Listing.{listing};
 use oamd::BatchAnswer;
 use oamd::Programme;
 use oamd::ReadAnswer;
 use oamd::Timing;
 use oamd::WriteAnswer;
+use text::TextAnswer;
 
 // The version of this interface: a thousand times the major number, plus the minor.
-const VERSION: u32 = 2002;
+const VERSION: u32 = 2003;
 
 #[no_mangle]
 pub extern "C" fn skriemelt_version() -> u32
-    ensures { λ r. ⌜ r ≡ 2002 ⌝ }
+    ensures { λ r. ⌜ r ≡ 2003 ⌝ }
 {
     VERSION
 }
@@ -77,4 +80,12 @@ pub extern "C" fn skriemelt_write(
         ⌝ }
 {
     writer::write(programme, timing, records, trim, payload)
+}
+
+// Lists a payload. Accepted: the listing is the first bytes of the lent buffer, and no other byte of it changes. Refused: none changes.
+#[no_mangle]
+pub extern "C" fn skriemelt_list_text(payload: &[u8], text: &mut [u8]) -> TextAnswer
+    ensures { λ r. ⌜ (record { answer = r; buffer = now (text .exit) }) ≡ texted (listing (now (payload .entry))) (now (text .entry)) ⌝ }
+{
+    text::list_text(payload, text)
 }

@@ -17,7 +17,7 @@ use Rattle.text.specs.Laying.{capped, Laid}
 use Rattle.text.specs.Lines.{hex, numberLine}
 use Rattle.text.specs.Listing.{listing}
 use Rattle.text.specs.Numerals.{decimal}
-use Rattle.unique.specs.OneAnswer.{OneAnswer, by-equation, said, _beside_}
+use Rattle.unique.specs.OneAnswer.{ClausesOf, SpecOf, OneAnswer, by-equation, said, _beside_}
 
 -- The answer, with the bytes that it leaves in the lent buffer.
 texted-set : IsSet Texted
@@ -25,8 +25,12 @@ texted-set =
     coded-set (codedVia (coded× (text-answer.the-row .coded) (codedList codedℕ)) (λ (o : Texted). o .answer beside o .buffer)
     (λ x y h i. record { answer = h i .0; buffer = h i .1 }))
 
-pub one-list-text : OneAnswer list-text.ended (λ M. list-text.clauses) (λ M. list-text.spec) (λ κs a. now (a .0) beside now (a .1 .0))
-    {O = Texted} (λ κs a r z. record { answer = r; buffer = z .1 .0 })
+-- Two answers, each with the bytes that it leaves in the lent buffer, are the same, buffer too, if the payload's bytes and the bytes that stood in the buffer are.
+abbrev pub OneText : ClausesOf list-text.ended → SpecOf list-text.ended → Type 2
+OneText clauses spec =
+    OneAnswer list-text.ended clauses spec (λ κs a. now (a .0) beside now (a .1 .0)) {O = Texted} (λ κs a r z. record { answer = r; buffer = z .1 .0 })
+
+pub one-list-text : OneText (λ M. list-text.clauses) (λ M. list-text.spec)
 one-list-text = by-equation (λ κs. texted-set) (λ w. refl) (λ i. texted (listing (i .0)) (i .1)) (λ w κs a r z p. said (λ h. h) (p .holds))
 
 -- The next position and the buffer behind it, from the buffer before it, the position and what is laid.

@@ -1,0 +1,71 @@
+/* The parts of the command skriemelt. */
+#ifndef COMMAND_H
+#define COMMAND_H
+
+#include "skriemelt.h"
+
+#include <stdio.h>
+
+/* Exit statuses. */
+#define STATUS_ACCEPTED 0
+#define STATUS_REFUSED 1
+#define STATUS_FAILED 2
+
+/* What a subcommand was asked for. */
+typedef struct request {
+    int people;         /* list: a table for people, not the listing */
+    int trim;           /* the trim table's fields too */
+    int progress;       /* shelf: progress on standard error, terminal or not */
+    unsigned long rate; /* samples in a second, for milliseconds */
+    char **names;       /* the files, none for standard input */
+    int name_count;
+} request;
+
+/* A payload that was read. */
+typedef struct reading {
+    skriemelt_read_answer answer;
+    const uint8_t *records, *trim;
+} reading;
+
+/* complain.c: a message on standard error, "skriemelt: WHAT: WHY", with the error's text behind it if there is one (0: none). STATUS_FAILED. */
+int complain(const char *what, const char *why, int error);
+
+/*
+ * print.c: standard output. What is printed is kept, and written in whole lines only. A write that fails is complained of once; from then on nothing is
+ * written, and print_failed is 1.
+ */
+#if defined(__GNUC__)
+__attribute__((format(printf, 1, 2)))
+#endif
+void print(const char *format, ...);
+void print_bytes(const uint8_t *bytes, size_t count);
+void print_name(const char *key, const char *name); /* a line key=name; what would break the line is written \xHH */
+void print_now(void);                               /* writes what is kept */
+int print_failed(void);
+int print_end(void); /* writes what is kept and closes; whether all was written */
+
+/* input.c: files, "-" and standard input. */
+const char *input_title(const char *name);              /* the name for messages */
+FILE *input_open(const char *name);                     /* NULL: complained of */
+int input_close(FILE *in, const char *name);            /* whether all that was asked for could be read; else complained of */
+int input_is_standard(const char *name);
+
+/* list.c, people.c, trim.c, shelf.c: the status. */
+int run_list(const request *asked);
+int run_shelf(const request *asked);
+void print_people(const reading *r, unsigned long rate);
+void print_trim(const reading *r);        /* lines trim.FIELD=VALUE of what is carried */
+void print_trim_people(const reading *r); /* the same in words and dB */
+
+/* progress.c: how far a shelf has been read, on standard error. */
+typedef struct progress {
+    int shown, terminal;
+    double began, last;          /* seconds */
+    unsigned long long whole;    /* bytes of the file, 0 where it is not known */
+} progress;
+
+void progress_start(progress *p, FILE *in, int always);
+void progress_show(progress *p, unsigned long long payloads, unsigned long long refused, unsigned long long bytes);
+void progress_clear(const progress *p); /* before lines are written to the same terminal */
+
+#endif

@@ -1,0 +1,66 @@
+/* skriemelt list: each file is one payload. */
+#include "command.h"
+
+/* One byte more than a payload may have, so that a longer one is told. */
+#define LOOKED_AT (SKRIEMELT_MOST_PAYLOAD_BYTES + 1)
+
+static void print_listing(const uint8_t *payload, size_t payload_bytes)
+{
+    static uint8_t text[SKRIEMELT_MOST_TEXT_BYTES];
+    skriemelt_text_answer a = skriemelt_list_text(payload, payload_bytes, text, sizeof text);
+
+    if (a.refusal == SKRIEMELT_ACCEPTED)
+        print_bytes(text, a.length);
+    else /* no payload has a listing that is longer */
+        complain("the listing", skriemelt_refusal_text(a.refusal), 0);
+}
+
+static int print_payload(const request *asked, const uint8_t *payload, size_t payload_bytes)
+{
+    static uint8_t records[SKRIEMELT_MOST_RECORD_BYTES], trim[SKRIEMELT_MOST_TRIM_BYTES];
+    reading r;
+
+    r.answer = skriemelt_read(payload, payload_bytes, records, sizeof records, trim, sizeof trim);
+    r.records = records;
+    r.trim = trim;
+    if (asked->people)
+        print_people(&r, asked->rate);
+    else
+        print_listing(payload, payload_bytes);
+    if (asked->trim && asked->people)
+        print_trim_people(&r);
+    else if (asked->trim)
+        print_trim(&r);
+    return r.answer.refusal == SKRIEMELT_ACCEPTED ? STATUS_ACCEPTED : STATUS_REFUSED;
+}
+
+static int list_file(const request *asked, const char *name)
+{
+    static uint8_t payload[LOOKED_AT];
+    FILE *in = input_open(name);
+    size_t payload_bytes;
+
+    if (in == NULL)
+        return STATUS_FAILED;
+    payload_bytes = fread(payload, 1, sizeof payload, in);
+    if (!input_close(in, name))
+        return STATUS_FAILED;
+    if (asked->name_count > 1)
+        print_name("file", name);
+    return print_payload(asked, payload, payload_bytes);
+}
+
+int run_list(const request *asked)
+{
+    int i, status = STATUS_ACCEPTED;
+
+    if (asked->name_count == 0)
+        return list_file(asked, "-");
+    for (i = 0; i < asked->name_count && !print_failed(); i++) {
+        int of_file = list_file(asked, asked->names[i]);
+
+        if (of_file > status)
+            status = of_file;
+    }
+    return status;
+}

@@ -1,0 +1,54 @@
+/* How far a shelf has been read. */
+#define _POSIX_C_SOURCE 200112L
+#include "command.h"
+
+#include <sys/stat.h>
+#include <time.h>
+#include <unistd.h>
+
+#define BETWEEN 0.25 /* seconds between two lines */
+#define MEGABYTE 1e6
+
+static double seconds(void)
+{
+    struct timespec now;
+
+    if (clock_gettime(CLOCK_MONOTONIC, &now) != 0)
+        return 0;
+    return (double)now.tv_sec + (double)now.tv_nsec / 1e9;
+}
+
+void progress_start(progress *p, FILE *in, int always)
+{
+    struct stat file;
+
+    p->terminal = isatty(STDERR_FILENO);
+    p->shown = always || p->terminal;
+    p->began = p->last = seconds();
+    p->whole = 0;
+    if (fstat(fileno(in), &file) == 0 && S_ISREG(file.st_mode))
+        p->whole = (unsigned long long)file.st_size;
+}
+
+void progress_show(progress *p, unsigned long long payloads, unsigned long long refused, unsigned long long bytes)
+{
+    double now = seconds(), rate;
+
+    if (!p->shown || now - p->last < BETWEEN)
+        return;
+    p->last = now;
+    rate = (double)bytes / (now - p->began);
+    fprintf(stderr, "%s%llu payloads, %llu refused, %.1f", p->terminal ? "\r" : "", payloads, refused, (double)bytes / MEGABYTE);
+    if (p->whole >= bytes && p->whole > 0)
+        fprintf(stderr, " of %.1f MB, %.1f MB/s, %.0f s left", (double)p->whole / MEGABYTE, rate / MEGABYTE, (double)(p->whole - bytes) / rate);
+    else
+        fprintf(stderr, " MB, %.1f MB/s", rate / MEGABYTE);
+    fputs(p->terminal ? "\033[K" : "\n", stderr);
+    fflush(stderr);
+}
+
+void progress_clear(const progress *p)
+{
+    if (p->shown && p->terminal)
+        fputs("\r\033[K", stderr);
+}

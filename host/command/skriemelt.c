@@ -1,0 +1,145 @@
+/* skriemelt: object audio metadata for people. What it does stands on its manual page, skriemelt.1. */
+#define _POSIX_C_SOURCE 200112L
+#include "command.h"
+
+#include <errno.h>
+#include <signal.h>
+#include <stdlib.h>
+#include <string.h>
+
+#define USUAL_RATE 48000
+
+static const char general_help[] =
+    "usage: skriemelt list [--people] [--trim] [--rate HZ] [FILE..]\n"
+    "       skriemelt shelf [--trim] [--progress] [FILE]\n"
+    "       skriemelt SUBCOMMAND --help\n"
+    "       skriemelt --help | --version\n"
+    "\n"
+    "Reads object audio metadata (OAMD, ETSI TS 103 420).\n"
+    "  list   each FILE is one payload: prints its listing\n"
+    "  shelf  FILE holds payloads one behind the other: prints a line for each, and counts by refusal\n"
+    "\n"
+    "Exit status: 0 all accepted, 1 something was refused, 2 usage, or a file that cannot be read or written.\n";
+
+static const char list_help[] =
+    "usage: skriemelt list [--people] [--trim] [--rate HZ] [FILE..]\n"
+    "\n"
+    "Each FILE is one payload (- or none: standard input), of which at most 4,097 bytes are looked at. Prints its listing, lines key=value; with several\n"
+    "files a line file=FILE before each.\n"
+    "  --people   a table for people: gain in dB, position and size as numbers, times in samples and milliseconds\n"
+    "  --trim     the trim table's fields by name, too\n"
+    "  --rate HZ  samples in a second, for the milliseconds of --people; 48000 if it is not given, since the payload does not hold it\n";
+
+static const char shelf_help[] =
+    "usage: skriemelt shelf [--trim] [--progress] [FILE]\n"
+    "\n"
+    "FILE (- or none: standard input) holds payloads one behind the other, each behind its length in 2 bytes, most byte first. Prints a line for each,\n"
+    "and at the end how many there were, and how many of each refusal. The file may have any length.\n"
+    "  --trim      the trim table's fields of each payload by name, too\n"
+    "  --progress  progress on standard error, also where that is no terminal\n";
+
+static const struct subcommand {
+    const char *name, *help;
+    int (*run)(const request *asked);
+    int most_names; /* -1: any number */
+} subcommands[] = {{"list", list_help, run_list, -1}, {"shelf", shelf_help, run_shelf, 1}};
+
+static int misuse(const char *what, const char *why)
+{
+    complain(what, why, 0);
+    fputs("Try 'skriemelt --help'.\n", stderr);
+    return STATUS_FAILED;
+}
+
+/* The rate behind --rate; 0 for what is no rate. */
+static unsigned long rate_of(const char *digits)
+{
+    char *end;
+    unsigned long rate;
+
+    if (digits == NULL || *digits < '0' || *digits > '9')
+        return 0;
+    errno = 0;
+    rate = strtoul(digits, &end, 10);
+    return *end == '\0' && errno == 0 ? rate : 0;
+}
+
+/* Takes one option at *arguments, and its value if it has one; whether it is one of this subcommand. */
+static int take_option(const struct subcommand *s, char ***arguments, request *asked)
+{
+    const char *option = **arguments;
+    int lists = s->run == run_list;
+
+    if (strcmp(option, "--trim") == 0) {
+        asked->trim = 1;
+    } else if (lists && strcmp(option, "--people") == 0) {
+        asked->people = 1;
+    } else if (lists && strcmp(option, "--rate") == 0) {
+        asked->rate = rate_of((*arguments)[1]);
+        if ((*arguments)[1] != NULL)
+            ++*arguments;
+    } else if (!lists && strcmp(option, "--progress") == 0) {
+        asked->progress = 1;
+    } else {
+        return 0;
+    }
+    return 1;
+}
+
+/* Runs a subcommand with the arguments behind its name. The names are gathered at the front of the arguments. */
+static int run_subcommand(const struct subcommand *s, char **arguments)
+{
+    request asked = {0, 0, 0, USUAL_RATE, arguments, 0};
+    int options = 1;
+
+    for (; *arguments != NULL; arguments++) {
+        if (!options || (*arguments)[0] != '-' || strcmp(*arguments, "-") == 0) {
+            asked.names[asked.name_count++] = *arguments;
+        } else if (strcmp(*arguments, "--") == 0) {
+            options = 0;
+        } else if (strcmp(*arguments, "--help") == 0) {
+            print("%s", s->help);
+            return STATUS_ACCEPTED;
+        } else if (!take_option(s, &arguments, &asked)) {
+            return misuse(*arguments, "no such option");
+        }
+    }
+    if (asked.rate == 0)
+        return misuse("--rate", "needs a number above 0");
+    if (s->most_names >= 0 && asked.name_count > s->most_names)
+        return misuse(asked.names[s->most_names], "one file too many");
+    return s->run(&asked);
+}
+
+static int run(char **arguments)
+{
+    size_t i;
+
+    if (arguments[0] == NULL)
+        return misuse("no subcommand", "list or shelf");
+    if (strcmp(arguments[0], "--help") == 0) {
+        print("%s", general_help);
+        return STATUS_ACCEPTED;
+    }
+    if (strcmp(arguments[0], "--version") == 0) {
+        print("skriemelt %s\n", SKRIEMELT_VERSION_STRING);
+        return STATUS_ACCEPTED;
+    }
+    for (i = 0; i < sizeof subcommands / sizeof subcommands[0]; i++) {
+        if (strcmp(arguments[0], subcommands[i].name) == 0)
+            return run_subcommand(&subcommands[i], arguments + 1);
+    }
+    return misuse(arguments[0], arguments[0][0] == '-' ? "no such option" : "no such subcommand");
+}
+
+int main(int argc, char **argv)
+{
+    int status;
+
+    /* a closed pipe is then an error of a write, which is told */
+    signal(SIGPIPE, SIG_IGN);
+    if (skriemelt_version() != SKRIEMELT_VERSION)
+        return complain("the library", "is of another version than the command", 0);
+    status = argc > 0 ? run(argv + 1) : STATUS_FAILED;
+    return print_end() ? status : STATUS_FAILED;
+}

@@ -1,0 +1,148 @@
+/* The header's own functions: sentences, places of records, numbers for people, channels, counts. What is expected is worked from the standard's tables. */
+#include "test.h"
+
+static int near(double a, double b)
+{
+    return a - b < 1e-9 && b - a < 1e-9;
+}
+
+/* Each refusal has a sentence of its own; a number that is none has one too. */
+static void sentences(void)
+{
+    static const unsigned refusals[] = {0, 1, 2, 3, 4, 5, 6, 7, 8, 9, 10, 11, 12, 13, 18};
+    const size_t count = sizeof refusals / sizeof refusals[0];
+    size_t i, j;
+
+    for (i = 0; i < count; i++) {
+        check(strcmp(skriemelt_refusal_text(refusals[i]), skriemelt_refusal_text(14)) != 0, "a refusal has a sentence");
+        for (j = 0; j < i; j++)
+            check(strcmp(skriemelt_refusal_text(refusals[i]), skriemelt_refusal_text(refusals[j])) != 0, "a sentence of its own");
+    }
+    check(skriemelt_refusal_text(255) != NULL && skriemelt_refusal_text(4000000000U) != NULL, "every number has a sentence");
+}
+
+/* A switch over all refusals, in which the compiler would miss one. */
+static int is_refused(uint8_t number)
+{
+    switch ((skriemelt_refusal)number) {
+    case SKRIEMELT_ACCEPTED:
+        return 0;
+    case SKRIEMELT_TOO_LONG:
+    case SKRIEMELT_PAST_PAYLOAD:
+    case SKRIEMELT_OTHER_VERSION:
+    case SKRIEMELT_COUNTS_DISAGREE:
+    case SKRIEMELT_RESERVED_VALUE:
+    case SKRIEMELT_SECOND_ELEMENT:
+    case SKRIEMELT_EXTENDED_EARLY:
+    case SKRIEMELT_PAST_ELEMENT:
+    case SKRIEMELT_NO_ROOM:
+    case SKRIEMELT_NOT_VALID:
+    case SKRIEMELT_NO_FIT:
+    case SKRIEMELT_OUTSIDE:
+    case SKRIEMELT_LISTS:
+    case SKRIEMELT_SHORT_TEXT:
+        return 1;
+    }
+    return -1;
+}
+
+static void places(void)
+{
+    static const uint8_t records[SKRIEMELT_MOST_RECORD_BYTES];
+    skriemelt_read_answer a;
+
+    memset(&a, 0, sizeof a);
+    a.programme.objects = 3;
+    a.timing.blocks = 2;
+    check(skriemelt_record(&a, records, 0, 0) == records, "the first record");
+    check(skriemelt_record(&a, records, 1, 0) == records + 48, "objects outermost");
+    check(skriemelt_record(&a, records, 2, 1) == records + 120, "the last record");
+    check(skriemelt_record(&a, records, 3, 0) == NULL && skriemelt_record(&a, records, 0, 2) == NULL, "no such record");
+    a.timing.blocks = 0;
+    check(skriemelt_record(&a, records, 0, 0) == NULL, "no blocks, no record");
+}
+
+static void numbers(void)
+{
+    uint8_t r[SKRIEMELT_RECORD_STRIDE] = {0};
+
+    check(skriemelt_gain_db(r) == -HUGE_VAL, "minus infinity");
+    r[SKRIEMELT_RECORD_GAIN] = 65;
+    check(near(skriemelt_gain_db(r), 15), "+15 dB");
+    r[SKRIEMELT_RECORD_GAIN] = 1;
+    check(near(skriemelt_gain_db(r), -49), "-49 dB");
+    r[SKRIEMELT_RECORD_X] = 31;
+    r[SKRIEMELT_RECORD_Y] = 62;
+    r[SKRIEMELT_RECORD_Z] = 49;
+    check(near(skriemelt_x(r), 0.5) && near(skriemelt_y(r), 1) && near(skriemelt_z(r), -1), "centre, back, floor");
+    r[SKRIEMELT_RECORD_PRECISE_X] = 1;
+    r[SKRIEMELT_RECORD_PRECISE_Y] = 0;
+    r[SKRIEMELT_RECORD_PRECISE_Z] = 3;
+    check(near(skriemelt_x(r), 0.5) && near(skriemelt_z(r), -1), "codes without presence bits add nothing");
+    r[SKRIEMELT_RECORD_PRECISE] = 7;
+    check(near(skriemelt_x(r), 31.0 / 62 + 2.0 / 310), "code 1 adds two fifths");
+    check(near(skriemelt_y(r), 1), "never beyond the back wall");
+    check(near(skriemelt_z(r), -1 - 2.0 / 75), "code 3 takes two fifths");
+    r[SKRIEMELT_RECORD_PRECISE_X] = 2;
+    check(near(skriemelt_x(r), 31.0 / 62 - 1.0 / 310), "code 2 takes one fifth");
+}
+
+static void channels(void)
+{
+    skriemelt_bed standard = {0x00F, 0, 1}, other = {0x10003, 0, 0}, lfe = {0, 1, 0};
+
+    check(strcmp(skriemelt_channel_label(&standard, 0), "L R") == 0, "bit 0 is left and right");
+    check(strcmp(skriemelt_channel_label(&standard, 9), "LFE2") == 0 && skriemelt_channel_label(&standard, 10) == NULL, "bit 9 is the last");
+    check(strcmp(skriemelt_channel_label(&other, 1), "R") == 0, "bit 1 is right");
+    check(strcmp(skriemelt_channel_label(&other, 16), "LFE2") == 0 && skriemelt_channel_label(&other, 17) == NULL, "bit 16 is the last");
+    check(strcmp(skriemelt_channel_label(&lfe, 0), "LFE") == 0 && skriemelt_channel_label(&lfe, 1) == NULL, "an LFE-only bed");
+    check(skriemelt_bed_objects(&standard) == 6, "L R C LFE LS RS");
+    check(skriemelt_bed_objects(&other) == 3, "L R LFE2");
+    check(skriemelt_bed_objects(&lfe) == 1, "one channel");
+    standard.assignment = 0x3FF;
+    check(skriemelt_bed_objects(&standard) == 17, "all of Table 12");
+    other.assignment = 0x1FFFF;
+    check(skriemelt_bed_objects(&other) == 17, "all of Table 13");
+}
+
+static int are(skriemelt_counts c, unsigned bed, unsigned isf, unsigned dynamic)
+{
+    return c.bed == bed && c.isf == isf && c.dynamic == dynamic;
+}
+
+static void counts(void)
+{
+    skriemelt_programme p;
+
+    memset(&p, 0, sizeof p);
+    p.objects = 11;
+    p.dynonly = 1;
+    p.lfe = 1;
+    check(are(skriemelt_counts_of(&p), 1, 0, 10), "dynamic objects only, with an LFE object");
+    p.dynonly = p.lfe = 0;
+    p.objects = 23;
+    p.content = SKRIEMELT_CONTENT_BED | SKRIEMELT_CONTENT_ISF | SKRIEMELT_CONTENT_DYNAMIC;
+    p.bedcount = 2;
+    p.beds[0].standard = 1;
+    p.beds[0].assignment = 0x00F;
+    p.beds[1].lfeonly = 1;
+    p.isf = 2;
+    p.dynamics = 5;
+    check(are(skriemelt_counts_of(&p), 7, 10, 6), "two beds, SR7.3.0.0 and six more");
+}
+
+int main(void)
+{
+    sentences();
+    check(is_refused(0) == 0 && is_refused(18) == 1 && is_refused(14) == -1, "a switch over the enum");
+    places();
+    numbers();
+    channels();
+    counts();
+    check(SKRIEMELT_VERSION == 1000 * SKRIEMELT_VERSION_MAJOR + SKRIEMELT_VERSION_MINOR, "the version's parts");
+    check(strcmp(SKRIEMELT_VERSION_STRING, "2.3") == 0, "the version's text");
+#ifndef SKRIEMELT_TOO_LONG
+    check(0, "the names are macros too");
+#endif
+    return finish("test_header");
+}
