@@ -1,0 +1,801 @@
+"""Object audio metadata (OAMD, ETSI TS 103 420 V1.2.1), read and written by the Skriemelt library.
+
+    import skriemelt
+    try:
+        tables = skriemelt.read(payload)                  # bytes, bytearray or memoryview
+    except skriemelt.Refused as refused:
+        print(refused.number, refused.place, refused.meaning)
+    for update in tables.timing.updates:
+        print(update.start, update.ramp)                  # in samples
+    record = tables.record(1, 0)                          # object 1, block 0
+    print(record.gain_db, record.position, record.object_class, record.raw.hex())
+    payload = skriemelt.write(tables)                     # the one form that the tables have
+    answers = skriemelt.read_batch(store, [(0, 45), (45, 12)])  # Tables or Refused, in order
+
+Fields hold the numbers of include/skriemelt.h under its names, so that nothing is lost between a read and a write; properties say what they mean. Objects
+are frozen: `dataclasses.replace` gives changed ones. What the library reads is proved; this module hands it bytes and names what it answers.
+
+The library is looked for when the first call needs it. The environment variable SKRIEMELT_LIBRARY names it (a path, or a name for the loader); if that is
+not set, it is looked for beside this file, as libskriemelt.so.2 where the loader looks, and by ctypes.util.find_library. Its version must have the major
+number of INTERFACE and be INTERFACE at least; otherwise, and where there is none, LibraryError says what was looked for and found.
+
+Calls may run at once in several threads: nothing is kept between them but the loaded library. Bytes are used in place; a bytearray or a memoryview is copied first, so it may change during the call.
+"""
+from __future__ import annotations
+
+import ctypes
+import ctypes.util
+import enum
+import functools
+import operator
+import os
+from dataclasses import astuple, dataclass, fields
+from typing import Any, Iterable, Iterator, List, Optional, Sequence, Tuple, Union
+
+__all__ = [
+    "Bed", "Content", "INTERFACE", "Library", "LibraryError", "MOST_BEDS", "MOST_BLOCKS", "MOST_OBJECTS", "MOST_PAYLOAD_BYTES", "MOST_RECORD_BYTES",
+    "MOST_TEXT_BYTES", "MOST_TRIM_BYTES", "MOST_UNKNOWN", "ObjectClass", "Programme", "RECORD_STRIDE", "Record", "Refusal", "Refused", "TRIM_CONFIGS",
+    "TRIM_CONFIG_STRIDE", "TRIM_FIXED", "Tables", "Timing", "Trim", "TrimCarried", "TrimConfig", "TrimMode", "Update", "Zone", "default_library",
+    "list_text", "read", "read_batch", "write",
+]
+
+INTERFACE = 2002  # the version of the C interface that is needed: a thousand times the major number, plus the minor
+
+MOST_PAYLOAD_BYTES = 4096
+MOST_RECORD_BYTES = 30720
+MOST_TRIM_BYTES = 253
+MOST_OBJECTS = 159
+MOST_BLOCKS = 8
+MOST_BEDS = 9
+MOST_UNKNOWN = 46
+MOST_TEXT_BYTES = 80000  # the listing of every payload fits
+RECORD_STRIDE = 24
+TRIM_PRESENT = 0
+TRIM_WARP_MODE = 1
+TRIM_GLOBAL_MODE = 2
+TRIM_CONFIG = 3
+TRIM_PER_OBJECT = 93
+TRIM_FIXED = 94
+TRIM_CONFIGS = 9
+TRIM_CONFIG_STRIDE = 10
+
+_BATCH_ROOM = 1 << 23  # bytes that a batch borrows at once; longer lists are read in several calls
+
+BytesLike = Union[bytes, bytearray, memoryview]
+
+
+# ---- names for numbers
+
+
+class Refusal(enum.IntEnum):
+    """Why a call was refused, by number."""
+
+    ACCEPTED = 0
+    TOO_LONG = 1
+    PAST_PAYLOAD = 2
+    OTHER_VERSION = 3
+    COUNTS_DISAGREE = 4
+    RESERVED_VALUE = 5
+    SECOND_ELEMENT = 6
+    EXTENDED_EARLY = 7
+    PAST_ELEMENT = 8
+    NO_ROOM = 9
+    NOT_VALID = 10
+    NO_FIT = 11
+    OUTSIDE = 12
+    LISTS = 13
+    SHORT_TEXT = 18
+
+
+class ObjectClass(enum.IntEnum):
+    """What sort of object a record is of."""
+
+    BED = 0
+    ISF = 1
+    DYNAMIC = 2
+
+
+class Zone(enum.IntEnum):
+    """zone_constraints_idx (Table 20), by its index; 6 and 7 are reserved. The library keeps the index and gives it no meaning, and so do these names."""
+
+    ZONE_0 = 0
+    ZONE_1 = 1
+    ZONE_2 = 2
+    ZONE_3 = 3
+    ZONE_4 = 4
+    ZONE_5 = 5
+
+
+class Content(enum.IntFlag):
+    """The bits of content_description."""
+
+    BED = 1
+    ISF = 2
+    DYNAMIC = 4
+    RESERVED = 8
+
+
+class TrimMode(enum.IntEnum):
+    """global_trim_mode."""
+
+    DEFAULT = 0
+    DISABLE = 1
+    CUSTOM = 2
+
+
+class TrimCarried(enum.IntFlag):
+    """The bits of trim_balance_presence[]."""
+
+    CENTRE = 1
+    SURROUND = 2
+    HEIGHT = 4
+    TB = 8
+    LIS = 16
+
+
+# What each refusal is given for, and what its place counts.
+_MEANINGS = {
+    Refusal.TOO_LONG: ("the payload is longer than 4,096 bytes", "its length in bytes"),
+    Refusal.PAST_PAYLOAD: ("a field, or an element's declared size, passes the payload's end", "the first bit of that field or size"),
+    Refusal.OTHER_VERSION: ("the version is not 0", "always 0"),
+    Refusal.COUNTS_DISAGREE: ("the object counts disagree", "the first bit behind the program assignment"),
+    Refusal.RESERVED_VALUE: ("a field has a value that the standard marks reserved", "the first bit of that field"),
+    Refusal.SECOND_ELEMENT: ("a known element comes a second time", "the first bit of its id"),
+    Refusal.EXTENDED_EARLY: ("an extended object element comes before any object element", "the first bit of its id"),
+    Refusal.PAST_ELEMENT: ("a field of a known element passes the end that the element declares", "the first bit of that field"),
+    Refusal.NO_ROOM: ("the room for the records, or else for the trim table, is too short", "the bytes needed"),
+    Refusal.NOT_VALID: ("the tables are not valid", "0 for programme, timing or too few records, 1 + the index of the first bad record, 1 + the number of records for trim"),
+    Refusal.NO_FIT: ("the form is longer than its room or than 4,096 bytes", "the bytes needed"),
+    Refusal.OUTSIDE: ("start and length leave the store", "the start in bytes"),
+    Refusal.LISTS: ("the lists of a batch differ in length, or its slots or answers do not fit", "the number of starts"),
+    Refusal.SHORT_TEXT: ("the text is longer than its room", "the bytes needed"),
+}
+
+
+class Refused(Exception):
+    """A payload or tables that were refused.
+
+    number: the refusal's number, see Refusal. place: where, see `place_means`. missing: with PAST_PAYLOAD the bits that were missing at the place, else 0.
+    detail: what the place stands for, where the call knows more than the number says.
+    """
+
+    number: int
+    place: int
+    missing: int
+    detail: str
+
+    def __init__(self, number: int, place: int, missing: int = 0, detail: str = "") -> None:
+        super().__init__(number, place, missing, detail)
+        self.number = number
+        self.place = place
+        self.missing = missing
+        self.detail = detail
+
+    @property
+    def refusal(self) -> Optional[Refusal]:
+        """The number as a Refusal; None if this module has no name for it."""
+        return Refusal(self.number) if self.number in _MEANINGS else None
+
+    @property
+    def meaning(self) -> str:
+        """What the refusal is given for."""
+        return _MEANINGS[Refusal(self.number)][0] if self.number in _MEANINGS else "a refusal that this module has no name for"
+
+    @property
+    def place_means(self) -> str:
+        """What the place counts."""
+        return _MEANINGS[Refusal(self.number)][1] if self.number in _MEANINGS else "unknown"
+
+    def __str__(self) -> str:
+        parts = [f"refusal {self.number}: {self.meaning}", f"place {self.place} ({self.detail or self.place_means})"]
+        if self.missing:
+            parts.append(f"missing bits: {self.missing}")
+        return "; ".join(parts)
+
+
+class LibraryError(OSError):
+    """The library is not there, is another version than is needed, or is not this library."""
+
+
+# ---- what is asked of values before they go into C, where they would wrap
+
+
+def _number(value: Any, most: int, name: str) -> int:
+    """An integer from 0 to the most, or TypeError or ValueError with its name."""
+    try:
+        number = operator.index(value)
+    except TypeError:
+        raise TypeError(f"{name} must be an integer, not {type(value).__name__}") from None
+    if not 0 <= number <= most:
+        raise ValueError(f"{name} is {number}, but must be from 0 to {most}")
+    return number
+
+
+def _packed(values: Tuple[Any, ...], names: Sequence[str], what: str) -> bytes:
+    """Values of a byte each; an error names the one that is none."""
+    return bytes([value if type(value) is int and 0 <= value <= 255 else _number(value, 255, f"{what}.{name}") for value, name in zip(values, names)])
+
+
+def _bytes_of(value: Any, name: str) -> bytes:
+    """The bytes of what is given, in place if it is of type bytes, else a copy. A subclass may answer another length than it has, so it is copied too."""
+    if type(value) is bytes:
+        return value
+    if not isinstance(value, (bytes, bytearray, memoryview)):
+        raise TypeError(f"{name} must be bytes, bytearray or memoryview, not {type(value).__name__}")
+    with memoryview(value) as view:
+        if view.itemsize != 1 or view.ndim != 1:
+            raise TypeError(f"{name} is a memoryview of {view.ndim} dimensions and items of {view.itemsize} bytes; one row of bytes is needed, see memoryview.cast")
+        if not view.c_contiguous:
+            raise TypeError(f"{name} is a memoryview whose bytes do not lie side by side (step {view.strides[0]}); bytes() of it makes a copy that does")
+        return view.tobytes()
+
+
+# ---- tables
+
+
+@dataclass(frozen=True)
+class Bed:
+    """One bed of the program assignment (5.5.3), as carried."""
+
+    assignment: int = 0  # channel assignment flags, 10 bits (standard) or 17, index 0 the top bit; 0 for an LFE-only bed
+    lfeonly: int = 0  # b_lfe_only
+    standard: int = 0  # b_standard_chan_assign; 0 for an LFE-only bed
+
+    @property
+    def objects(self) -> int:
+        """How many objects the bed has: one for each speaker label."""
+        flags = [self.assignment >> bit & 1 for bit in range(17)]
+        labels = sum(map(operator.mul, flags, _STANDARD_LABELS)) if self.standard else sum(flags)
+        return labels + (1 if self.lfeonly else 0)
+
+
+_STANDARD_LABELS = (2, 1, 1, 2, 2, 2, 2, 2, 2, 1)  # Table 12, from the lowest bit on
+_ISF_OBJECTS = (4, 8, 10, 14, 15, 30)  # Table 11b
+
+
+@dataclass(frozen=True)
+class Programme:
+    """The object count, and each field of the program assignment as carried; what is not carried is 0."""
+
+    objects: int  # object count, 1 to 159
+    dynonly: int = 0  # b_dyn_object_only_program
+    lfe: int = 0  # b_lfe_present
+    content: int = 0  # content_description, see content_flags
+    distribute: int = 0  # b_bed_chan_distribute
+    multiple: int = 0  # b_multiple_bed_instances_present
+    instances: int = 0  # num_bed_instances_bits, 0 to 7
+    isf: int = 0  # intermediate_spatial_format_idx, 0 to 5
+    dynamics: int = 0  # num_dynamic_objects_bits with its extension added
+    beds: Tuple[Bed, ...] = ()  # 0 to 9
+
+    @property
+    def bedcount(self) -> int:
+        """The number of beds."""
+        return len(self.beds)
+
+    @property
+    def content_flags(self) -> Content:
+        """content_description as flags."""
+        return Content(self.content)
+
+    @property
+    def bed_objects(self) -> int:
+        """How many of the objects are of class BED. They come first."""
+        return self.lfe if self.dynonly else sum(bed.objects for bed in self.beds)
+
+    @property
+    def isf_objects(self) -> int:
+        """How many of the objects are of class ISF. They come behind those of beds."""
+        return sum(_ISF_OBJECTS[self.isf:self.isf + 1]) if self.content & Content.ISF else 0  # as in the library, 0 past the table's end
+
+    @property
+    def dynamic_objects(self) -> int:
+        """How many of the objects are of class DYNAMIC. They come last."""
+        return self.objects - self.bed_objects - self.isf_objects
+
+
+@dataclass(frozen=True)
+class Update:
+    """When an update starts, and how long it takes to take hold; both in samples."""
+
+    start: int = 0  # 0 to 2,047
+    ramp: int = 0  # 0 to 2,048
+
+
+@dataclass(frozen=True)
+class Timing:
+    """The update of each block: 1 to 8 with a known object element, none without."""
+
+    updates: Tuple[Update, ...] = ()
+
+    @property
+    def blocks(self) -> int:
+        """The number of blocks."""
+        return len(self.updates)
+
+
+@dataclass(frozen=True)
+class Record:
+    """One object in one block: its 24 bytes by name. `Record()` is an inactive dynamic object."""
+
+    active: int = 0  # 1 active, 0 not
+    class_: int = 2  # see object_class
+    gain: int = 0  # gain in dB plus 50, 1 to 65; 0 is minus infinity
+    priority: int = 0  # in 32nds, 0 to 32
+    x: int = 31  # in 62nds, 0 to 62
+    y: int = 31  # in 62nds, 0 to 62
+    z: int = 64  # in 15ths with its sign, plus 64: 49 to 79
+    distance: int = 0  # 0 not given, 1 infinity, else 2 + index of the standard's table
+    width: int = 0  # in 31sts
+    depth: int = 0  # in 31sts
+    height: int = 0  # in 31sts
+    zone: int = 0  # zone index, 0 to 5
+    elevation: int = 1  # elevation flag
+    screen: int = 0  # screen flag
+    screen_factor: int = 0  # screen factor bits; 0 without the flag
+    screen_depth: int = 0  # depth index; 0 without the flag
+    snap: int = 0  # snap flag
+    divergence: int = 0  # divergence flag
+    divergence_mode: int = 0  # divergence mode
+    divergence_value: int = 0  # the mode's table index or code
+    precise: int = 0  # precise position: presence bits, as carried: 4 z, 2 y, 1 x
+    precise_x: int = 0  # code of x
+    precise_y: int = 0  # code of y
+    precise_z: int = 0  # code of z
+
+    @classmethod
+    def from_bytes(cls, raw: BytesLike) -> Record:
+        """The record of 24 bytes."""
+        data = _bytes_of(raw, "raw")
+        if len(data) != RECORD_STRIDE:
+            raise ValueError(f"a record has {RECORD_STRIDE} bytes, not {len(data)}")
+        return cls(*data)
+
+    @property
+    def raw(self) -> bytes:
+        """The record's 24 bytes."""
+        return self._raw("record")
+
+    def _raw(self, what: str) -> bytes:
+        return _packed(_record_values(self), _RECORD_NAMES, what)
+
+    @property
+    def is_active(self) -> bool:
+        """Whether the object is active in this block."""
+        return self.active != 0
+
+    @property
+    def object_class(self) -> ObjectClass:
+        """The class as an enum; ValueError if it is none."""
+        return ObjectClass(self.class_)
+
+    @property
+    def gain_db(self) -> float:
+        """The gain in dB, -49.0 to 15.0, or minus infinity."""
+        return float(self.gain - 50) if self.gain else float("-inf")
+
+    @property
+    def priority_part(self) -> float:
+        """The priority, 0.0 to 1.0."""
+        return self.priority / 32
+
+    @property
+    def position(self) -> Tuple[float, float, float]:
+        """x and y, 0.0 to 1.0, and z, -1.0 to 1.0. The codes of a precise position are not added in; they stand in precise_codes."""
+        return self.x / 62, self.y / 62, (self.z - 64) / 15
+
+    @property
+    def precise_codes(self) -> Tuple[Optional[int], Optional[int], Optional[int]]:
+        """The codes of the precise x, y and z; None where it is not carried."""
+        return (self.precise_x if self.precise & 1 else None, self.precise_y if self.precise & 2 else None, self.precise_z if self.precise & 4 else None)
+
+    @property
+    def distance_infinite(self) -> bool:
+        """Whether the distance is given as infinity."""
+        return self.distance == 1
+
+    @property
+    def distance_index(self) -> Optional[int]:
+        """The index of the distance factor in the standard's table; None if the distance is not given, or infinity."""
+        return self.distance - 2 if self.distance > 1 else None
+
+    @property
+    def size(self) -> Tuple[float, float, float]:
+        """Width, depth and height, 0.0 to 1.0."""
+        return self.width / 31, self.depth / 31, self.height / 31
+
+    @property
+    def zone_constraint(self) -> Zone:
+        """The zone as an enum; ValueError if it is none."""
+        return Zone(self.zone)
+
+
+_RECORD_NAMES = tuple(field.name for field in fields(Record))
+_record_values = operator.attrgetter(*_RECORD_NAMES)
+
+
+@dataclass(frozen=True)
+class TrimConfig:
+    """One configuration of the trim element (5.5.12), as carried; what is not carried is 0."""
+
+    default: int = 0  # b_default_trim; if 1, all else is 0
+    disable: int = 0  # b_disable_trim; if 1, all else is 0
+    carried: int = 0  # trim_balance_presence[], see carried_flags
+    centre: int = 0  # trim_centre, 0 to 15
+    surround: int = 0  # trim_surround, 4 to 15
+    height: int = 0  # trim_height, 4 to 15
+    sign_tb: int = 0  # bal3D_Y_sign_tb_code
+    amount_tb: int = 0  # bal3D_Y_amount_tb, 0 to 15
+    sign_lis: int = 0  # bal3D_Y_sign_lis_code
+    amount_lis: int = 0  # bal3D_Y_amount_lis, 0 to 15
+
+    @property
+    def raw(self) -> bytes:
+        """The configuration's 10 bytes."""
+        return _packed(astuple(self), _CONFIG_NAMES, "trim configuration")
+
+    @property
+    def carried_flags(self) -> TrimCarried:
+        """trim_balance_presence[] as flags."""
+        return TrimCarried(self.carried)
+
+
+_CONFIG_NAMES = tuple(field.name for field in fields(TrimConfig))
+_NO_CONFIGS = (TrimConfig(),) * TRIM_CONFIGS
+
+
+@dataclass(frozen=True)
+class Trim:
+    """The trim table: one number for each field of the trim element (5.5.12) but the reserved bits. All 0 without a trim element."""
+
+    present: int = 0  # 1 if there is a trim element
+    warp_mode: int = 0  # warp_mode, 0 or 1
+    global_mode: int = 0  # global_trim_mode, see mode
+    configs: Tuple[TrimConfig, ...] = _NO_CONFIGS  # nine, all 0 unless the mode is CUSTOM
+    per_object: int = 0  # b_disable_trim_per_obj: whether the objects' flags are carried
+    object_flags: Tuple[int, ...] = ()  # b_disable_trim of each object
+
+    @classmethod
+    def none(cls, objects: int) -> Trim:
+        """The table of so many objects without a trim element."""
+        return cls(object_flags=(0,) * objects)
+
+    @classmethod
+    def from_bytes(cls, raw: BytesLike) -> Trim:
+        """The table of 94 bytes and one for each object."""
+        data = _bytes_of(raw, "raw")
+        if len(data) < TRIM_FIXED:
+            raise ValueError(f"a trim table has {TRIM_FIXED} bytes and one for each object, not {len(data)}")
+        if not any(data):
+            return cls.none(len(data) - TRIM_FIXED)
+        starts = range(TRIM_CONFIG, TRIM_PER_OBJECT, TRIM_CONFIG_STRIDE)
+        configs = tuple(TrimConfig(*data[start:start + TRIM_CONFIG_STRIDE]) for start in starts)
+        return cls(data[TRIM_PRESENT], data[TRIM_WARP_MODE], data[TRIM_GLOBAL_MODE], configs, data[TRIM_PER_OBJECT], tuple(data[TRIM_FIXED:]))
+
+    @property
+    def raw(self) -> bytes:
+        """The table's bytes."""
+        if len(self.configs) != TRIM_CONFIGS:
+            raise ValueError(f"a trim table has {TRIM_CONFIGS} configurations, not {len(self.configs)}")
+        head = _packed((self.present, self.warp_mode, self.global_mode), ("present", "warp_mode", "global_mode"), "trim")
+        configs = b"".join(config.raw for config in self.configs)
+        flags = tuple(self.object_flags)
+        return head + configs + _packed((self.per_object,), ("per_object",), "trim") + _packed(flags, [f"object_flags[{i}]" for i in range(len(flags))], "trim")
+
+    @property
+    def mode(self) -> TrimMode:
+        """global_trim_mode as an enum; ValueError if it is none."""
+        return TrimMode(self.global_mode)
+
+
+@dataclass(frozen=True)
+class Tables:
+    """What an accepted payload says: its programme, the timing of each block, a record for each object and block, and the trim table."""
+
+    programme: Programme
+    timing: Timing
+    records: Tuple[Record, ...]  # objects outermost: object o and block b at o * blocks + b
+    trim: Trim
+    unknown: int = 0  # number of unknown elements, 0 to 46; a write does not look at it
+
+    @property
+    def objects(self) -> int:
+        """The number of objects."""
+        return self.programme.objects
+
+    @property
+    def blocks(self) -> int:
+        """The number of blocks."""
+        return self.timing.blocks
+
+    @property
+    def record_bytes(self) -> bytes:
+        """The bytes of all records, as they lie in the library's buffer."""
+        return b"".join(record._raw(f"records[{index}]") for index, record in enumerate(self.records))
+
+    @property
+    def trim_bytes(self) -> bytes:
+        """The bytes of the trim table."""
+        return self.trim.raw
+
+    def record(self, number: int, block: int) -> Record:
+        """The record of an object and a block; IndexError if there is none."""
+        if not 0 <= number < self.objects:
+            raise IndexError(f"object {number} of {self.objects}")
+        if not 0 <= block < self.blocks:
+            raise IndexError(f"block {block} of {self.blocks}")
+        return self.records[number * self.blocks + block]
+
+
+# ---- the C interface
+
+
+class _Bed(ctypes.Structure):
+    _fields_ = [("assignment", ctypes.c_uint32), ("lfeonly", ctypes.c_uint8), ("standard", ctypes.c_uint8)]
+
+
+_PROGRAMME_NAMES = ("objects", "dynonly", "lfe", "content", "distribute", "multiple", "instances", "bedcount", "isf", "dynamics")
+
+
+class _Programme(ctypes.Structure):
+    _fields_ = [(name, ctypes.c_uint8) for name in _PROGRAMME_NAMES] + [("beds", _Bed * MOST_BEDS)]
+
+
+class _Update(ctypes.Structure):
+    _fields_ = [("start", ctypes.c_uint16), ("ramp", ctypes.c_uint16)]
+
+
+class _Timing(ctypes.Structure):
+    _fields_ = [("blocks", ctypes.c_uint8), ("updates", _Update * MOST_BLOCKS)]
+
+
+class _ReadAnswer(ctypes.Structure):
+    _fields_ = [
+        ("place", ctypes.c_uint64),
+        ("refusal", ctypes.c_uint8),
+        ("unknown", ctypes.c_uint8),
+        ("programme", _Programme),
+        ("timing", _Timing),
+        ("missing", ctypes.c_uint32),
+    ]
+
+
+class _WriteAnswer(ctypes.Structure):
+    """Also what a call that lays a text answers."""
+
+    _fields_ = [("place", ctypes.c_uint64), ("length", ctypes.c_uint32), ("refusal", ctypes.c_uint8)]
+
+
+class _BatchAnswer(ctypes.Structure):
+    _fields_ = [("place", ctypes.c_uint64), ("refusal", ctypes.c_uint8)]
+
+
+_SLICE = [ctypes.c_void_p, ctypes.c_size_t]
+_READ = (_ReadAnswer, _SLICE * 3)
+_WRITE = (_WriteAnswer, [_Programme, _Timing] + _SLICE * 3)
+_READ_BATCH = (_BatchAnswer, _SLICE * 3 + [ctypes.c_size_t] * 2 + _SLICE * 3)
+_LIST_TEXT = (_WriteAnswer, _SLICE * 2)
+
+
+class Library:
+    """The loaded library. It holds no more than the library's functions, and may be shared by threads.
+
+    path: a path, or a name for the loader. OSError if it cannot be loaded, LibraryError if it is not this library or has not the version that is needed.
+    """
+
+    path: str
+    version: int
+
+    def __init__(self, path: Union[str, os.PathLike[str]]) -> None:
+        self.path = os.fspath(path)
+        self._handle = ctypes.CDLL(self.path)
+        self.version = self._function("skriemelt_version", ctypes.c_uint32, [])()
+        if self.version // 1000 != INTERFACE // 1000 or self.version < INTERFACE:
+            fitting = f"{INTERFACE} to {INTERFACE // 1000}999"
+            raise LibraryError(f"{self.path} has version {self.version} of the interface; this module needs one from {fitting}")
+        self._read = self._function("skriemelt_read", *_READ)
+        self._write = self._function("skriemelt_write", *_WRITE)
+        self._read_batch = self._function("skriemelt_read_batch", *_READ_BATCH)
+        self._list_text = self._function("skriemelt_list_text", *_LIST_TEXT) if hasattr(self._handle, "skriemelt_list_text") else None
+
+    @property
+    def lists(self) -> bool:
+        """Whether the library can list a payload, see list_text."""
+        return self._list_text is not None
+
+    def _function(self, name: str, result: Any, arguments: List[Any]) -> Any:
+        try:
+            function = getattr(self._handle, name)
+        except AttributeError:
+            raise LibraryError(f"{self.path} has no function {name}: it is not the library of Skriemelt, or not all of it") from None
+        function.restype = result
+        function.argtypes = arguments
+        return function
+
+    def __repr__(self) -> str:
+        return f"<skriemelt.Library {self.path!r}, version {self.version}>"
+
+
+def _candidates() -> Iterator[str]:
+    """Where the library is looked for, in this order, without SKRIEMELT_LIBRARY."""
+    here = os.path.dirname(os.path.abspath(__file__))
+    yield os.path.join(here, "libskriemelt.so.2")
+    yield os.path.join(here, "libskriemelt.so")
+    yield "libskriemelt.so.2"
+    found = ctypes.util.find_library("skriemelt")
+    if found is not None and found != "libskriemelt.so.2":
+        yield found
+
+
+@functools.lru_cache(maxsize=None)
+def _opened(named: str) -> Library:
+    """The library that is named, or without a name the first that can be loaded. Kept, so that it is opened once; a failure is not kept."""
+    tried = []
+    for path in [named] if named else _candidates():
+        try:
+            return Library(path)
+        except LibraryError:
+            raise
+        except OSError as error:
+            tried.append(f"  {path}: {error}")
+    source = "SKRIEMELT_LIBRARY names" if named else "SKRIEMELT_LIBRARY is not set; looked for"
+    raise LibraryError("\n".join([f"the library of Skriemelt cannot be loaded. {source}:"] + tried))
+
+
+def default_library() -> Library:
+    """The library that calls use unless they are given one; LibraryError if there is none, or none that fits."""
+    return _opened(os.environ.get("SKRIEMELT_LIBRARY", ""))
+
+
+def _room(count: int, name: str) -> int:
+    return _number(count, (1 << 63) - 1, name)
+
+
+def _buffer(count: int) -> Any:
+    return (ctypes.c_uint8 * count)()
+
+
+def _tables_of(answer: Any, records_at: int, trim_at: int) -> Tables:
+    """The tables of an accepted answer, and of the buffers at two addresses."""
+    given, timing = answer.programme, answer.timing
+    beds = tuple(Bed(bed.assignment, bed.lfeonly, bed.standard) for bed in given.beds[:given.bedcount])
+    numbers = {name: getattr(given, name) for name in _PROGRAMME_NAMES if name != "bedcount"}
+    updates = tuple(Update(update.start, update.ramp) for update in timing.updates[:timing.blocks])
+    raw = ctypes.string_at(records_at, RECORD_STRIDE * given.objects * timing.blocks)
+    records = tuple(Record(*raw[at:at + RECORD_STRIDE]) for at in range(0, len(raw), RECORD_STRIDE))
+    trim = Trim.from_bytes(ctypes.string_at(trim_at, TRIM_FIXED + given.objects))
+    return Tables(Programme(beds=beds, **numbers), Timing(updates), records, trim, answer.unknown)
+
+
+def read(payload: BytesLike, *, record_room: int = MOST_RECORD_BYTES, trim_room: int = MOST_TRIM_BYTES, library: Optional[Library] = None) -> Tables:
+    """The tables of one payload, already taken out of its EMDF container.
+
+    Refused (1 to 9) if the payload is. Every payload's tables fit unless less room is given, in bytes; then NO_ROOM says how much is needed.
+    """
+    data = _bytes_of(payload, "payload")
+    lib = library or default_library()
+    records, trim = _buffer(_room(record_room, "record_room")), _buffer(_room(trim_room, "trim_room"))
+    answer = lib._read(data, len(data), records, len(records), trim, len(trim))
+    if answer.refusal:
+        raise Refused(answer.refusal, answer.place, answer.missing)
+    return _tables_of(answer, ctypes.addressof(records), ctypes.addressof(trim))
+
+
+def _listed(entries: Iterable[Tuple[int, int]]) -> List[Tuple[int, int]]:
+    """The entries of a batch, each a start and a length that fit 64 bits."""
+    most, listed = (1 << 64) - 1, []
+    for index, entry in enumerate(entries):
+        try:
+            start, length = entry
+        except (TypeError, ValueError):
+            raise TypeError(f"entries[{index}] must be a start and a length") from None
+        listed.append((_number(start, most, f"the start of entries[{index}]"), _number(length, most, f"the length of entries[{index}]")))
+    return listed
+
+
+class _Shelf:
+    """The buffers of a batch of so many entries at the most."""
+
+    def __init__(self, count: int, record_slot: int, trim_slot: int) -> None:
+        self.record_slot, self.trim_slot = record_slot, trim_slot
+        self.records, self.trims = _buffer(count * record_slot), _buffer(count * trim_slot)
+        self.answers = (_ReadAnswer * count)()
+
+    def read(self, lib: Library, data: bytes, entries: Sequence[Tuple[int, int]]) -> List[Union[Tables, Refused]]:
+        """What each entry is answered."""
+        numbers = ctypes.c_uint64 * len(entries)
+        starts, lengths = numbers(*[start for start, _ in entries]), numbers(*[length for _, length in entries])
+        slots = (self.record_slot, self.trim_slot, self.records, len(self.records), self.trims, len(self.trims))
+        answer = lib._read_batch(data, len(data), starts, len(starts), lengths, len(lengths), *slots, self.answers, ctypes.sizeof(self.answers))
+        if answer.refusal:
+            raise Refused(answer.refusal, answer.place)
+        return [self.answered(index) for index in range(len(entries))]
+
+    def answered(self, index: int) -> Union[Tables, Refused]:
+        answer = self.answers[index]
+        if answer.refusal:
+            return Refused(answer.refusal, answer.place, answer.missing)
+        return _tables_of(answer, ctypes.addressof(self.records) + index * self.record_slot, ctypes.addressof(self.trims) + index * self.trim_slot)
+
+
+def read_batch(
+    store: BytesLike,
+    entries: Iterable[Tuple[int, int]],
+    *,
+    record_slot: int = MOST_RECORD_BYTES,
+    trim_slot: int = MOST_TRIM_BYTES,
+    library: Optional[Library] = None,
+) -> List[Union[Tables, Refused]]:
+    """Reads many payloads, each a start and a length within one store, in bytes.
+
+    The list has for each entry, in order, its Tables or the Refused that `read` would raise for that part of the store; OUTSIDE if start and length leave it.
+    A slot is the room of one entry. Payloads may overlap and repeat.
+    """
+    data = _bytes_of(store, "store")
+    listed = _listed(entries)
+    lib = library or default_library()
+    record_room, trim_room = _room(record_slot, "record_slot"), _room(trim_slot, "trim_slot")
+    step = max(1, min(len(listed), _BATCH_ROOM // (record_room + trim_room + ctypes.sizeof(_ReadAnswer))))
+    shelf = _Shelf(step, record_room, trim_room)
+    return [answer for at in range(0, len(listed), step) for answer in shelf.read(lib, data, listed[at:at + step])]
+
+
+def _c_programme(programme: Programme) -> _Programme:
+    beds = programme.beds
+    if len(beds) > MOST_BEDS:
+        raise ValueError(f"a programme has {MOST_BEDS} beds at the most, not {len(beds)}")
+    numbers = [_number(getattr(programme, name), 255, f"programme.{name}") for name in _PROGRAMME_NAMES]
+    return _Programme(*numbers, (_Bed * MOST_BEDS)(*[_c_bed(bed, f"programme.beds[{index}]") for index, bed in enumerate(beds)]))
+
+
+def _c_bed(bed: Bed, name: str) -> _Bed:
+    return _Bed(_number(bed.assignment, 0xFFFFFFFF, f"{name}.assignment"), _number(bed.lfeonly, 255, f"{name}.lfeonly"), _number(bed.standard, 255, f"{name}.standard"))
+
+
+def _c_timing(timing: Timing) -> _Timing:
+    updates = timing.updates
+    if len(updates) > MOST_BLOCKS:
+        raise ValueError(f"a timing has {MOST_BLOCKS} updates at the most, not {len(updates)}")
+    return _Timing(len(updates), (_Update * MOST_BLOCKS)(*[_c_update(update, f"timing.updates[{index}]") for index, update in enumerate(updates)]))
+
+
+def _c_update(update: Update, name: str) -> _Update:
+    return _Update(_number(update.start, 0xFFFF, f"{name}.start"), _number(update.ramp, 0xFFFF, f"{name}.ramp"))
+
+
+def _not_valid_detail(tables: Tables, place: int) -> str:
+    """What the place of NOT_VALID stands for."""
+    if place == 0:
+        return "programme, timing or too few records"
+    if place > tables.objects * tables.blocks:
+        return "the trim table"
+    return "the record of object {}, block {}".format(*divmod(place - 1, tables.blocks))
+
+
+def write(tables: Tables, *, room: int = MOST_PAYLOAD_BYTES, library: Optional[Library] = None) -> bytes:
+    """The payload of tables, in the one form that they have; read, it gives the same tables and no unknown element.
+
+    Refused with NOT_VALID if no payload gives these tables, and with NO_FIT if their form is longer than the room or 4,096 bytes. ValueError for a number that
+    its field in C cannot hold. Records behind the last that is needed are not looked at, as little as flags behind that of the trim table's last object.
+    """
+    programme, timing = _c_programme(tables.programme), _c_timing(tables.timing)
+    records, trim = tables.record_bytes, tables.trim_bytes
+    payload = _buffer(_room(room, "room"))
+    lib = library or default_library()
+    answer = lib._write(programme, timing, records, len(records), trim, len(trim), payload, len(payload))
+    if answer.refusal:
+        raise Refused(answer.refusal, answer.place, 0, _not_valid_detail(tables, answer.place) if answer.refusal == Refusal.NOT_VALID else "")
+    return ctypes.string_at(payload, answer.length)
+
+
+def list_text(payload: BytesLike, *, room: int = MOST_TEXT_BYTES, library: Optional[Library] = None) -> str:
+    """The listing of a payload, lines `key=value`, a refused one too. LibraryError if the library cannot list, see Library.lists."""
+    data = _bytes_of(payload, "payload")
+    lib = library or default_library()
+    if lib._list_text is None:
+        raise LibraryError(f"{lib.path}, version {lib.version} of the interface, has no function skriemelt_list_text: it cannot list")
+    text = _buffer(_room(room, "room"))
+    answer = lib._list_text(data, len(data), text, len(text))
+    if answer.refusal:
+        raise Refused(answer.refusal, answer.place)
+    return ctypes.string_at(text, answer.length).decode("ascii")

@@ -1,0 +1,669 @@
+"""Tests of the Python module: python3 -m unittest discover -s python/tests, with SKRIEMELT_LIBRARY set to the library's path."""
+from __future__ import annotations
+
+import array
+import ast
+import concurrent.futures
+import ctypes
+import dataclasses
+import math
+import os
+import pathlib
+import pickle
+import re
+import shutil
+import subprocess
+import sys
+import tempfile
+import typing
+import unittest
+from unittest import mock
+
+HERE = pathlib.Path(__file__).resolve().parent
+ROOT = HERE.parent.parent
+VECTORS = ROOT / "crates" / "vectors"
+sys.path.insert(0, str(HERE.parent))
+
+import skriemelt  # noqa: E402
+from skriemelt import Bed, Content, ObjectClass, Programme, Record, Refusal, Refused, Tables, Timing, Trim, TrimConfig, TrimMode, Update, Zone  # noqa: E402
+
+SAMPLE = (ROOT / "samples" / "three-objects.oamd").read_bytes()
+
+
+def entries(name):
+    """The entries of a file of vectors: two bytes of length, the higher first, and as many bytes."""
+    data, at, found = (VECTORS / "data" / name).read_bytes(), 0, []
+    while at < len(data):
+        length = int.from_bytes(data[at:at + 2], "big")
+        found.append(data[at + 2:at + 2 + length])
+        at += 2 + length
+    return found
+
+
+class Expected:
+    """The lines of one vector."""
+
+    def __init__(self, lines):
+        self.lines = lines
+        self.pairs = [line.split("=", 1) for line in lines]
+
+    def one(self, key, default=None):
+        """The value of a key that stands once."""
+        return next((value for name, value in self.pairs if name == key), default)
+
+    def number(self, key):
+        return int(self.one(key, "0"))
+
+    def rows(self, key):
+        """The values of a key that stands often, split."""
+        return [value.split(",") for name, value in self.pairs if name == key]
+
+    def listing(self):
+        """Those lines that the listing of a payload has."""
+        beyond = ("vector=", "trim=", "written", "read back=")
+        return "".join(line + "\n" for line in self.lines if not line.startswith(beyond))
+
+
+def expectations():
+    text = (VECTORS / "stdout").read_text(encoding="ascii")
+    return [Expected(part.splitlines()) for part in re.split(r"^(?=vector=)", text, flags=re.M)[1:]]
+
+
+PAYLOADS, WRITTEN, EXPECTED = entries("payloads"), entries("written"), expectations()
+
+
+def answer_of(payload, **rooms):
+    """What a read gives, or the refusal that it raises."""
+    try:
+        return skriemelt.read(payload, **rooms)
+    except Refused as refused:
+        return refused
+
+
+def plain(answer):
+    """An answer as a value that can be compared."""
+    return answer.args if isinstance(answer, Refused) else answer
+
+
+def small(objects=2, blocks=2):
+    """Valid tables of active dynamic objects."""
+    record = Record(active=1, class_=ObjectClass.DYNAMIC, gain=50, priority=32)
+    updates = tuple(Update(32 * block, 0) for block in range(blocks))
+    return Tables(Programme(objects, dynonly=1), Timing(updates), (record,) * (objects * blocks), Trim.none(objects))
+
+
+def with_record(tables, index, **changes):
+    records = list(tables.records)
+    records[index] = dataclasses.replace(records[index], **changes)
+    return dataclasses.replace(tables, records=tuple(records))
+
+
+class Case(unittest.TestCase):
+    """A test that compares tables."""
+
+    def same(self, got, want):
+        """Each answer is the one that is wanted. Only the number of the first other one is told: unittest would take minutes to show how large tables differ."""
+        got, want = list(map(plain, got)), list(map(plain, want))
+        self.assertEqual(len(got), len(want))
+        other = next((index for index, pair in enumerate(zip(got, want)) if pair[0] != pair[1]), None)
+        self.assertIsNone(other, "the number of the first answer that is another one")
+
+
+class Vectors(Case):
+    """Every vector, read and written."""
+
+    def test_there_are_as_many_of_each(self):
+        self.assertGreater(len(PAYLOADS), 200)
+        self.assertEqual(len(PAYLOADS), len(EXPECTED))
+        self.assertEqual(len(PAYLOADS), len(WRITTEN))
+        self.assertEqual([expected.number("vector") for expected in EXPECTED], list(range(len(PAYLOADS))))
+
+    def test_read(self):
+        for number, (payload, expected) in enumerate(zip(PAYLOADS, EXPECTED)):
+            with self.subTest(vector=number):
+                answer = answer_of(payload)
+                if expected.number("refusal"):
+                    self.refused_as(answer, expected)
+                else:
+                    self.accepted_as(answer, expected)
+
+    def refused_as(self, answer, expected):
+        self.assertIsInstance(answer, Refused)
+        self.assertEqual(answer.number, expected.number("refusal"))
+        self.assertEqual(answer.place, expected.number("place"))
+        self.assertEqual(answer.missing, expected.number("missing"))
+        self.assertEqual(answer.refusal, answer.number)
+
+    def accepted_as(self, answer, expected):
+        self.assertIsInstance(answer, Tables)
+        programme = answer.programme
+        counts = [programme.objects, programme.bed_objects, programme.isf_objects, programme.dynamic_objects, answer.timing.blocks, answer.unknown]
+        self.assertEqual(counts, [expected.number(key) for key in ("objects", "bed", "isf", "dynamic", "blocks", "unknown")])
+        updates = [[str(block), str(update.start), str(update.ramp)] for block, update in enumerate(answer.timing.updates)]
+        self.assertEqual(updates, expected.rows("block"))
+        self.assertEqual(len(answer.records), answer.objects * answer.blocks)
+        pairs = [(number, block) for number in range(answer.objects) for block in range(answer.blocks)]
+        records = [[str(number), str(block), answer.record(number, block).raw.hex()] for number, block in pairs]
+        self.same(records, expected.rows("record"))
+        self.assertEqual(answer.trim_bytes.hex(), expected.one("trim", bytes(skriemelt.TRIM_FIXED + answer.objects).hex()))
+        self.classes_as_counted(answer)
+
+    def classes_as_counted(self, answer):
+        programme = answer.programme
+        classes = [ObjectClass.BED] * programme.bed_objects + [ObjectClass.ISF] * programme.isf_objects + [ObjectClass.DYNAMIC] * programme.dynamic_objects
+        for block in range(answer.blocks):
+            self.assertEqual([answer.record(number, block).object_class for number in range(answer.objects)], classes)
+
+    def test_written(self):
+        for number, (payload, form, expected) in enumerate(zip(PAYLOADS, WRITTEN, EXPECTED)):
+            answer = answer_of(payload)
+            with self.subTest(vector=number):
+                if isinstance(answer, Refused):
+                    self.assertEqual(form, b"")
+                elif form:
+                    self.assertEqual(skriemelt.write(answer).hex(), expected.one("written"))
+                    self.assertEqual(skriemelt.write(answer, room=len(form)), form)
+                    self.same([skriemelt.read(form)], [dataclasses.replace(answer, unknown=0)])
+                else:
+                    self.not_written(answer, expected)
+
+    def not_written(self, tables, expected):
+        with self.assertRaises(Refused) as caught:
+            skriemelt.write(tables)
+        if tables.programme.content_flags & Content.RESERVED:
+            self.assertEqual((caught.exception.number, caught.exception.place), (Refusal.NOT_VALID, 0))
+        else:
+            self.assertEqual(f"{caught.exception.number} place={caught.exception.place}", expected.one("written refusal"))
+
+    def test_every_bytes_type_gives_the_same(self):
+        for payload in PAYLOADS:
+            want = answer_of(payload)
+            wide = b"\xa5" + payload + b"\xa5"
+            for given in (bytearray(payload), memoryview(payload), memoryview(bytearray(wide))[1:-1], memoryview(payload).toreadonly()):
+                self.same([answer_of(given)], [want])
+
+    def test_raw_bytes_and_back(self):
+        for answer in map(answer_of, PAYLOADS):
+            if isinstance(answer, Tables):
+                raw = answer.record_bytes
+                step = skriemelt.RECORD_STRIDE
+                self.same([Record.from_bytes(raw[at:at + step]) for at in range(0, len(raw), step)], answer.records)
+                self.same([Trim.from_bytes(answer.trim_bytes)], [answer.trim])
+
+    def test_listing(self):
+        if not skriemelt.default_library().lists:
+            self.skipTest("the library cannot list")
+        self.same([skriemelt.list_text(payload) for payload in PAYLOADS], [expected.listing() for expected in EXPECTED])
+
+    def test_threads(self):
+        want = list(map(answer_of, PAYLOADS))
+        with concurrent.futures.ThreadPoolExecutor(8) as pool:
+            for got in [pool.map(answer_of, PAYLOADS) for _ in range(8)]:
+                self.same(got, want)
+
+
+class Batch(Case):
+    """Batches against single reads."""
+
+    def shelf(self):
+        """All vectors behind one another, with their places."""
+        places, at = [], 0
+        for payload in PAYLOADS:
+            places.append((at, len(payload)))
+            at += len(payload)
+        return b"".join(PAYLOADS), places
+
+    def test_as_single_reads(self):
+        store, places = self.shelf()
+        want = list(map(answer_of, PAYLOADS))
+        for given in (store, bytearray(store), memoryview(store)):
+            self.same(skriemelt.read_batch(given, places), want)
+        self.same(skriemelt.read_batch(store, reversed(places)), want[::-1])
+
+    def test_longer_than_one_call(self):
+        places = [(0, len(SAMPLE)), (0, 3), (len(SAMPLE), 1)] * 400
+        want = [skriemelt.read(SAMPLE), answer_of(SAMPLE[:3]), Refused(Refusal.OUTSIDE, len(SAMPLE))]
+        self.same(skriemelt.read_batch(SAMPLE, places), want * 400)
+        mixed = [(0, length % 46) for length in range(600)]
+        self.same(skriemelt.read_batch(SAMPLE, mixed), [answer_of(SAMPLE[:length]) for _, length in mixed])
+
+    def test_outside(self):
+        most = (1 << 64) - 1
+        places = [(0, 46), (46, 0), (45, 1), (most, most), (1, most), (most, 0)]
+        got = skriemelt.read_batch(SAMPLE, places)
+        self.assertEqual([(answer.number, answer.place) for answer in got], [(Refusal.OUTSIDE, start) for start, _ in places])
+        empty = skriemelt.read_batch(SAMPLE, [(45, 0)])[0]
+        self.assertEqual(plain(empty), plain(answer_of(b"")))
+
+    def test_nothing(self):
+        self.assertEqual(skriemelt.read_batch(b"", []), [])
+        self.assertEqual(skriemelt.read_batch(SAMPLE, iter(())), [])
+
+    def test_short_slots(self):
+        self.assertEqual(plain(skriemelt.read_batch(SAMPLE, [(0, 45)], record_slot=143)[0])[:2], (Refusal.NO_ROOM, 144))
+        self.assertEqual(plain(skriemelt.read_batch(SAMPLE, [(0, 45)], trim_slot=96)[0])[:2], (Refusal.NO_ROOM, 97))
+        self.assertEqual(plain(skriemelt.read_batch(SAMPLE, [(0, 45)], record_slot=0, trim_slot=0)[0])[:2], (Refusal.NO_ROOM, 144))
+        tight = skriemelt.read_batch(SAMPLE, [(0, 45)] * 3, record_slot=144, trim_slot=97)
+        self.same(tight, [skriemelt.read(SAMPLE)] * 3)
+
+    def test_entries_that_are_none(self):
+        for bad in (1, "ab", (1,), (1, 2, 3), (1.0, 2), (0, None), ("0", "1")):
+            with self.subTest(bad=bad), self.assertRaisesRegex(TypeError, r"entries\[1\]"):
+                skriemelt.read_batch(SAMPLE, [(0, 1), bad])
+        for bad in ((-1, 0), (0, -1), (1 << 64, 0), (0, 1 << 64)):
+            with self.subTest(bad=bad), self.assertRaisesRegex(ValueError, r"entries\[1\]"):
+                skriemelt.read_batch(SAMPLE, [(0, 1), bad])
+
+    def test_lists_that_differ(self):
+        library = skriemelt.default_library()
+        two, three = (ctypes.c_uint64 * 2)(), (ctypes.c_uint64 * 3)()
+        answer = library._read_batch(b"", 0, two, 2, three, 3, 0, 0, None, 0, None, 0, None, 0)
+        self.assertEqual((answer.refusal, answer.place), (Refusal.LISTS, 2))
+        shelf = skriemelt._Shelf(1, 144, 97)
+        with self.assertRaises(Refused) as caught:
+            shelf.read(library, SAMPLE, [(0, 45)] * 2)
+        self.assertEqual((caught.exception.number, caught.exception.place), (Refusal.LISTS, 2))
+
+
+class Refusals(unittest.TestCase):
+    """What a refusal says."""
+
+    def raised(self, call, *arguments, **named):
+        with self.assertRaises(Refused) as caught:
+            call(*arguments, **named)
+        return caught.exception
+
+    def test_message(self):
+        refused = self.raised(skriemelt.read, bytes.fromhex("0107c1"))
+        self.assertEqual((refused.number, refused.place, refused.missing), (2, 18, 7))
+        self.assertEqual(refused.meaning, "a field, or an element's declared size, passes the payload's end")
+        for part in ("refusal 2", refused.meaning, "place 18", "first bit", "missing bits: 7"):
+            self.assertIn(part, str(refused))
+
+    def test_too_long(self):
+        refused = self.raised(skriemelt.read, bytes(4097))
+        self.assertEqual((refused.refusal, refused.place, refused.missing), (Refusal.TOO_LONG, 4097, 0))
+
+    def test_every_number_has_a_meaning(self):
+        for refusal in list(Refusal)[1:]:
+            refused = Refused(refusal, 3)
+            self.assertIs(refused.refusal, refusal)
+            self.assertIn(refused.meaning, str(refused))
+            self.assertIn(refused.place_means, str(refused))
+
+    def test_number_without_a_name(self):
+        refused = Refused(99, 7)
+        self.assertIsNone(refused.refusal)
+        self.assertIn("99", str(refused))
+
+    def test_pickled(self):
+        again = pickle.loads(pickle.dumps(Refused(10, 4, 0, "the trim table")))
+        self.assertEqual((again.number, again.place, again.missing, again.detail), (10, 4, 0, "the trim table"))
+        tables = skriemelt.read(SAMPLE)
+        self.assertEqual(pickle.loads(pickle.dumps(tables)), tables)
+
+    def test_no_room(self):
+        self.assertEqual(self.raised(skriemelt.read, SAMPLE, record_room=143).args[:2], (Refusal.NO_ROOM, 144))
+        self.assertEqual(self.raised(skriemelt.read, SAMPLE, trim_room=96).args[:2], (Refusal.NO_ROOM, 97))
+        self.assertEqual(self.raised(skriemelt.read, SAMPLE, record_room=0, trim_room=0).args[:2], (Refusal.NO_ROOM, 144))
+        self.assertEqual(skriemelt.read(SAMPLE, record_room=144, trim_room=97), skriemelt.read(SAMPLE))
+
+    def test_bad_record(self):
+        tables = small()
+        self.assertEqual(skriemelt.read(skriemelt.write(tables)), tables)
+        for index in range(4):
+            refused = self.raised(skriemelt.write, with_record(tables, index, gain=66))
+            self.assertEqual((refused.number, refused.place), (Refusal.NOT_VALID, 1 + index))
+            self.assertIn(f"the record of object {index // 2}, block {index % 2}", str(refused))
+
+    def test_bad_programme_timing_or_too_few_records(self):
+        tables = small()
+        cases = [
+            dataclasses.replace(tables, programme=Programme(2, dynonly=2)),
+            dataclasses.replace(tables, programme=Programme(0, dynonly=1)),
+            dataclasses.replace(tables, timing=Timing((Update(0, 0), Update(2048, 0)))),
+            dataclasses.replace(tables, records=tables.records[:3]),
+            dataclasses.replace(tables, records=()),
+        ]
+        for case in cases:
+            refused = self.raised(skriemelt.write, case)
+            self.assertEqual((refused.number, refused.place), (Refusal.NOT_VALID, 0))
+            self.assertIn("programme, timing or too few records", str(refused))
+
+    def test_bad_trim(self):
+        tables = small()
+        for trim in (Trim(present=2, object_flags=(0, 0)), Trim.none(1), Trim(warp_mode=1, object_flags=(0, 0))):
+            refused = self.raised(skriemelt.write, dataclasses.replace(tables, trim=trim))
+            self.assertEqual((refused.number, refused.place), (Refusal.NOT_VALID, 5))
+            self.assertIn("the trim table", str(refused))
+
+    def test_no_fit(self):
+        form = skriemelt.write(small())
+        for room in (0, 1, len(form) - 1):
+            self.assertEqual(self.raised(skriemelt.write, small(), room=room).args[:2], (Refusal.NO_FIT, len(form)))
+        self.assertEqual(skriemelt.write(small(), room=len(form)), form)
+        many = self.raised(skriemelt.write, small(159, 8), room=20000)
+        self.assertEqual(many.number, Refusal.NO_FIT)
+        self.assertGreater(many.place, skriemelt.MOST_PAYLOAD_BYTES)
+
+    def test_more_than_is_needed_is_not_looked_at(self):
+        tables = small()
+        more = dataclasses.replace(tables, records=tables.records + (Record(gain=255),), trim=Trim.none(7))
+        self.assertEqual(skriemelt.write(more), skriemelt.write(tables))
+
+
+class Values(unittest.TestCase):
+    """What the fields and properties say, and what cannot be handed on."""
+
+    def test_sample(self):
+        tables = skriemelt.read(SAMPLE)
+        record = tables.record(1, 0)
+        self.assertEqual((tables.objects, tables.blocks, tables.unknown), (3, 2, 0))
+        self.assertEqual(tables.timing.updates, (Update(0, 0), Update(32, 0)))
+        self.assertEqual((record.gain_db, record.priority_part), (0.0, 1.0))
+        self.assertEqual(record.position, (11 / 62, 12 / 62, 13 / 15))
+        self.assertIs(record.object_class, ObjectClass.DYNAMIC)
+        self.assertIs(tables.record(0, 0).object_class, ObjectClass.BED)
+        self.assertIs(record.zone_constraint, Zone.ZONE_0)
+        self.assertTrue(record.is_active)
+        self.assertFalse(tables.record(2, 0).is_active)
+        self.assertEqual(tables.trim, Trim.none(3))
+
+    def test_properties(self):
+        self.assertEqual(Record().gain_db, -math.inf)
+        self.assertEqual([Record(gain=gain).gain_db for gain in (1, 50, 65)], [-49.0, 0.0, 15.0])
+        self.assertEqual(Record().position, (0.5, 0.5, 0.0))
+        self.assertEqual(Record(x=0, y=62, z=49).position, (0.0, 1.0, -1.0))
+        self.assertEqual(Record(z=79).position[2], 1.0)
+        self.assertEqual(Record(width=31, depth=0, height=31).size, (1.0, 0.0, 1.0))
+        self.assertEqual([(Record(distance=d).distance_infinite, Record(distance=d).distance_index) for d in (0, 1, 2, 17)],
+                         [(False, None), (True, None), (False, 0), (False, 15)])
+        self.assertEqual(Record(precise=5, precise_x=1, precise_z=3).precise_codes, (1, None, 3))
+        self.assertEqual(Record(precise=2, precise_y=0).precise_codes, (None, 0, None))
+
+    def test_counts_of_a_programme_that_is_not_valid(self):
+        self.assertEqual([Programme(9, content=Content.ISF, isf=isf).isf_objects for isf in (5, 6, 255)], [30, 0, 0])
+        self.assertEqual(Bed(assignment=0x1FFFF, standard=1).objects, 17)
+
+    def test_enums_refuse_what_they_have_not(self):
+        for call in (lambda: Record(class_=3).object_class, lambda: Record(zone=6).zone_constraint, lambda: Trim(global_mode=3).mode):
+            self.assertRaises(ValueError, call)
+
+    def test_trim(self):
+        config = TrimConfig(carried=skriemelt.TrimCarried.CENTRE | skriemelt.TrimCarried.LIS, centre=7, sign_lis=1, amount_lis=9)
+        configs = (TrimConfig(default=1), config) + (TrimConfig(disable=1),) * 7
+        trim = Trim(1, 1, TrimMode.CUSTOM, configs, 1, (1, 0))
+        again = skriemelt.read(skriemelt.write(dataclasses.replace(small(), trim=trim))).trim
+        self.assertEqual(again, trim)
+        self.assertIs(again.mode, TrimMode.CUSTOM)
+        self.assertEqual(again.configs[1].carried_flags, skriemelt.TrimCarried.CENTRE | skriemelt.TrimCarried.LIS)
+        self.assertEqual(len(again.raw), skriemelt.TRIM_FIXED + 2)
+        self.assertRaisesRegex(ValueError, "9 configurations, not 1", lambda: Trim(configs=(config,)).raw)
+
+    def test_frozen(self):
+        tables = skriemelt.read(SAMPLE)
+        for thing, name in ((tables, "unknown"), (tables.programme, "objects"), (tables.records[0], "gain"), (tables.trim, "present"), (tables.timing, "updates")):
+            with self.assertRaises(dataclasses.FrozenInstanceError):
+                setattr(thing, name, 1)
+        self.assertEqual(len({tables, skriemelt.read(SAMPLE)}), 1)
+
+    def test_indices(self):
+        tables = skriemelt.read(SAMPLE)
+        for pair in ((3, 0), (0, 2), (-1, 0), (0, -1)):
+            self.assertRaises(IndexError, tables.record, *pair)
+
+    def test_numbers_that_would_wrap(self):
+        tables = small()
+        cases = {
+            "programme.objects": dataclasses.replace(tables, programme=Programme(258, dynonly=1)),
+            "programme.lfe": dataclasses.replace(tables, programme=Programme(2, dynonly=1, lfe=-256)),
+            "programme.beds[1].assignment": dataclasses.replace(tables, programme=Programme(2, beds=(Bed(), Bed(1 << 32)))),
+            "programme.beds[0].standard": dataclasses.replace(tables, programme=Programme(2, beds=(Bed(0, 0, 256),))),
+            "timing.updates[1].start": dataclasses.replace(tables, timing=Timing((Update(), Update(65536 + 32)))),
+            "timing.updates[0].ramp": dataclasses.replace(tables, timing=Timing((Update(0, 65536), Update(32)))),
+            "records[2].gain": with_record(tables, 2, gain=256 + 50),
+            "records[0].z": with_record(tables, 0, z=-1),
+            "trim.warp_mode": dataclasses.replace(tables, trim=Trim(1, 256, object_flags=(0, 0))),
+            "trim.object_flags[1]": dataclasses.replace(tables, trim=Trim(object_flags=(0, 256))),
+            "trim configuration.centre": dataclasses.replace(tables, trim=Trim(1, 0, 2, (TrimConfig(centre=300),) * 9, 0, (0, 0))),
+            "9 beds": dataclasses.replace(tables, programme=Programme(2, beds=(Bed(),) * 10)),
+            "8 updates": dataclasses.replace(tables, timing=Timing((Update(),) * 9)),
+        }
+        for name, case in cases.items():
+            with self.subTest(name=name), self.assertRaisesRegex(ValueError, re.escape(name)):
+                skriemelt.write(case)
+
+    def test_values_that_are_no_numbers(self):
+        tables = small()
+        for case in (with_record(tables, 0, gain=50.0), with_record(tables, 0, gain=None), dataclasses.replace(tables, programme=Programme("2")),
+                     dataclasses.replace(tables, timing=Timing((Update("0"), Update(32))))):
+            self.assertRaisesRegex(TypeError, "must be an integer", skriemelt.write, case)
+
+    def test_rooms_that_are_none(self):
+        for room in (-1, 1 << 64):
+            self.assertRaises(ValueError, skriemelt.read, SAMPLE, record_room=room)
+            self.assertRaises(ValueError, skriemelt.write, small(), room=room)
+        self.assertRaises(TypeError, skriemelt.read, SAMPLE, trim_room="97")
+
+
+class NoBytes(unittest.TestCase):
+    """Bytes that are no bytes."""
+
+    def test_other_types(self):
+        for given in ("01", None, 5, 1.5, [1, 2], (1, 2), {1}, object(), array.array("B", [1, 2]), range(3), (ctypes.c_uint8 * 3)()):
+            name = re.escape(type(given).__name__)
+            for call in (skriemelt.read, skriemelt.list_text, lambda store: skriemelt.read_batch(store, []), Record.from_bytes, Trim.from_bytes):
+                with self.subTest(given=given), self.assertRaisesRegex(TypeError, f"must be bytes, bytearray or memoryview, not {name}"):
+                    call(given)
+
+    def test_views_that_do_not_lie_side_by_side(self):
+        for view in (memoryview(SAMPLE)[::2], memoryview(SAMPLE)[::-1], memoryview(bytearray(SAMPLE))[1::3]):
+            for call in (skriemelt.read, lambda store: skriemelt.read_batch(store, [(0, 1)])):
+                self.assertRaisesRegex(TypeError, "side by side", call, view)
+
+    def test_views_of_other_items(self):
+        for view in (memoryview(array.array("H", [1, 2])), memoryview(bytes(8)).cast("I"), memoryview(bytes(8)).cast("B", (2, 4)), memoryview(b"a").cast("B", ())):
+            self.assertRaisesRegex(TypeError, "one row of bytes", skriemelt.read, view)
+
+    def test_released_view(self):
+        view = memoryview(SAMPLE)
+        view.release()
+        self.assertRaises(ValueError, skriemelt.read, view)
+
+    def test_subclass_with_another_length(self):
+        class Long(bytes):
+            def __len__(self):
+                return 4000
+
+            def __bytes__(self):
+                return b"\x41\x00"
+
+        self.assertEqual(skriemelt.read(Long(SAMPLE)), skriemelt.read(SAMPLE))
+        self.assertEqual(skriemelt.read_batch(Long(SAMPLE), [(0, 46)])[0].number, Refusal.OUTSIDE)
+
+    def test_lengths_of_raw_bytes(self):
+        for count in (0, 23, 25):
+            self.assertRaisesRegex(ValueError, f"not {count}", Record.from_bytes, bytes(count))
+        self.assertRaisesRegex(ValueError, "not 93", Trim.from_bytes, bytes(93))
+        self.assertEqual(Trim.from_bytes(bytes(94)), Trim())
+
+    def test_the_given_bytes_stay(self):
+        given = bytearray(SAMPLE)
+        skriemelt.read(given)
+        skriemelt.read_batch(given, [(0, 45)])
+        self.assertEqual(given, SAMPLE)
+        given.append(0)  # no view of it is held
+
+
+class Interface(unittest.TestCase):
+    """The module against the header, and its types."""
+
+    def test_names_of_the_header(self):
+        text = (ROOT / "include" / "skriemelt.h").read_text(encoding="ascii")
+        defined = {name: int(value) for name, value in re.findall(r"^#define SKRIEMELT_(\w+) (\d+)\b", text, flags=re.M)}
+        enums = {"CLASS_": ObjectClass, "CONTENT_": Content, "TRIM_MODE_": TrimMode, "TRIM_CARRIED_": skriemelt.TrimCarried}
+        known = {prefix + member.name: member for prefix, kind in enums.items() for member in kind}
+        known.update({member.name: member for member in Refusal})
+        known.update({"RECORD_" + name.rstrip("_").upper(): at for at, name in enumerate(skriemelt._RECORD_NAMES)})
+        known.update({"TRIM_CONFIG_" + name.upper(): at for at, name in enumerate(skriemelt._CONFIG_NAMES)})
+        known.update({name: getattr(skriemelt, name) for name in dir(skriemelt) if re.fullmatch(r"(MOST|RECORD|TRIM)_[A-Z_]+", name)})
+        for name, value in defined.items():
+            if name != "VERSION" and name in known:
+                self.assertEqual(known[name], value, name)
+        limits = [name for name in defined if name != "VERSION" and name not in known]
+        self.assertEqual(limits, [])
+        self.assertEqual(defined["VERSION"] // 1000, skriemelt.INTERFACE // 1000)
+        self.assertGreaterEqual(defined["VERSION"], skriemelt.INTERFACE)
+
+    def test_layout(self):
+        sizes = {"_Bed": 8, "_Programme": 84, "_Update": 4, "_Timing": 34, "_ReadAnswer": 136, "_WriteAnswer": 16, "_BatchAnswer": 16}
+        self.assertEqual({name: ctypes.sizeof(getattr(skriemelt, name)) for name in sizes}, sizes)
+        answer = skriemelt._ReadAnswer
+        self.assertEqual([getattr(answer, name).offset for name, _ in answer._fields_], [0, 8, 9, 12, 96, 132])
+        self.assertEqual((skriemelt._Programme.beds.offset, skriemelt._Timing.updates.offset, skriemelt._WriteAnswer.refusal.offset), (12, 2, 12))
+
+    def test_typed(self):
+        for name in skriemelt.__all__:
+            thing = getattr(skriemelt, name)
+            if callable(thing) and not isinstance(thing, type):
+                hints = typing.get_type_hints(thing)
+                self.assertEqual(set(hints), set(thing.__code__.co_varnames[:thing.__code__.co_argcount + thing.__code__.co_kwonlyargcount]) | {"return"})
+                self.assertTrue(thing.__doc__)
+
+    def test_syntax_of_python_3_9(self):
+        for path in (HERE.parent / "skriemelt.py", pathlib.Path(__file__)):
+            ast.parse(path.read_text(encoding="utf-8"), feature_version=(3, 9))
+
+    def test_all_of_it_is_named(self):
+        tree = ast.parse((HERE.parent / "skriemelt.py").read_text(encoding="utf-8"))
+        public = {node.name for node in tree.body if isinstance(node, (ast.FunctionDef, ast.ClassDef)) and not node.name.startswith("_")}
+        self.assertLessEqual(public, set(skriemelt.__all__))
+
+
+STUB = """
+#include <stdint.h>
+#include <stddef.h>
+#include <string.h>
+typedef struct { uint64_t place; uint32_t length; uint8_t refusal; } text_answer;
+uint32_t skriemelt_version(void) { return VERSION; }
+#ifndef ALONE
+void skriemelt_read(void) {}
+void skriemelt_write(void) {}
+void skriemelt_read_batch(void) {}
+#endif
+#ifdef LISTS
+text_answer skriemelt_list_text(const uint8_t *payload, size_t payload_bytes, uint8_t *text, size_t text_bytes)
+{
+    text_answer a = {0, 10, 0}, b = {10, 0, 18};
+    (void)payload;
+    (void)payload_bytes;
+    if (text_bytes < 10)
+        return b;
+    memcpy(text, "refusal=0\\n", 10);
+    return a;
+}
+#endif
+"""
+
+
+def compiler():
+    return next((found for found in map(shutil.which, (os.environ.get("CC") or "cc", "gcc", "clang")) if found), None)
+
+
+class Missing(unittest.TestCase):
+    """No library."""
+
+    def error(self, named):
+        with mock.patch.dict(os.environ, {"SKRIEMELT_LIBRARY": named}), self.assertRaises(skriemelt.LibraryError) as caught:
+            skriemelt.read(SAMPLE)
+        return str(caught.exception)
+
+    def test_named_and_not_there(self):
+        says = self.error("/nowhere/libskriemelt.so.2")
+        self.assertIn("SKRIEMELT_LIBRARY names", says)
+        self.assertIn("/nowhere/libskriemelt.so.2", says)
+
+    def test_named_and_no_library(self):
+        self.assertIn(__file__, self.error(__file__))
+
+    def test_not_named_and_not_there(self):
+        with mock.patch.object(skriemelt, "_candidates", lambda: iter(["/nowhere/libskriemelt.so.2", "/nowhere/libskriemelt.so"])):
+            skriemelt._opened.cache_clear()
+            says = self.error("")
+        for part in ("SKRIEMELT_LIBRARY is not set", "/nowhere/libskriemelt.so.2: ", "/nowhere/libskriemelt.so: "):
+            self.assertIn(part, says)
+
+    def test_where_it_is_looked_for(self):
+        beside = str(HERE.parent / "libskriemelt.so")
+        with mock.patch("ctypes.util.find_library", lambda name: f"lib{name}.so.9"):
+            self.assertEqual(list(skriemelt._candidates()), [beside + ".2", beside, "libskriemelt.so.2", "libskriemelt.so.9"])
+        with mock.patch("ctypes.util.find_library", lambda name: None):
+            self.assertEqual(list(skriemelt._candidates()), [beside + ".2", beside, "libskriemelt.so.2"])
+
+    def test_import_needs_no_library(self):
+        environment = dict(os.environ, SKRIEMELT_LIBRARY="/nowhere/libskriemelt.so.2", PYTHONPATH=str(HERE.parent))
+        subprocess.run([sys.executable, "-c", "import skriemelt; skriemelt.Record().raw"], env=environment, check=True)
+
+
+@unittest.skipUnless(compiler(), "there is no C compiler")
+class OtherVersion(unittest.TestCase):
+    """Libraries of other versions, compiled here."""
+
+    def setUp(self):
+        self.folder = tempfile.TemporaryDirectory()
+        self.addCleanup(self.folder.cleanup)
+
+    def stub(self, *options):
+        """A library made with these options."""
+        folder = pathlib.Path(tempfile.mkdtemp(dir=self.folder.name))
+        (folder / "stub.c").write_text(STUB, encoding="ascii")
+        path = folder / "libskriemelt.so.2"
+        subprocess.run([compiler(), "-shared", "-fPIC", *options, "-o", str(path), str(folder / "stub.c")], check=True)
+        return str(path)
+
+    def test_versions_that_do_not_fit(self):
+        for version in (0, 1002, 1999, 2000, 2001, 3000, 3002, 12002):
+            path = self.stub(f"-DVERSION={version}")
+            with self.subTest(version=version), mock.patch.dict(os.environ, {"SKRIEMELT_LIBRARY": path}):
+                with self.assertRaises(skriemelt.LibraryError) as caught:
+                    skriemelt.read(SAMPLE)
+                for part in (path, f"has version {version} ", "2002 to 2999"):
+                    self.assertIn(part, str(caught.exception))
+
+    def test_versions_that_fit(self):
+        for version in (2002, 2003, 2999):
+            library = skriemelt.Library(self.stub(f"-DVERSION={version}"))
+            self.assertEqual(library.version, version)
+            self.assertFalse(library.lists)
+            self.assertIn(str(version), repr(library))
+            self.assertRaisesRegex(skriemelt.LibraryError, "cannot list", skriemelt.list_text, SAMPLE, library=library)
+
+    def test_listing(self):
+        library = skriemelt.Library(self.stub("-DVERSION=2003", "-DLISTS"))
+        self.assertTrue(library.lists)
+        self.assertEqual(skriemelt.list_text(SAMPLE, library=library), "refusal=0\n")
+        with self.assertRaises(Refused) as caught:
+            skriemelt.list_text(SAMPLE, room=9, library=library)
+        self.assertEqual((caught.exception.refusal, caught.exception.place), (Refusal.SHORT_TEXT, 10))
+
+    def test_functions_that_are_not_there(self):
+        path = self.stub("-DVERSION=2002", "-DALONE")
+        self.assertRaisesRegex(skriemelt.LibraryError, "no function skriemelt_read", skriemelt.Library, path)
+        other = self.stub("-DVERSION=2002", "-Dskriemelt_version=another_version")
+        self.assertRaisesRegex(skriemelt.LibraryError, "no function skriemelt_version", skriemelt.Library, pathlib.Path(other))
+
+    def test_the_first_that_loads_decides(self):
+        old, fit = self.stub("-DVERSION=2001"), self.stub("-DVERSION=2002")
+        with mock.patch.dict(os.environ, {"SKRIEMELT_LIBRARY": ""}):
+            self.addCleanup(skriemelt._opened.cache_clear)
+            with mock.patch.object(skriemelt, "_candidates", lambda: iter(["/nowhere/lib.so", fit, old])):
+                skriemelt._opened.cache_clear()
+                self.assertEqual(skriemelt.default_library().path, fit)
+                self.assertIs(skriemelt.default_library(), skriemelt.default_library())
+            with mock.patch.object(skriemelt, "_candidates", lambda: iter([old, fit])):
+                skriemelt._opened.cache_clear()
+                self.assertRaisesRegex(skriemelt.LibraryError, "has version 2001", skriemelt.default_library)
+
+
+if __name__ == "__main__":
+    unittest.main()
