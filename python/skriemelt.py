@@ -96,14 +96,14 @@ class ObjectClass(enum.IntEnum):
 
 
 class Zone(enum.IntEnum):
-    """zone_constraints_idx (Table 20), by its index; 6 and 7 are reserved. The library keeps the index and gives it no meaning, and so do these names."""
+    """zone_constraints_idx (Table 20): which horizontal zones are left in or out; 6 and 7 are reserved."""
 
-    ZONE_0 = 0
-    ZONE_1 = 1
-    ZONE_2 = 2
-    ZONE_3 = 3
-    ZONE_4 = 4
-    ZONE_5 = 5
+    ALL = 0
+    NO_BACK = 1
+    NO_SIDE = 2
+    CENTRE_AND_BACK_ONLY = 3
+    SCREEN_ONLY = 4
+    SURROUND_ONLY = 5
 
 
 class Content(enum.IntFlag):

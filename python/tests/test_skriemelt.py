@@ -364,7 +364,7 @@ class Values(unittest.TestCase):
         self.assertEqual(record.position, (11 / 62, 12 / 62, 13 / 15))
         self.assertIs(record.object_class, ObjectClass.DYNAMIC)
         self.assertIs(tables.record(0, 0).object_class, ObjectClass.BED)
-        self.assertIs(record.zone_constraint, Zone.ZONE_0)
+        self.assertIs(record.zone_constraint, Zone.ALL)
         self.assertTrue(record.is_active)
         self.assertFalse(tables.record(2, 0).is_active)
         self.assertEqual(tables.trim, Trim.none(3))
@@ -500,7 +500,9 @@ class Interface(unittest.TestCase):
 
     def test_names_of_the_header(self):
         text = (ROOT / "include" / "skriemelt.h").read_text(encoding="ascii")
-        defined = {name: int(value) for name, value in re.findall(r"^#define SKRIEMELT_(\w+) (\d+)\b", text, flags=re.M)}
+        defined = {name: int(value) for name, value in re.findall(r"^(?:#define |    )SKRIEMELT_(\w+)(?: =)? (\d+)\b", text, flags=re.M)}
+        version = defined.pop("VERSION")
+        self.assertEqual(version, 1000 * defined.pop("VERSION_MAJOR") + defined.pop("VERSION_MINOR"))
         enums = {"CLASS_": ObjectClass, "CONTENT_": Content, "TRIM_MODE_": TrimMode, "TRIM_CARRIED_": skriemelt.TrimCarried}
         known = {prefix + member.name: member for prefix, kind in enums.items() for member in kind}
         known.update({member.name: member for member in Refusal})
@@ -508,12 +510,12 @@ class Interface(unittest.TestCase):
         known.update({"TRIM_CONFIG_" + name.upper(): at for at, name in enumerate(skriemelt._CONFIG_NAMES)})
         known.update({name: getattr(skriemelt, name) for name in dir(skriemelt) if re.fullmatch(r"(MOST|RECORD|TRIM)_[A-Z_]+", name)})
         for name, value in defined.items():
-            if name != "VERSION" and name in known:
+            if name in known:
                 self.assertEqual(known[name], value, name)
-        limits = [name for name in defined if name != "VERSION" and name not in known]
-        self.assertEqual(limits, [])
-        self.assertEqual(defined["VERSION"] // 1000, skriemelt.INTERFACE // 1000)
-        self.assertGreaterEqual(defined["VERSION"], skriemelt.INTERFACE)
+        self.assertEqual([name for name in defined if name not in known], [])
+        self.assertLessEqual({member.name for member in Refusal}, set(defined))
+        self.assertEqual(version // 1000, skriemelt.INTERFACE // 1000)
+        self.assertGreaterEqual(version, skriemelt.INTERFACE)
 
     def test_layout(self):
         sizes = {"_Bed": 8, "_Programme": 84, "_Update": 4, "_Timing": 34, "_ReadAnswer": 136, "_WriteAnswer": 16, "_BatchAnswer": 16}
