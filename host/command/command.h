@@ -45,9 +45,9 @@ int print_failed(void);
 int print_end(void); /* writes what is kept and closes; whether all was written */
 
 /* input.c: files, "-" and standard input. */
-const char *input_title(const char *name);              /* the name for messages */
-FILE *input_open(const char *name);                     /* NULL: complained of */
-int input_close(FILE *in, const char *name);            /* whether all that was asked for could be read; else complained of */
+const char *input_title(const char *name);   /* the name for messages */
+FILE *input_open(const char *name);          /* NULL: complained of */
+int input_close(FILE *in, const char *name); /* whether all that was asked for could be read; else complained of */
 int input_is_standard(const char *name);
 
 /* list.c, people.c, trim.c, shelf.c: the status. */
@@ -59,13 +59,15 @@ void print_trim_people(const reading *r); /* the same in words and dB */
 
 /* progress.c: how far a shelf has been read, on standard error. */
 typedef struct progress {
-    int shown, terminal;
-    double began, last;          /* seconds */
-    unsigned long long whole;    /* bytes of the file, 0 where it is not known */
+    int shown, terminal;      /* terminal: standard error is one */
+    int shared;               /* standard output is a terminal too: the lines go there */
+    double began, last;       /* seconds */
+    unsigned long long whole; /* bytes of the file, 0 where it is not known */
 } progress;
 
 void progress_start(progress *p, FILE *in, int always);
 void progress_show(progress *p, unsigned long long payloads, unsigned long long refused, unsigned long long bytes);
 void progress_clear(const progress *p); /* before lines are written to the same terminal */
+void progress_end(const progress *p);
 
 #endif

@@ -7,6 +7,7 @@
 #include <unistd.h>
 
 #define BETWEEN 0.25 /* seconds between two lines */
+#define LEAST 1e-3   /* seconds, where a rate is asked for at the very beginning */
 #define MEGABYTE 1e6
 
 static double seconds(void)
@@ -23,6 +24,7 @@ void progress_start(progress *p, FILE *in, int always)
     struct stat file;
 
     p->terminal = isatty(STDERR_FILENO);
+    p->shared = p->terminal && isatty(STDOUT_FILENO);
     p->shown = always || p->terminal;
     p->began = p->last = seconds();
     p->whole = 0;
@@ -34,10 +36,11 @@ void progress_show(progress *p, unsigned long long payloads, unsigned long long 
 {
     double now = seconds(), rate;
 
-    if (!p->shown || now - p->last < BETWEEN)
+    /* on a terminal that has the lines as well it is shown anew below each of their segments */
+    if (!p->shown || (!p->shared && now - p->last < BETWEEN))
         return;
     p->last = now;
-    rate = (double)bytes / (now - p->began);
+    rate = (double)bytes / (now - p->began > LEAST ? now - p->began : LEAST);
     fprintf(stderr, "%s%llu payloads, %llu refused, %.1f", p->terminal ? "\r" : "", payloads, refused, (double)bytes / MEGABYTE);
     if (p->whole >= bytes && p->whole > 0)
         fprintf(stderr, " of %.1f MB, %.1f MB/s, %.0f s left", (double)p->whole / MEGABYTE, rate / MEGABYTE, (double)(p->whole - bytes) / rate);
@@ -49,6 +52,12 @@ void progress_show(progress *p, unsigned long long payloads, unsigned long long 
 
 void progress_clear(const progress *p)
 {
-    if (p->shown && p->terminal)
+    if (p->shared)
+        fputs("\r\033[K", stderr);
+}
+
+void progress_end(const progress *p)
+{
+    if (p->terminal)
         fputs("\r\033[K", stderr);
 }

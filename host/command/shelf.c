@@ -114,6 +114,7 @@ static int print_shelf(const request *asked, FILE *in, totals *t, ending *how)
         if (*how == FULL)
             progress_show(&shown, t->payloads, t->refused, t->bytes);
     } while (*how == FULL && !print_failed());
+    progress_end(&shown);
     return 1;
 }
 
