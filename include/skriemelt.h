@@ -2,9 +2,9 @@
  * skriemelt.h: reading and writing of object audio metadata (OAMD, ETSI TS 103 420 V1.2.1) from C and C++.
  *
  * The library is libhost.a (`rt staticlib host`). It needs memcpy and memset of the C library and nothing else: it has no state, takes no memory,
- * opens nothing and never ends the program. Behind `make -C host install` it is libskriemelt, an archive and a shared library (`pkg-config --cflags --libs
- * skriemelt`, with --static for the archive alone); without, link with target/staticlib/libhost.a. What stands here as a function with a body is small, reads what it is given and nothing else, and is
- * not part of what is proved.
+ * opens nothing and never ends the program. Behind `make -C host install` it is libskriemelt: `pkg-config --cflags --libs skriemelt` for the shared library,
+ * `pkg-config --cflags --libs skriemelt-static` for the archive. Without an install link with target/staticlib/libhost.a. What stands here as a function with a
+ * body is small, reads what it is given and nothing else, is not in the library and not part of what is proved.
  *
  * Slices. A slice is passed as two arguments: a pointer to its first byte, and its length in bytes. A pointer with length 0 may be NULL. A pointer with a
  * length above 0 must point to that many bytes; it needs no alignment. Bytes of every sort are fine in a payload, in records and in a trim table, and every
@@ -14,8 +14,8 @@
  * Tables. The programme and the timing are passed and answered by value. Values of every sort are fine in them.
  *
  * Refusals. A refused call leaves every byte of its lent buffers (read: the records and the trim table, batch: these of all entries and the answers, write:
- * the payload, listing: the text) as it came, and all fields of its answer but refusal and place, and with SKRIEMELT_PAST_PAYLOAD the missing bits, are 0. An accepted read writes
- * the first 24 * objects * blocks bytes of the record buffer, the first 94 + objects bytes of the trim buffer, and no others; an accepted write writes the first
+ * the payload, listing: the text) as it came, and all fields of its answer but refusal and place, and with SKRIEMELT_PAST_PAYLOAD the missing bits, are 0. An
+ * accepted read writes the first 24 * objects * blocks bytes of the record buffer, the first 94 + objects bytes of the trim buffer, and no others; an accepted write writes the first
  * `length` bytes of its buffer and no others. What a batch writes is said at its call.
  *
  * Threads. Every call works on its arguments and its own stack alone (a read: about 32 kB, a batch: about 35 kB, a write: about 1 kB, a listing: about 64 kB). Calls may run at once in
@@ -389,7 +389,10 @@ SKRIEMELT_INLINE int skriemelt_precise_fifths(const uint8_t *record, unsigned bi
     return code < 2 ? (int)code + 1 : 1 - (int)code;
 }
 
-/* A record's position, the precise position added, by the equations of 5.6.1.1: x and y from 0 to 1, z from -1 to 1; with a precise code up to two fifths of a step beyond, but for x and y at 1. */
+/*
+ * A record's position, the precise position added, by the equations of 5.6.1.1: x and y from 0 to 1, z from -1 to 1; a precise code can lead up to two fifths of a step
+ * beyond, but not beyond x or y 1.
+ */
 SKRIEMELT_INLINE double skriemelt_x(const uint8_t *record)
 {
     double x = (5 * record[SKRIEMELT_RECORD_X] + skriemelt_precise_fifths(record, 1, record[SKRIEMELT_RECORD_PRECISE_X])) / 310.0;
