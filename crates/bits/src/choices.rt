@@ -51,7 +51,7 @@ pub fn less(a: u8, b: u8) -> u8
     if a < b { 0 } else { a - b }
 }
 
-// The same of larger numbers.
+// a - b, or 0, of larger numbers.
 pub fn minus(a: u32, b: u32) -> u32
     ensures { λ r. ⌜ r ≡ a - b ⌝ }
 {

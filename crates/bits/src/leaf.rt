@@ -34,7 +34,7 @@ fn word_from(s: &[u8], i: usize) -> u32
     }
 }
 
-// The same, from a position's byte on.
+// Four bytes as a number, from the byte on in which a position lies.
 pub fn word(s: &[u8], at: BitPos) -> u32
     ensures { λ r. ⌜ r ≡ wordAt (now (s .entry)) (at .0 / 8) ⌝ }
 {

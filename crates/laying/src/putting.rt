@@ -61,7 +61,7 @@ fn put_inside(out: &mut [u8], at: BitPos, w: u32, v: u32) -> BitPos
     at.after(BitCount::new(w))
 }
 
-// The same at any position; past the end of the buffer nothing is stored, so that the length of a form costs little.
+// Writes a field of w bits, the low bits of v, at any position; past the end of the buffer nothing is stored, so that the length of a form costs little.
 pub fn put(out: &mut [u8], at: BitPos, w: u32, v: u32) -> BitPos
     requires { ⌜ (1 ≤ w) × (w ≤ widestField) ⌝ }
     requires { ⌜ at .0 + w ≤ mostPosition ⌝ }

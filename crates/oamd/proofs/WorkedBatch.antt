@@ -11,7 +11,8 @@ use Rattle.bits.specs.Size.{sizeFrom, sizeOf, variable-bits-max}
 use Rattle.oamd.specs.declared.ReadAnswer.{ReadAnswer}
 use Rattle.oamd.specs.declared.Update.{Update}
 use Rattle.oamd.specs.Tables.{mostTrim}
-use Rattle.oamd.specs.Programme.{bed-assignment, bed-instances, intermediate-spatial-format, num-dynamic-objects, reserved-data, program-assignment, labels, bedObjects, allBeds, named, agrees, shares, classOf}
+use Rattle.oamd.specs.Programme.{bed-assignment, bed-instances, intermediate-spatial-format, num-dynamic-objects, reserved-data, program-assignment, labels, bedObjects}
+use Rattle.oamd.specs.Programme.{allBeds, named, agrees, shares, classOf}
 use Rattle.oamd.specs.Timing.{sample-offset, block-update-info, md-update-info, offsetOf, rampOf, startOf, timingOf}
 use Rattle.oamd.specs.Block.{status-idx, object-basic-info, differences, coordinates, position, distance, zone, extent, screen, object-render-info, additional-table-data, object-info-block}
 use Rattle.oamd.specs.ObjectElement.{object-data, object-element}

@@ -17,7 +17,7 @@ pub fn carries(s: Scene) -> bool
     both(s.active == 1, s.class == DYNAMIC)
 }
 
-// The same of the record that begins at `at`, by its first two bytes. There must be a whole record, as in laying.rt.
+// Whether the record that begins at `at` can carry divergence and a precise position, by its first two bytes. There must be a whole record, as in laying.rt.
 pub fn carries_at(records: &[u8], at: usize) -> bool
     requires { ⌜ at + recordStride ≤ length (now records) ⌝ }
     ensures { λ r. ⌜ r ≡ carries (sceneAt (now (records .entry)) at) ⌝ }

@@ -99,7 +99,7 @@ impl ByteCount {
         8 * self.0 as u64
     }
 
-    // The same as a count.
+    // The bits that so many bytes have, as a count.
     pub fn bit_count(self) -> BitCount
         ensures { λ r. ⌜ r .0 ≡ (8 * (self .0)) % 4294967296 ⌝ }
     {

@@ -62,7 +62,7 @@ pub fn put_block(first: bool, out: &mut [u8], at: BitPos, s: Scene) -> BitPos
     put_packed(out, at, all)
 }
 
-// How many bits those are.
+// How many bits render info takes up to the size, where it is sent.
 fn middle_width(on: bool, first: bool, s: Scene) -> BitCount
     ensures { λ r. ⌜ Wide mostMiddle (r .0) (only on (middleBits first s)) ⌝ }
 {

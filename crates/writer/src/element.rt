@@ -35,7 +35,7 @@ fn open_element(out: &mut [u8], at: BitPos, id: u32, v: u32) -> BitPos
     put(out, next, 1, 0)
 }
 
-// And what stands behind them: zeros up to the end of an element of size v, with n bits inside.
+// What stands behind the fields: zeros up to the end of an element of size v, with n bits inside.
 fn close_element(out: &mut [u8], at: BitPos, v: u32, n: BitCount) -> BitPos
     requires { ⌜ at .0 + mostPadding ≤ mostPosition ⌝ }
     requires { ⌜ n .0 + mostPadding ≤ mostPosition ⌝ }
@@ -58,7 +58,7 @@ pub fn object_inside(programme: Programme, timing: Timing, records: &[u8]) -> Bi
     BitCount::new(2).plus(before).plus(objects)
 }
 
-// And inside the extended object element.
+// The bits inside the extended object element: the discard flag and its fields, laid where there is no room.
 pub fn extended_inside(records: &[u8], count: usize, groups: Groups) -> BitCount
     requires { ⌜ Stand count (now records) ⌝ }
     requires { ⌜ Needed (recordsAt (now records) count 0) groups ⌝ }
@@ -70,7 +70,7 @@ pub fn extended_inside(records: &[u8], count: usize, groups: Groups) -> BitCount
     BitCount::new(1).plus(fields)
 }
 
-// And inside the trim element.
+// The bits inside the trim element: the discard flag and its fields, laid where there is no room.
 pub fn trim_inside(trim: &[u8], objects: u8) -> BitCount
     requires { ⌜ trimFixed + objects ≤ length (now trim) ⌝ }
     ensures { λ r. ⌜ Inside (mostTrimFields objects) (r .0) (trimBits (now (trim .entry)) objects) ⌝ }

@@ -53,7 +53,7 @@ fn put_objects(out: &mut [u8], at: BitPos, records: &[u8], objects: usize, block
     next
 }
 
-// How many bits those of one object are.
+// How many bits the blocks of one object take.
 fn object_data_width(records: &[u8], from: usize, blocks: usize) -> BitCount
     requires { ⌜ (blocks ≤ mostBlocks) × (from + recordStride * blocks ≤ length (now records)) ⌝ }
     ensures { λ r. ⌜ Wide mostObject (r .0) (objectDataBits (recordsAt (now (records .entry)) blocks from)) ⌝ }
@@ -71,7 +71,7 @@ fn object_data_width(records: &[u8], from: usize, blocks: usize) -> BitCount
     total
 }
 
-// And those of all.
+// How many bits the blocks of all objects take.
 pub fn objects_width(records: &[u8], objects: usize, blocks: usize) -> BitCount
     requires { ⌜ (objects ≤ mostCounted) × Blocks objects blocks (now records) ⌝ }
     ensures { λ r. ⌜ Wide (mostObject * objects) (r .0) (objectsBits (now (records .entry)) objects blocks) ⌝ }

@@ -142,7 +142,8 @@ loop-again c =
     let a = entered (here .before) .args in
     let laid = copied .copy .ensures .1 ∙ copied-whole _ (answered .result) _ refl (place-long page ∙ sym (answered .ensures .1)) in
     turn _ _ _ _ _ _ (loop .inv) (entered (here .before) .pre .lists) (here .loop-test .taken) (record-slot here) (trim-slot here) (place-fits here)
-    (part-long (loop .slot) (a .recordslot)) (part-long (loop .trim) (a .trimslot)) (part-long (loop .place) answerBytes) (read .read-entry .kept .1 .1 .1 .0) (read .read-entry .kept .1 .1 .1 .1 .0) (ap length laid ∙ answered .ensures .1)
+    (part-long (loop .slot) (a .recordslot)) (part-long (loop .trim) (a .trimslot)) (part-long (loop .place) answerBytes) (read .read-entry .kept .1 .1 .1 .0)
+    (read .read-entry .kept .1 .1 .1 .1 .0) (ap length laid ∙ answered .ensures .1)
     (read .read-entry .ensures) (laid ∙ answered .ensures .0)
 
 returns : tie.Need-returns Inv-loop μ-loop
