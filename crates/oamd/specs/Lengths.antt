@@ -9,17 +9,17 @@ use Rattle.oamd.specs.declared.Bed.{Bed}
 use Rattle.oamd.specs.declared.Update.{Update}
 use Rattle.oamd.specs.declared.TrimConfig.{TrimConfig}
 use Rattle.oamd.specs.declared.ReadAnswer.{ReadAnswer}
-use Rattle.oamd.specs.Tables.{mostBeds, mostBlocks, recordStride, trimConfigs, configBytes, answerBytes}
+use Rattle.oamd.specs.Tables.{mostBeds, mostBlocks, recordBytes, trimConfigs, configBytes, answerBytes}
 use Rattle.oamd.specs.Record.{Record, recordBytesOf, bytesOf}
 use Rattle.oamd.specs.LeastFirst.{leastFirst}
 use Rattle.oamd.specs.Batch.{eachBytes, bedBytesOf, updateBytesOf, programmeBytesOf, timingBytesOf, answerBytesOf}
 use Rattle.oamd.specs.Trim.{TrimTable, configBytesOf, configsBytesOf, trimBytesOf, trimNeeded}
 
-pub length-record : (r : Record) → length (recordBytesOf r) ≡ recordStride
+pub length-record : (r : Record) → length (recordBytesOf r) ≡ recordBytes
 unfolding recordBytesOf
 length-record r = refl
 
-pub length-bytes : (rs : List Record) → length (bytesOf rs) ≡ recordStride * length rs
+pub length-bytes : (rs : List Record) → length (bytesOf rs) ≡ recordBytes * length rs
 unfolding bytesOf
 length-bytes [] = refl
 length-bytes (r ∷ rs) = length-append (recordBytesOf r) (bytesOf rs) ∙ omega (arith, length-bytes rs, length-record r)

@@ -1,15 +1,14 @@
 -- A record, and its bytes.
 use mathlib.Core.Bool.{Bool}
 use mathlib.Core.List.{List, [], _∷_, _++_}
-use Prim.Native.Nat.{ℕ, _-_}
-use lib.ListN.{length, replicate, drop}
+use Prim.Native.Nat.{ℕ}
+use lib.ListN.{length, drop}
 use lib.Dec.{eqb}
 use Rattle.bits.specs.Language.{both}
 use Rattle.oamd.specs.declared.Scene.{Scene}
 use Rattle.oamd.specs.declared.Divergence.{Divergence}
 use Rattle.oamd.specs.declared.Precise.{Precise}
 use Rattle.oamd.specs.Programme.{set?, dynamicClass}
-use Rattle.oamd.specs.Tables.{recordBytes, recordStride}
 use Rattle.oamd.specs.Extended.{noDivergence, noPrecise}
 
 pub record Record : Type 0 where
@@ -54,7 +53,7 @@ abbrev pub preciseBytes : Precise → List ℕ
 preciseBytes p = p .presence ∷ p .x ∷ p .y ∷ p .z ∷ []
 
 unfoldable pub recordBytesOf : Record → List ℕ
-recordBytesOf r = sceneBytes (r .scene) ++ (divergenceBytes (r .divergence) ++ (preciseBytes (r .precise) ++ replicate (recordStride - recordBytes) 0))
+recordBytesOf r = sceneBytes (r .scene) ++ (divergenceBytes (r .divergence) ++ preciseBytes (r .precise))
 
 -- the bytes of records, one after the other
 unfoldable pub bytesOf : List Record → List ℕ

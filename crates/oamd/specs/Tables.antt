@@ -34,6 +34,10 @@ recordStride = 24
 abbrev pub roomBytes : ℕ
 roomBytes = 30720
 
+-- the same where the records stand without a gap, as a reader keeps them until a payload is accepted
+abbrev pub scratchBytes : ℕ
+scratchBytes = 30720
+
 -- NUM_TRIM_CONFIGS (000, 6.3.9.10.4)
 abbrev pub trimConfigs : ℕ
 trimConfigs = 9

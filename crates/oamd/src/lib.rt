@@ -18,6 +18,7 @@ pub use limits::PER_OBJECT_BYTE;
 pub use limits::RECORD_BYTES;
 pub use limits::RECORD_STRIDE;
 pub use limits::ROOM_BYTES;
+pub use limits::SCRATCH_BYTES;
 pub use limits::TRIM_CONFIGS;
 pub use limits::TRIM_FIXED;
 pub use limits::TRIM_HEAD;

@@ -21,6 +21,9 @@ pub const ANSWER_BYTES: usize = 136;
 // Room for the records of every payload.
 pub const ROOM_BYTES: usize = 30720;
 
+// The same where the records stand without a gap.
+pub const SCRATCH_BYTES: usize = 30720;
+
 // The configurations of the trim element.
 pub const TRIM_CONFIGS: usize = 9;
 

@@ -9,7 +9,7 @@ use borrow.Author.Tests.{le-leb, lt-leb}
 use Rattle.bits.specs.Language.{pick}
 use Rattle.bits.specs.Steps.{by-order}
 use Rattle.oamd.specs.declared.Scene.{Scene}
-use Rattle.oamd.specs.Tables.{recordStride}
+use Rattle.oamd.specs.Tables.{recordBytes}
 use Rattle.oamd.specs.Meaning.{idle, zeroDb}
 use Rattle.oamd.specs.Record.{Record, recordOf, plainRecords, recordBytesOf, bytesOf, onto}
 use Rattle.oamd.specs.Lengths.{length-record, length-bytes}
@@ -39,7 +39,7 @@ plain-append [] us = refl
 plain-append (s ∷ ss) us = ap (λ (rs : List Record). recordOf s noDivergence noPrecise ∷ rs) (plain-append ss us)
 
 -- one more record is stored behind those that stand
-pub stored : (ss : List Scene) (s : Scene) (t : List ℕ) (at : ℕ) → at ≡ recordStride * length ss → at + recordStride ≤ length t
+pub stored : (ss : List Scene) (s : Scene) (t : List ℕ) (at : ℕ) → at ≡ recordBytes * length ss → at + recordBytes ≤ length t
     → setFrom at 0 (recordBytesOf (recordOf s noDivergence noPrecise)) (onto (bytesOf (plainRecords ss)) t) ≡ onto (bytesOf (plainRecords (ss ++ (s ∷ [])))) t
 unfolding plainRecords
 stored ss s t at e h =
@@ -57,14 +57,14 @@ scene-of-plain (s ∷ ss) zero = refl
 scene-of-plain (s ∷ ss) (suc m) = scene-of-plain ss m
 
 -- the gain that the code reads back is that of the object before
-pub gain-before : (ss : List Scene) (t : List ℕ) (k at : ℕ) → 1 ≤ k → at ≡ recordStride * length ss
-    → pick (leb (recordStride * k) at) (sceneAt (onto (bytesOf (plainRecords ss)) t) (at - recordStride * k) .gain) zeroDb ≡ gainOfObjectBefore k ss
+pub gain-before : (ss : List Scene) (t : List ℕ) (k at : ℕ) → 1 ≤ k → at ≡ recordBytes * length ss
+    → pick (leb (recordBytes * k) at) (sceneAt (onto (bytesOf (plainRecords ss)) t) (at - recordBytes * k) .gain) zeroDb ≡ gainOfObjectBefore k ss
 unfolding gainOfObjectBefore onto
 gain-before ss t k at p e = by-order k (length ss)
     (λ h.
     let m : ℕ = length ss - k in
-    let place : at - recordStride * k ≡ recordStride * m = omega arith in
+    let place : at - recordBytes * k ≡ recordBytes * m = omega arith in
     let there = record-of (plainRecords ss) (drop (length (bytesOf (plainRecords ss))) t) m (recordOf (idle 0) noDivergence noPrecise) (omega (arith, length-plain ss)) in
-    rw (le-leb k (length ss) h, le-leb (recordStride * k) at (omega arith), place)
+    rw (le-leb k (length ss) h, le-leb (recordBytes * k) at (omega arith), place)
     (ap (λ (r : Record). r .scene .gain) there ∙ ap (λ (s : Scene). s .gain) (scene-of-plain ss m)))
-    (λ h. rw (lt-leb k (length ss) h, lt-leb (recordStride * k) at (omega arith)))
+    (λ h. rw (lt-leb k (length ss) h, lt-leb (recordBytes * k) at (omega arith)))

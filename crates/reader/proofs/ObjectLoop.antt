@@ -14,7 +14,7 @@ use Rattle.bits.proofs.Sticky.{Alike, Left, start, done, turned, broken, turns,
 use Rattle.oamd.specs.declared.Block.{Block}
 use Rattle.oamd.specs.declared.Scene.{Scene}
 use Rattle.oamd.specs.declared.Shares.{Shares}
-use Rattle.oamd.specs.Tables.{mostObjects, mostBlocks, recordStride, roomBytes}
+use Rattle.oamd.specs.Tables.{mostObjects, mostBlocks, recordBytes, scratchBytes}
 use Rattle.oamd.specs.Programme.{clear?, classOf}
 use Rattle.oamd.specs.Block.{object-info-block}
 use Rattle.oamd.specs.ObjectElement.{object-data, object-element}
@@ -60,14 +60,14 @@ module _ (class k at₀ : ℕ) (b : Bits) (l : Limit) (c : Cur) (out₀ : List �
   -- before block i of an object
   pub record Inside (i at : ℕ) (scene : Scene) (cur : Cur) (out : List ℕ) : Type 0 where
     pub within : i ≤ k
-    pub place : at ≡ at₀ + recordStride * i
+    pub place : at ≡ at₀ + recordBytes * i
     pub vs : List Block
     pub many : length vs ≡ i
-    pub size : length out ≡ roomBytes
+    pub size : length out ≡ scratchBytes
     pub left : Left (object-data k class) b c l (turns k (object-info-block class) (λ vs. give vs) i vs) cur
-    pub stands : (ss : List Scene) (t : List ℕ) → Standing ss t out₀ → at₀ ≡ recordStride * length ss → length t ≡ roomBytes → Stands k ss t vs scene out
+    pub stands : (ss : List Scene) (t : List ℕ) → Standing ss t out₀ → at₀ ≡ recordBytes * length ss → length t ≡ scratchBytes → Stands k ss t vs scene out
 
-pub enter : (class k at₀ : ℕ) (b : Bits) (l : Limit) (c : Cur) (out₀ : List ℕ) → length out₀ ≡ roomBytes → Inside class k at₀ b l c out₀ 0 at₀ nothingBefore c out₀
+pub enter : (class k at₀ : ℕ) (b : Bits) (l : Limit) (c : Cur) (out₀ : List ℕ) → length out₀ ≡ scratchBytes → Inside class k at₀ b l c out₀ 0 at₀ nothingBefore c out₀
 unfolding object-data
 enter class k at₀ b l c out₀ h = record {
   within = omega arith;
@@ -80,10 +80,10 @@ enter class k at₀ b l c out₀ h = record {
 }
 
 module _ {class k at₀ : ℕ} {b : Bits} {l : Limit} {c : Cur} {out₀ : List ℕ} {i at : ℕ} {scene : Scene} {cur : Cur} {out : List ℕ} where
-  pub turn : {next : Scene} {v : Block} {cur' : Cur} (above : ℕ) → Inside class k at₀ b l c out₀ i at scene cur out → i < k → at + recordStride ≤ roomBytes
+  pub turn : {next : Scene} {v : Block} {cur' : Cur} (above : ℕ) → Inside class k at₀ b l c out₀ i at scene cur out → i < k → at + recordBytes ≤ scratchBytes
       → Reads (object-info-block class i) b cur l v cur'
-      → above ≡ pick (leb (recordStride * k) at) (sceneAt out (at - recordStride * k) .gain) zeroDb → next ≡ resolve scene above v
-      → Inside class k at₀ b l c out₀ (i + 1) (at + recordStride) next cur' (setFrom at 0 (recordBytesOf (recordOf next noDivergence noPrecise)) out)
+      → above ≡ pick (leb (recordBytes * k) at) (sceneAt out (at - recordBytes * k) .gain) zeroDb → next ≡ resolve scene above v
+      → Inside class k at₀ b l c out₀ (i + 1) (at + recordBytes) next cur' (setFrom at 0 (recordBytesOf (recordOf next noDivergence noPrecise)) out)
   unfolding withBlocks
   turn {next} {v} above x h fits reads a q = record {
     within = omega arith;
@@ -94,9 +94,9 @@ module _ {class k at₀ : ℕ} {b : Bits} {l : Limit} {c : Cur} {out₀ : List �
     left = for-step k (object-info-block class) (λ vs. give vs) i (x .vs) h (x .left) reads;
     stands = λ ss t s e n.
         let y = x .stands ss t s e n in
-        let m : at ≡ recordStride * length (y .us) = omega (arith, x .place, x .many, y .more) in
+        let m : at ≡ recordBytes * length (y .us) = omega (arith, x .place, x .many, y .more) in
         let g : above ≡ gainOfObjectBefore k (y .us) =
-        a ∙ ap (λ (o : List ℕ). pick (leb (recordStride * k) at) (sceneAt o (at - recordStride * k) .gain) zeroDb) (y .stand) ∙ gain-before (y .us) t k at (omega arith) m in
+        a ∙ ap (λ (o : List ℕ). pick (leb (recordBytes * k) at) (sceneAt o (at - recordBytes * k) .gain) zeroDb) (y .stand) ∙ gain-before (y .us) t k at (omega arith) m in
         let r : next ≡ resolve scene (gainOfObjectBefore k (y .us)) v = q ∙ ap (λ (u : ℕ). resolve scene u v) g in
         record {
           us = y .us ++ (next ∷ []);
@@ -132,17 +132,17 @@ module _ (n : ℕ) (s : Shares) (k : ℕ) (b : Bits) (l : Limit) (c : Cur) (out�
   -- before object j
   pub record Among (j at : ℕ) (cur : Cur) (out : List ℕ) : Type 0 where
     pub within : j ≤ n
-    pub place : at ≡ recordStride * (j * k)
+    pub place : at ≡ recordBytes * (j * k)
     pub vs : List (List Block)
     pub whole : Each k vs
-    pub size : length out ≡ roomBytes
+    pub size : length out ≡ scratchBytes
     pub left : Left (for n oneObject) b c l (turns n oneObject (λ vs. give vs) j vs) cur
     pub ss : List Scene
     pub stand : Standing ss out₀ out
     pub more : length ss ≡ j * k
     pub rest : (os : List (List Block)) → withObjects k [] (vs ++ os) ≡ withObjects k ss os
 
-pub first : (n : ℕ) (s : Shares) (k : ℕ) (b : Bits) (l : Limit) (c : Cur) (out₀ : List ℕ) → length out₀ ≡ roomBytes → Among n s k b l c out₀ 0 0 c out₀
+pub first : (n : ℕ) (s : Shares) (k : ℕ) (b : Bits) (l : Limit) (c : Cur) (out₀ : List ℕ) → length out₀ ≡ scratchBytes → Among n s k b l c out₀ 0 0 c out₀
 unfolding bytesOf plainRecords onto
 first n s k b l c out₀ h = record {
   within = omega arith;
@@ -158,8 +158,8 @@ first n s k b l c out₀ h = record {
 }
 
 module _ {n : ℕ} {s : Shares} {k : ℕ} {b : Bits} {l : Limit} {c : Cur} {out₀ : List ℕ} {j at : ℕ} {cur : Cur} {out : List ℕ} where
-  pub further : {cur' : Cur} {out' : List ℕ} (class : ℕ) → Among n s k b l c out₀ j at cur out → j < n → length out₀ ≡ roomBytes
-      → class ≡ classOf s j → ObjectRead class k at b cur l out cur' out' → Among n s k b l c out₀ (j + 1) (at + recordStride * k) cur' out'
+  pub further : {cur' : Cur} {out' : List ℕ} (class : ℕ) → Among n s k b l c out₀ j at cur out → j < n → length out₀ ≡ scratchBytes
+      → class ≡ classOf s j → ObjectRead class k at b cur l out cur' out' → Among n s k b l c out₀ (j + 1) (at + recordBytes * k) cur' out'
   unfolding withObjects
   further class x h m e o =
       let f : ℕ → P (List Block) = λ j. object-data k (classOf s j) in
@@ -196,7 +196,7 @@ module _ {n : ℕ} {s : Shares} {k : ℕ} {b : Bits} {l : Limit} {c : Cur} {out�
   stop x h = record { value = x .vs; reads = broken (x .left) h; size = x .size; many = λ z. absurd (h z); stand = λ z. absurd (h z) }
 
 -- the records of object j fit
-pub room : (n k j : ℕ) → n ≤ mostObjects → k ≤ mostBlocks → j < n → recordStride * (j * k) + recordStride * k ≤ roomBytes
+pub room : (n k j : ℕ) → n ≤ mostObjects → k ≤ mostBlocks → j < n → recordBytes * (j * k) + recordBytes * k ≤ scratchBytes
 room n k j a d f = let h : j * k ≤ 158 * k = mul-le-mul-right k (let z : j ≤ 158 = omega arith in z) in omega arith
 
 -- ---- the element

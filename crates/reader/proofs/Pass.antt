@@ -11,7 +11,7 @@ use Rattle.bits.specs.declared.Limit.{Limit}
 use Rattle.bits.specs.Language.{Bits, P, give, _>>=_, each}
 use Rattle.bits.specs.View.{Reads}
 use Rattle.bits.proofs.Sticky.{Left, start, done, turned, broken, each-step, each-stop, plain}
-use Rattle.oamd.specs.Tables.{recordStride, roomBytes}
+use Rattle.oamd.specs.Tables.{recordBytes, scratchBytes}
 use Rattle.oamd.specs.Record.{Record, carries, recordBytesOf, bytesOf, onto}
 use Rattle.oamd.specs.Lengths.{length-bytes}
 use Rattle.record.specs.Bytes.{setFrom, sceneAt}
@@ -23,11 +23,11 @@ use Rattle.reader.proofs.ObjectLoop.{unit}
 
 -- the bytes around one record
 around : (front rest : List Record) (r : Record) (t : List ℕ)
-    → onto (bytesOf (front ++ (r ∷ rest))) t ≡ bytesOf front ++ (recordBytesOf r ++ (bytesOf rest ++ drop (recordStride * (length front + suc (length rest))) t))
+    → onto (bytesOf (front ++ (r ∷ rest))) t ≡ bytesOf front ++ (recordBytesOf r ++ (bytesOf rest ++ drop (recordBytes * (length front + suc (length rest))) t))
 unfolding onto bytesOf
 around front rest r t =
-    let n : length (bytesOf (front ++ (r ∷ rest))) ≡ recordStride * (length front + suc (length rest)) =
-    length-bytes (front ++ (r ∷ rest)) ∙ ap (λ (k : ℕ). recordStride * k) (length-append front (r ∷ rest)) in
+    let n : length (bytesOf (front ++ (r ∷ rest))) ≡ recordBytes * (length front + suc (length rest)) =
+    length-bytes (front ++ (r ∷ rest)) ∙ ap (λ (k : ℕ). recordBytes * k) (length-append front (r ∷ rest)) in
     ap (λ (k : ℕ). bytesOf (front ++ (r ∷ rest)) ++ drop k t) n
     ∙ rw (bytes-append front (r ∷ rest), append-assoc (bytesOf front), append-assoc (recordBytesOf r))
 
@@ -98,7 +98,7 @@ module _ {X : Type 0} (p : Bool → P X) (f : Record → X → Record) where
 
     module _ {i : ℕ} {cur : Cur} {out : List ℕ} where
       -- where a record's bytes, with a value put in, are its bytes with some stored over
-      pub turn : {cur' : Cur} (at k : ℕ) (carry : Bool) (bytes : X → List ℕ) (v : X) → Mid i cur out → cur .no ≡ 0 → i < length rs → at ≡ recordStride * i
+      pub turn : {cur' : Cur} (at k : ℕ) (carry : Bool) (bytes : X → List ℕ) (v : X) → Mid i cur out → cur .no ≡ 0 → i < length rs → at ≡ recordBytes * i
           → ((r : Record) (x : X) (tail : List ℕ) → setFrom 0 k (bytes x) (recordBytesOf r ++ tail) ≡ recordBytesOf (f r x) ++ tail)
           → carry ≡ carries (sceneAt out at)
           → Reads (p carry) b cur l v cur' → Mid (i + 1) cur' (setFrom at k (bytes v) out)
@@ -106,7 +106,7 @@ module _ {X : Type 0} (p : Bool → P X) (f : Record → X → Record) where
           let y = next rs (x .vs) (omega (arith, x .many)) in
           let o : out ≡ onto (bytesOf (y .front ++ (y .one ∷ y .rest))) t = x .stand (x .begun z) ∙ ap (λ (z : List Record). onto (bytesOf z) t) (y .stands) in
           let at-front : at ≡ length (bytesOf (y .front)) = omega (arith, length-bytes (y .front), y .far, x .many) in
-          let tail : List ℕ = bytesOf (y .rest) ++ drop (recordStride * (length (y .front) + suc (length (y .rest)))) t in
+          let tail : List ℕ = bytesOf (y .rest) ++ drop (recordBytes * (length (y .front) + suc (length (y .rest)))) t in
           let stood : out ≡ bytesOf (y .front) ++ (recordBytesOf (y .one) ++ tail) = o ∙ around (y .front) (y .rest) (y .one) t in
           let is : carry ≡ carries (y .one .scene) =
           q ∙ ap (λ (z : List ℕ). carries (sceneAt z at)) stood ∙ ap (λ (z : Record). carries (z .scene)) (record-among (bytesOf (y .front)) (y .one) tail at at-front) in
@@ -147,7 +147,7 @@ module _ {X : Type 0} (p : Bool → P X) (f : Record → X → Record) where
       → Passed p f n b c l out d out' → PassedIf on p f none n b c l out d out'
   taken e x = rw e (record { size = x .size; went = λ rs t s m z. x .went rs t s m })
 
-  pub passed : {on : Bool} {none : X} {n : ℕ} {b : Bits} {c : Cur} {l : Limit} {out : List ℕ} → on ≡ false → length out ≡ roomBytes
+  pub passed : {on : Bool} {none : X} {n : ℕ} {b : Bits} {c : Cur} {l : Limit} {out : List ℕ} → on ≡ false → length out ≡ scratchBytes
       → PassedIf on p f none n b c l out c out
   passed {none = none} {n} e h =
       rw e (record {
@@ -160,18 +160,18 @@ module _ {X : Type 0} (p : Bool → P X) (f : Record → X → Record) where
 module _ {X : Type 0} (p : Bool → P X) (f : Record → X → Record) (n : ℕ) (b : Bits) (c : Cur) (l : Limit) (out₀ : List ℕ) where
   pub record Passing (i at : ℕ) (cur : Cur) (out : List ℕ) : Type 0 where
     pub within : i ≤ n
-    pub place : at ≡ recordStride * i
-    pub size : length out ≡ roomBytes
+    pub place : at ≡ recordBytes * i
+    pub size : length out ≡ scratchBytes
     pub mid : (rs : List Record) (t : List ℕ) → (c .no ≡ 0 → out₀ ≡ onto (bytesOf rs) t) → length rs ≡ n → Mid p f rs b c l t i cur out
 
-  pub set-out : length out₀ ≡ roomBytes → Passing 0 0 c out₀
+  pub set-out : length out₀ ≡ scratchBytes → Passing 0 0 c out₀
   set-out h = record { within = omega arith; place = refl; size = h; mid = λ rs t s m. begin p f rs b c l t s }
 
   module _ {i at : ℕ} {cur : Cur} {out : List ℕ} (x : Passing i at cur out) where
     pub go-on : {cur' : Cur} (k : ℕ) (carry : Bool) (bytes : X → List ℕ) (v : X) → cur .no ≡ 0 → i < n
         → ((r : Record) (y : X) (tail : List ℕ) → setFrom 0 k (bytes y) (recordBytesOf r ++ tail) ≡ recordBytesOf (f r y) ++ tail)
         → carry ≡ carries (sceneAt out at) → Reads (p carry) b cur l v cur'
-        → Passing (i + 1) (at + recordStride) cur' (setFrom at k (bytes v) out)
+        → Passing (i + 1) (at + recordBytes) cur' (setFrom at k (bytes v) out)
     go-on k carry bytes v z h lays q r = record {
       within = omega arith;
       place = omega (arith, x .place);

@@ -21,7 +21,7 @@ use Rattle.oamd.specs.declared.ReadAnswer.{ReadAnswer}
 use Rattle.oamd.specs.declared.Scene.{Scene}
 use Rattle.oamd.specs.declared.Shares.{Shares}
 use Rattle.oamd.specs.declared.Timing.{Timing}
-use Rattle.oamd.specs.Tables.{mostBytes, recordStride, roomBytes, mostElements, mostBlocks, mostObjects, trimConfigs, configBytes, trimHead, trimFixed, mostTrim}
+use Rattle.oamd.specs.Tables.{mostBytes, recordBytes, scratchBytes, mostElements, mostBlocks, mostObjects, trimConfigs, configBytes, trimHead, trimFixed, mostTrim}
 use Rattle.oamd.specs.Programme.{shares, classOf}
 use Rattle.oamd.specs.Timing.{MdUpdateInfo, md-update-info, timingOf}
 use Rattle.oamd.specs.ObjectElement.{ObjectElement, object-data, object-element}
@@ -60,14 +60,14 @@ pub record ObjectRead (class blocks at : ℕ) (b : Bits) (c : Cur) (l : Limit) (
   pub value : List Block
   pub reads : Reads (object-data blocks class) b c l value d
   pub long : length value ≡ blocks
-  pub size : length out' ≡ roomBytes
-  pub stand : (ss : List Scene) (t : List ℕ) → Standing ss t out → at ≡ recordStride * length ss → length t ≡ roomBytes
+  pub size : length out' ≡ scratchBytes
+  pub stand : (ss : List Scene) (t : List ℕ) → Standing ss t out → at ≡ recordBytes * length ss → length t ≡ scratchBytes
       → Standing (withBlocks blocks ss nothingBefore value) t out'
 
 pub record ObjectsRead (n : ℕ) (s : Shares) (blocks : ℕ) (b : Bits) (c : Cur) (l : Limit) (out : List ℕ) (d : Cur) (out' : List ℕ) : Type 0 where
   pub value : List (List Block)
   pub reads : Reads (for n (λ j. object-data blocks (classOf s j))) b c l value d
-  pub size : length out' ≡ roomBytes
+  pub size : length out' ≡ scratchBytes
   pub many : d .no ≡ 0 → length (allScenes [] value) ≡ n * blocks
   pub stand : d .no ≡ 0 → Standing (allScenes [] value) out out'
 
@@ -76,7 +76,7 @@ pub record ElementRead (n : ℕ) (s : Shares) (b : Bits) (c : Cur) (l : Limit) (
   pub reads : Reads (object-element n s) b c l value (r .cur)
   pub holds : r .timing ≡ timingOf (value .timing)
   pub few : r .timing .blocks ≤ mostBlocks
-  pub size : length out' ≡ roomBytes
+  pub size : length out' ≡ scratchBytes
   pub many : r .cur .no ≡ 0 → length (allScenes [] (value .objects)) ≡ n * r .timing .blocks
   pub stand : r .cur .no ≡ 0 → Standing (allScenes [] (value .objects)) out out'
 
@@ -107,14 +107,14 @@ pub record Went {X : Type 0} (p : P (List X)) (f : Record → X → Record) (rs 
   pub stand : d .no ≡ 0 → out' ≡ onto (bytesOf (put f rs value)) t
 
 pub record Passed {X : Type 0} (p : Bool → P X) (f : Record → X → Record) (n : ℕ) (b : Bits) (c : Cur) (l : Limit) (out : List ℕ) (d : Cur) (out' : List ℕ) : Type 0 where
-  pub size : length out' ≡ roomBytes
+  pub size : length out' ≡ scratchBytes
   pub went : (rs : List Record) (t : List ℕ) → (c .no ≡ 0 → out ≡ onto (bytesOf rs) t) → length rs ≡ n
       → Went (each p (carriers rs)) f rs b c l t d out'
 
 -- what a function promises that passes over n records, whatever records they are
 -- the same where a flag says that there is anything to read; else each value is none
 pub record PassedIf {X : Type 0} (on : Bool) (p : Bool → P X) (f : Record → X → Record) (none : X) (n : ℕ) (b : Bits) (c : Cur) (l : Limit) (out : List ℕ) (d : Cur) (out' : List ℕ) : Type 0 where
-  pub size : length out' ≡ roomBytes
+  pub size : length out' ≡ scratchBytes
   pub went : (rs : List Record) (t : List ℕ) → (c .no ≡ 0 → out ≡ onto (bytesOf rs) t) → length rs ≡ n → put f rs (replicate n none) ≡ rs
       → Went (when on (each p (carriers rs)) (replicate n none)) f rs b c l t d out'
 
@@ -126,7 +126,7 @@ pub record Extending (ss : List Scene) (b : Bits) (c : Cur) (l : Limit) (t : Lis
   pub stand : d .no ≡ 0 → out' ≡ onto (bytesOf (extendedRecords ss (value .divergence) (value .precise))) t
 
 pub record ExtendedRead (n : ℕ) (b : Bits) (c : Cur) (l : Limit) (out : List ℕ) (d : Cur) (out' : List ℕ) : Type 0 where
-  pub size : length out' ≡ roomBytes
+  pub size : length out' ≡ scratchBytes
   pub went : (ss : List Scene) (t : List ℕ) → Standing ss t out → length ss ≡ n → Extending ss b c l t d out'
 
 -- ---- the trim element
@@ -165,7 +165,7 @@ lent out table = record { out = out; table = table }
 
 -- each is as long as it is lent
 pub record Sized (held : Buffers) : Type 0 where
-  pub out : length (held .out) ≡ roomBytes
+  pub out : length (held .out) ≡ scratchBytes
   pub table : length (held .table) ≡ mostTrim
 
 -- the state with one part of it anew: an updater for each kind, and the only places that name all parts

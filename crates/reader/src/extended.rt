@@ -3,17 +3,17 @@ ghost use mathlib.Core.Path.{_≡_};
 ghost use Prim.Native.Nat.{_*_, _≤_};
 ghost use lib.ListN.{length};
 ghost use Rattle.bits.specs.Language.{bit};
-ghost use Rattle.oamd.specs.Tables.{recordStride, roomBytes};
+ghost use Rattle.oamd.specs.Tables.{recordBytes, scratchBytes};
 ghost use Rattle.oamd.specs.Extended.{obj-div-block, ext-prec-pos-block, noDivergence, noPrecise};
 ghost use Rattle.reader.specs.Steps.{Passed, PassedIf, withDivergence, withPrecise, ExtendedRead};
 use bits::Cur;
 use bits::Limit;
-use oamd::RECORD_STRIDE;
-use oamd::ROOM_BYTES;
+use oamd::RECORD_BYTES;
+use oamd::SCRATCH_BYTES;
 
 // obj_div_block of each of n records.
-fn read_divergences(s: &[u8], l: Limit, c: Cur, n: usize, out: &mut [u8; ROOM_BYTES]) -> Cur
-    requires { ⌜ (recordStride * n ≤ roomBytes) × (length (now out) ≡ roomBytes) ⌝ }
+fn read_divergences(s: &[u8], l: Limit, c: Cur, n: usize, out: &mut [u8; SCRATCH_BYTES]) -> Cur
+    requires { ⌜ (recordBytes * n ≤ scratchBytes) × (length (now out) ≡ scratchBytes) ⌝ }
     ensures { λ r. ⌜ Passed obj-div-block withDivergence n (bit (now (s .entry))) c l (now (out .entry)) r (now (out .exit)) ⌝ }
 {
     let mut cur = c;
@@ -28,15 +28,15 @@ fn read_divergences(s: &[u8], l: Limit, c: Cur, n: usize, out: &mut [u8; ROOM_BY
         let divergence = step.divergence;
         record::store_divergence(out, at, divergence);
         cur = step.cur;
-        at = at + RECORD_STRIDE;
+        at = at + RECORD_BYTES;
         i = i + 1;
     }
     cur
 }
 
 // ext_prec_pos_block of each of n records.
-fn read_precises(s: &[u8], l: Limit, c: Cur, n: usize, out: &mut [u8; ROOM_BYTES]) -> Cur
-    requires { ⌜ (recordStride * n ≤ roomBytes) × (length (now out) ≡ roomBytes) ⌝ }
+fn read_precises(s: &[u8], l: Limit, c: Cur, n: usize, out: &mut [u8; SCRATCH_BYTES]) -> Cur
+    requires { ⌜ (recordBytes * n ≤ scratchBytes) × (length (now out) ≡ scratchBytes) ⌝ }
     ensures { λ r. ⌜ Passed ext-prec-pos-block withPrecise n (bit (now (s .entry))) c l (now (out .entry)) r (now (out .exit)) ⌝ }
 {
     let mut cur = c;
@@ -51,7 +51,7 @@ fn read_precises(s: &[u8], l: Limit, c: Cur, n: usize, out: &mut [u8; ROOM_BYTES
         let precise = step.precise;
         record::store_precise(out, at, precise);
         cur = step.cur;
-        at = at + RECORD_STRIDE;
+        at = at + RECORD_BYTES;
         i = i + 1;
     }
     cur
@@ -63,9 +63,9 @@ fn read_divergences_if(
     l: Limit,
     c: Cur,
     n: usize,
-    out: &mut [u8; ROOM_BYTES],
+    out: &mut [u8; SCRATCH_BYTES],
 ) -> Cur
-    requires { ⌜ (recordStride * n ≤ roomBytes) × (length (now out) ≡ roomBytes) ⌝ }
+    requires { ⌜ (recordBytes * n ≤ scratchBytes) × (length (now out) ≡ scratchBytes) ⌝ }
     ensures { λ r. ⌜ PassedIf on obj-div-block withDivergence noDivergence n (bit (now (s .entry))) c l (now (out .entry)) r (now (out .exit)) ⌝ }
 {
     if on {
@@ -81,9 +81,9 @@ fn read_precises_if(
     l: Limit,
     c: Cur,
     n: usize,
-    out: &mut [u8; ROOM_BYTES],
+    out: &mut [u8; SCRATCH_BYTES],
 ) -> Cur
-    requires { ⌜ (recordStride * n ≤ roomBytes) × (length (now out) ≡ roomBytes) ⌝ }
+    requires { ⌜ (recordBytes * n ≤ scratchBytes) × (length (now out) ≡ scratchBytes) ⌝ }
     ensures { λ r. ⌜ PassedIf on ext-prec-pos-block withPrecise noPrecise n (bit (now (s .entry))) c l (now (out .entry)) r (now (out .exit)) ⌝ }
 {
     if on {
@@ -94,8 +94,8 @@ fn read_precises_if(
 }
 
 // Both blocks of each of n records, which stand at the front of out.
-pub fn read_extended(s: &[u8], l: Limit, c: Cur, n: usize, out: &mut [u8; ROOM_BYTES]) -> Cur
-    requires { ⌜ (recordStride * n ≤ roomBytes) × (length (now out) ≡ roomBytes) ⌝ }
+pub fn read_extended(s: &[u8], l: Limit, c: Cur, n: usize, out: &mut [u8; SCRATCH_BYTES]) -> Cur
+    requires { ⌜ (recordBytes * n ≤ scratchBytes) × (length (now out) ≡ scratchBytes) ⌝ }
     ensures { λ r. ⌜ ExtendedRead n (bit (now (s .entry))) c l (now (out .entry)) r (now (out .exit)) ⌝ }
 {
     let diverging = bits::take(s, l, c, 1);

@@ -4,24 +4,24 @@ ghost use Prim.Native.Nat.{_+_, _-_, _≤_};
 ghost use lib.Dec.{leb};
 ghost use lib.ListN.{length};
 ghost use Rattle.bits.specs.Language.{pick};
-ghost use Rattle.oamd.specs.Tables.{recordStride, roomBytes};
+ghost use Rattle.oamd.specs.Tables.{recordBytes, scratchBytes};
 ghost use Rattle.oamd.specs.Meaning.{zeroDb};
 ghost use Rattle.record.specs.Bytes.{sceneAt};
 ghost use Rattle.reader.specs.Layout.{noRecords};
-use oamd::ROOM_BYTES;
+use oamd::SCRATCH_BYTES;
 
 // The gain of 0 dB.
 const ZERO_DB: u8 = 50;
 
-pub fn no_records() -> [u8; ROOM_BYTES]
-    ensures { λ r. ⌜ (r ≡ noRecords) × (length r ≡ roomBytes) ⌝ }
+pub fn no_records() -> [u8; SCRATCH_BYTES]
+    ensures { λ r. ⌜ (r ≡ noRecords) × (length r ≡ scratchBytes) ⌝ }
 {
-    [0u8; ROOM_BYTES]
+    [0u8; SCRATCH_BYTES]
 }
 
 // The gain that stands `back` bytes before a record, or 0 dB where no object stands before it.
-pub fn gain_of_object_before(out: &[u8; ROOM_BYTES], at: usize, back: usize) -> u8
-    requires { ⌜ (at + recordStride ≤ roomBytes) × (length (now out) ≡ roomBytes) ⌝ }
+pub fn gain_of_object_before(out: &[u8; SCRATCH_BYTES], at: usize, back: usize) -> u8
+    requires { ⌜ (at + recordBytes ≤ scratchBytes) × (length (now out) ≡ scratchBytes) ⌝ }
     ensures { λ r. ⌜ r ≡ pick (leb back at) (sceneAt (now (out .entry)) (at - back) .gain) zeroDb ⌝ }
 {
     if back <= at {

@@ -3,7 +3,7 @@ ghost use mathlib.Core.Path.{_≡_};
 ghost use Prim.Native.Nat.{_≤_};
 ghost use lib.ListN.{length};
 ghost use Rattle.bits.specs.Language.{bit};
-ghost use Rattle.oamd.specs.Tables.{mostObjects, roomBytes};
+ghost use Rattle.oamd.specs.Tables.{mostObjects, scratchBytes};
 ghost use Rattle.reader.specs.Rooms.{ObjectRoom, ObjectsRoom};
 ghost use Rattle.reader.specs.Steps.{ObjectRead, ObjectsRead, ElementRead};
 use crate::Scope;
@@ -12,8 +12,8 @@ use crate::layout::gain_of_object_before;
 use crate::timing::read_timing;
 use bits::Cur;
 use bits::Limit;
-use oamd::RECORD_STRIDE;
-use oamd::ROOM_BYTES;
+use oamd::RECORD_BYTES;
+use oamd::SCRATCH_BYTES;
 
 // The blocks of one object, whose records begin at a place. The records of the object before it, if there is one, end there.
 fn read_object(
@@ -23,12 +23,12 @@ fn read_object(
     class: u8,
     blocks: usize,
     from: usize,
-    out: &mut [u8; ROOM_BYTES],
+    out: &mut [u8; SCRATCH_BYTES],
 ) -> Cur
     requires { ⌜ ObjectRoom blocks from (now out) ⌝ }
     ensures { λ r. ⌜ ObjectRead class blocks from (bit (now (s .entry))) c l (now (out .entry)) r (now (out .exit)) ⌝ }
 {
-    let back = RECORD_STRIDE * blocks;
+    let back = RECORD_BYTES * blocks;
     let nothing_before = meaning::idle(0);
     let mut scene = nothing_before;
     let mut cur = c;
@@ -41,7 +41,7 @@ fn read_object(
         scene = meaning::resolved(scene, gain, block);
         record::store_scene(out, at, scene);
         cur = step.cur;
-        at = at + RECORD_STRIDE;
+        at = at + RECORD_BYTES;
         i = i + 1;
     }
     cur
@@ -54,7 +54,7 @@ fn read_objects(
     c: Cur,
     scope: Scope,
     blocks: usize,
-    out: &mut [u8; ROOM_BYTES],
+    out: &mut [u8; SCRATCH_BYTES],
 ) -> Cur
     requires { ⌜ ObjectsRoom (scope .objects) blocks (now out) ⌝ }
     ensures { λ r. ⌜ ObjectsRead (scope .objects) (scope .shares) blocks (bit (now (s .entry))) c l (now (out .entry)) r (now (out .exit)) ⌝ }
@@ -70,7 +70,7 @@ fn read_objects(
         }
         let class = meaning::class_of(shares, j as u32);
         cur = read_object(s, l, cur, class, blocks, at, out);
-        at = at + RECORD_STRIDE * blocks;
+        at = at + RECORD_BYTES * blocks;
         j = j + 1;
     }
     cur
@@ -82,9 +82,9 @@ pub fn read_object_element(
     l: Limit,
     c: Cur,
     scope: Scope,
-    out: &mut [u8; ROOM_BYTES],
+    out: &mut [u8; SCRATCH_BYTES],
 ) -> TimingStep
-    requires { ⌜ (scope .objects ≤ mostObjects) × (length (now out) ≡ roomBytes) ⌝ }
+    requires { ⌜ (scope .objects ≤ mostObjects) × (length (now out) ≡ scratchBytes) ⌝ }
     ensures { λ r. ⌜ ElementRead (scope .objects) (scope .shares) (bit (now (s .entry))) c l (now (out .entry)) r (now (out .exit)) ⌝ }
 {
     let step = read_timing(s, l, c);

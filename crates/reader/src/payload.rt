@@ -13,7 +13,7 @@ use bits::Cur;
 use bits::Limit;
 use bits::Refusal;
 use oamd::MOST_TRIM;
-use oamd::ROOM_BYTES;
+use oamd::SCRATCH_BYTES;
 use units::BitPos;
 use units::ByteCount;
 
@@ -55,7 +55,7 @@ fn limit_of(s: &[u8]) -> Limit
 
 pub fn read_payload(
     s: &[u8],
-    out: &mut [u8; ROOM_BYTES],
+    out: &mut [u8; SCRATCH_BYTES],
     table: &mut [u8; MOST_TRIM],
 ) -> PayloadStep
     requires { ⌜ Opening (now s) (lent (now out) (now table)) ⌝ }

@@ -1,23 +1,23 @@
 -- A record's bytes give the record again, and what is made of bytes has these bytes: of one record, and of many.
-use mathlib.Core.Path.{_≡_, refl, sym, ap, _∙_}
-use mathlib.Core.List.{List, _++_, append-assoc}
-use Prim.Native.Nat.{ℕ, _+_, _*_, _≤_, _<_}
+use mathlib.Core.Path.{_≡_, refl, sym, ap, ap₂, _∙_}
+use mathlib.Core.List.{List, [], _∷_, _++_, append-assoc}
+use Prim.Native.Nat.{ℕ, zero, suc, _+_, _*_, _≤_, _<_}
 use native.Mathlib.Omega.{arith}
 use native.Mathlib.Nat.{add-assoc}
 use lib.ListN.{length, getD, take, drop, take-append-drop}
 use lib.Seq.{getD-drop, drop-at, length-take-le}
-use Rattle.oamd.specs.Tables.{recordStride}
+use Rattle.oamd.specs.Tables.{recordBytes, recordStride}
 use Rattle.oamd.specs.declared.Divergence.{Divergence}
 use Rattle.oamd.specs.declared.Precise.{Precise}
 use Rattle.oamd.specs.Record.{Record, recordOf, divergenceBytes, preciseBytes, recordBytesOf, bytesOf, onto}
 use Rattle.oamd.specs.Lengths.{length-record}
 use Rattle.record.specs.Bytes.{divergenceByte, preciseByte, setFrom, bytesAt, sceneAt, divergenceAt, preciseAt, recordAt, recordsAt}
 use Rattle.record.specs.Stored.{seam}
-use Rattle.record.specs.Entries.{from-first, bytes-are, count, entry, entries-bytes, entries-again}
+use Rattle.record.specs.Entries.{from-first, bytes-are, count, entries-bytes, entries-again}
 
-pub record-bytes : (s : List ℕ) (at : ℕ) → at + recordStride ≤ length s → recordBytesOf (recordAt s at) ≡ take recordStride (drop at s)
+pub record-bytes : (s : List ℕ) (at : ℕ) → at + recordBytes ≤ length s → recordBytesOf (recordAt s at) ≡ take recordBytes (drop at s)
 unfolding recordBytesOf sceneAt divergenceAt preciseAt bytesAt
-record-bytes s at h = simp add-assoc at (bytes-are s recordStride at h)
+record-bytes s at h = simp add-assoc at (bytes-are s recordBytes at h)
 
 pub record-shifted : (s : List ℕ) (a at : ℕ) → recordAt s (a + at) ≡ recordAt (drop a s) at
 unfolding sceneAt divergenceAt preciseAt
@@ -27,7 +27,7 @@ pub record-again : (r : Record) (tail : List ℕ) → recordAt (recordBytesOf r 
 unfolding recordBytesOf sceneAt divergenceAt preciseAt
 record-again r tail = refl
 
-behind-record : (r : Record) (tail : List ℕ) → drop recordStride (recordBytesOf r ++ tail) ≡ tail
+behind-record : (r : Record) (tail : List ℕ) → drop recordBytes (recordBytesOf r ++ tail) ≡ tail
 unfolding recordBytesOf
 behind-record r tail = from-first tail
 
@@ -55,18 +55,20 @@ record-among front r tail at e =
     ∙ record-again r tail
 
 -- record m of those whose bytes stand at the front
-pub record-of : (rs : List Record) (tail : List ℕ) (m : ℕ) (none : Record) → m < length rs → recordAt (bytesOf rs ++ tail) (recordStride * m) ≡ getD rs m none
-unfolding recordsAt
-record-of rs tail m none h =
-    let q : recordStride * m ≡ 0 + recordStride * m = omega arith in
-    ap (recordAt (bytesOf rs ++ tail)) q
-    ∙ sym (entry recordStride recordAt recordsAt (λ s at. refl) (λ s n at. refl) (bytesOf rs ++ tail) (length rs) 0 m none h)
-    ∙ ap (λ (xs : List Record). getD xs m none) (records-again rs tail)
+pub record-of : (rs : List Record) (tail : List ℕ) (m : ℕ) (none : Record) → m < length rs → recordAt (bytesOf rs ++ tail) (recordBytes * m) ≡ getD rs m none
+unfolding bytesOf
+record-of [] tail m none h = absurd (omega arith)
+record-of (r ∷ rs) tail zero none h = ap (λ (l : List ℕ). recordAt l 0) (append-assoc (recordBytesOf r) (bytesOf rs) tail) ∙ record-again r (bytesOf rs ++ tail)
+record-of (r ∷ rs) tail (suc m) none h =
+    let s : List ℕ = recordBytesOf r ++ (bytesOf rs ++ tail) in
+    let q : recordBytes * suc m ≡ recordBytes + recordBytes * m = omega arith in
+    ap₂ recordAt (append-assoc (recordBytesOf r) (bytesOf rs) tail) q ∙ record-shifted s recordBytes (recordBytes * m)
+    ∙ ap (λ (l : List ℕ). recordAt l (recordBytes * m)) (behind-record r (bytesOf rs ++ tail)) ∙ record-of rs tail m none (omega arith)
 
 -- ---- stored
 
 -- a record that was stored is taken out again
-pub stored-again : (r : Record) (s : List ℕ) (at : ℕ) → at + recordStride ≤ length s → recordAt (setFrom at 0 (recordBytesOf r) s) at ≡ r
+pub stored-again : (r : Record) (s : List ℕ) (at : ℕ) → at + recordBytes ≤ length s → recordAt (setFrom at 0 (recordBytesOf r) s) at ≡ r
 unfolding onto
 stored-again r s at h =
     let front : List ℕ = take at s in

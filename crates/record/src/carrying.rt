@@ -2,7 +2,7 @@
 ghost use mathlib.Core.Path.{_≡_};
 ghost use Prim.Native.Nat.{_+_, _≤_};
 ghost use lib.ListN.{length};
-ghost use Rattle.oamd.specs.Tables.{recordStride};
+ghost use Rattle.oamd.specs.Tables.{recordBytes};
 ghost use Rattle.oamd.specs.Record.{carries};
 ghost use Rattle.record.specs.Bytes.{sceneAt};
 use bits::both;
@@ -19,7 +19,7 @@ pub fn carries(s: Scene) -> bool
 
 // Whether the record that begins at `at` can carry divergence and a precise position, by its first two bytes. There must be a whole record, as in laying.rt.
 pub fn carries_at(records: &[u8], at: usize) -> bool
-    requires { ⌜ at + recordStride ≤ length (now records) ⌝ }
+    requires { ⌜ at + recordBytes ≤ length (now records) ⌝ }
     ensures { λ r. ⌜ r ≡ carries (sceneAt (now (records .entry)) at) ⌝ }
 {
     both(records[at] == 1, records[at + 1] == DYNAMIC)

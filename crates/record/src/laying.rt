@@ -2,7 +2,7 @@
 ghost use mathlib.Core.Path.{_≡_};
 ghost use Prim.Native.Nat.{_+_, _≤_};
 ghost use lib.ListN.{length};
-ghost use Rattle.oamd.specs.Tables.{recordStride};
+ghost use Rattle.oamd.specs.Tables.{recordBytes};
 ghost use Rattle.oamd.specs.Record.{recordOf, recordBytesOf, divergenceBytes, preciseBytes};
 ghost use Rattle.oamd.specs.Extended.{noDivergence, noPrecise};
 ghost use Rattle.record.specs.Bytes.{divergenceByte, preciseByte, setFrom};
@@ -12,7 +12,7 @@ use oamd::Scene;
 
 // The record of a scene, with nothing from an extended element.
 pub fn store_scene(records: &mut [u8], at: usize, r: Scene)
-    requires { ⌜ at + recordStride ≤ length (now records) ⌝ }
+    requires { ⌜ at + recordBytes ≤ length (now records) ⌝ }
     ensures { λ _. ⌜ now (records .exit) ≡ setFrom at 0 (recordBytesOf (recordOf r noDivergence noPrecise)) (now (records .entry)) ⌝ }
 {
     records[at + 0] = r.active;
@@ -43,7 +43,7 @@ pub fn store_scene(records: &mut [u8], at: usize, r: Scene)
 
 // Bytes 17 to 19 of a record.
 pub fn store_divergence(records: &mut [u8], at: usize, d: Divergence)
-    requires { ⌜ at + recordStride ≤ length (now records) ⌝ }
+    requires { ⌜ at + recordBytes ≤ length (now records) ⌝ }
     ensures { λ _. ⌜ now (records .exit) ≡ setFrom at divergenceByte (divergenceBytes d) (now (records .entry)) ⌝ }
 {
     records[at + 17] = d.used;
@@ -53,7 +53,7 @@ pub fn store_divergence(records: &mut [u8], at: usize, d: Divergence)
 
 // Bytes 20 to 23 of a record.
 pub fn store_precise(records: &mut [u8], at: usize, p: Precise)
-    requires { ⌜ at + recordStride ≤ length (now records) ⌝ }
+    requires { ⌜ at + recordBytes ≤ length (now records) ⌝ }
     ensures { λ _. ⌜ now (records .exit) ≡ setFrom at preciseByte (preciseBytes p) (now (records .entry)) ⌝ }
 {
     records[at + 20] = p.presence;

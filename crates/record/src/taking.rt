@@ -3,14 +3,14 @@ ghost use mathlib.Core.Path.{_≡_};
 ghost use Prim.Native.Nat.{_+_, _≤_, _<_};
 ghost use lib.Dec.{leb};
 ghost use lib.ListN.{length};
-ghost use Rattle.oamd.specs.Tables.{recordStride};
+ghost use Rattle.oamd.specs.Tables.{recordBytes};
 ghost use Rattle.oamd.specs.Meaning.{idle};
 ghost use Rattle.oamd.specs.Extended.{noDivergence, noPrecise};
 ghost use Rattle.record.specs.Bytes.{sceneAt, divergenceAt, preciseAt};
 use oamd::Divergence;
 use oamd::Location;
 use oamd::Precise;
-use oamd::RECORD_STRIDE;
+use oamd::RECORD_BYTES;
 use oamd::Scene;
 use oamd::Screen;
 use oamd::Volume;
@@ -27,7 +27,7 @@ pub fn has_bytes(bytes: &[u8], at: usize, n: usize) -> bool
 }
 
 fn location_at(records: &[u8], at: usize) -> Location
-    requires { ⌜ at + recordStride ≤ length (now records) ⌝ }
+    requires { ⌜ at + recordBytes ≤ length (now records) ⌝ }
     ensures { λ r. ⌜ r ≡ sceneAt (now (records .entry)) at .location ⌝ }
 {
     Location {
@@ -39,7 +39,7 @@ fn location_at(records: &[u8], at: usize) -> Location
 }
 
 fn volume_at(records: &[u8], at: usize) -> Volume
-    requires { ⌜ at + recordStride ≤ length (now records) ⌝ }
+    requires { ⌜ at + recordBytes ≤ length (now records) ⌝ }
     ensures { λ r. ⌜ r ≡ sceneAt (now (records .entry)) at .volume ⌝ }
 {
     Volume {
@@ -50,7 +50,7 @@ fn volume_at(records: &[u8], at: usize) -> Volume
 }
 
 fn zone_at(records: &[u8], at: usize) -> Zone
-    requires { ⌜ at + recordStride ≤ length (now records) ⌝ }
+    requires { ⌜ at + recordBytes ≤ length (now records) ⌝ }
     ensures { λ r. ⌜ r ≡ sceneAt (now (records .entry)) at .zone ⌝ }
 {
     Zone {
@@ -60,7 +60,7 @@ fn zone_at(records: &[u8], at: usize) -> Zone
 }
 
 fn screen_at(records: &[u8], at: usize) -> Screen
-    requires { ⌜ at + recordStride ≤ length (now records) ⌝ }
+    requires { ⌜ at + recordBytes ≤ length (now records) ⌝ }
     ensures { λ r. ⌜ r ≡ sceneAt (now (records .entry)) at .screen ⌝ }
 {
     Screen {
@@ -71,7 +71,7 @@ fn screen_at(records: &[u8], at: usize) -> Screen
 }
 
 fn scene_of(records: &[u8], at: usize) -> Scene
-    requires { ⌜ at + recordStride ≤ length (now records) ⌝ }
+    requires { ⌜ at + recordBytes ≤ length (now records) ⌝ }
     ensures { λ r. ⌜ r ≡ sceneAt (now (records .entry)) at ⌝ }
 {
     let location = location_at(records, at);
@@ -92,7 +92,7 @@ fn scene_of(records: &[u8], at: usize) -> Scene
 }
 
 fn divergence_of(records: &[u8], at: usize) -> Divergence
-    requires { ⌜ at + recordStride ≤ length (now records) ⌝ }
+    requires { ⌜ at + recordBytes ≤ length (now records) ⌝ }
     ensures { λ r. ⌜ r ≡ divergenceAt (now (records .entry)) at ⌝ }
 {
     Divergence {
@@ -103,7 +103,7 @@ fn divergence_of(records: &[u8], at: usize) -> Divergence
 }
 
 fn precise_of(records: &[u8], at: usize) -> Precise
-    requires { ⌜ at + recordStride ≤ length (now records) ⌝ }
+    requires { ⌜ at + recordBytes ≤ length (now records) ⌝ }
     ensures { λ r. ⌜ r ≡ preciseAt (now (records .entry)) at ⌝ }
 {
     Precise {
@@ -116,7 +116,7 @@ fn precise_of(records: &[u8], at: usize) -> Precise
 
 // The gain of the record that begins at `at`. There must be a whole record, as in laying.rt.
 pub fn gain_at(records: &[u8], at: usize) -> u8
-    requires { ⌜ at + recordStride ≤ length (now records) ⌝ }
+    requires { ⌜ at + recordBytes ≤ length (now records) ⌝ }
     ensures { λ r. ⌜ r ≡ sceneAt (now (records .entry)) at .gain ⌝ }
 {
     records[at + 2]
@@ -156,20 +156,20 @@ fn no_scene() -> Scene
 }
 
 pub fn scene_at(records: &[u8], at: usize) -> Scene
-    ensures there { λ r. ⌜ (at + recordStride ≤ length (now (records .entry)) → r ≡ sceneAt (now (records .entry)) at) ⌝ }
-    ensures absent { λ r. ⌜ (length (now (records .entry)) < at + recordStride → r ≡ idle 0) ⌝ }
+    ensures there { λ r. ⌜ (at + recordBytes ≤ length (now (records .entry)) → r ≡ sceneAt (now (records .entry)) at) ⌝ }
+    ensures absent { λ r. ⌜ (length (now (records .entry)) < at + recordBytes → r ≡ idle 0) ⌝ }
 {
-    if has_bytes(records, at, RECORD_STRIDE) {
+    if has_bytes(records, at, RECORD_BYTES) {
         return scene_of(records, at);
     }
     no_scene()
 }
 
 pub fn divergence_at(records: &[u8], at: usize) -> Divergence
-    ensures there { λ r. ⌜ (at + recordStride ≤ length (now (records .entry)) → r ≡ divergenceAt (now (records .entry)) at) ⌝ }
-    ensures absent { λ r. ⌜ (length (now (records .entry)) < at + recordStride → r ≡ noDivergence) ⌝ }
+    ensures there { λ r. ⌜ (at + recordBytes ≤ length (now (records .entry)) → r ≡ divergenceAt (now (records .entry)) at) ⌝ }
+    ensures absent { λ r. ⌜ (length (now (records .entry)) < at + recordBytes → r ≡ noDivergence) ⌝ }
 {
-    if has_bytes(records, at, RECORD_STRIDE) {
+    if has_bytes(records, at, RECORD_BYTES) {
         return divergence_of(records, at);
     }
     Divergence {
@@ -180,10 +180,10 @@ pub fn divergence_at(records: &[u8], at: usize) -> Divergence
 }
 
 pub fn precise_at(records: &[u8], at: usize) -> Precise
-    ensures there { λ r. ⌜ (at + recordStride ≤ length (now (records .entry)) → r ≡ preciseAt (now (records .entry)) at) ⌝ }
-    ensures absent { λ r. ⌜ (length (now (records .entry)) < at + recordStride → r ≡ noPrecise) ⌝ }
+    ensures there { λ r. ⌜ (at + recordBytes ≤ length (now (records .entry)) → r ≡ preciseAt (now (records .entry)) at) ⌝ }
+    ensures absent { λ r. ⌜ (length (now (records .entry)) < at + recordBytes → r ≡ noPrecise) ⌝ }
 {
-    if has_bytes(records, at, RECORD_STRIDE) {
+    if has_bytes(records, at, RECORD_BYTES) {
         return precise_of(records, at);
     }
     Precise {

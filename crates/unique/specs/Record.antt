@@ -22,7 +22,7 @@ use Rattle.record.proofs.store_scene as store-scene
 use Rattle.oamd.specs.Extended.{noDivergence, noPrecise}
 use Rattle.oamd.specs.Meaning.{idle}
 use Rattle.oamd.specs.Record.{recordOf, recordBytesOf, divergenceBytes, preciseBytes}
-use Rattle.oamd.specs.Tables.{recordStride}
+use Rattle.oamd.specs.Tables.{recordBytes}
 use Rattle.record.specs.Bytes.{divergenceByte, preciseByte, setFrom, sceneAt, divergenceAt, preciseAt}
 use Rattle.unique.specs.OneAnswer.{OneAnswer, by-equation, said, both-said, result-set, _beside_}
 
@@ -51,17 +51,17 @@ one-gain-at = by-equation (result-set gain-at.ended) (λ w. refl) (λ i. sceneAt
 
 pub one-scene-at : OneAnswer scene-at.ended (λ M. scene-at.clauses) (λ M. scene-at.spec) (λ κs a. now (a .0) beside a .1) (λ κs a r z. r)
 one-scene-at =
-    by-equation (result-set scene-at.ended) (λ w. refl) (λ i. pick (leb (i .1 .0 + recordStride) (length (i .0))) (sceneAt (i .0) (i .1 .0)) (idle 0))
+    by-equation (result-set scene-at.ended) (λ w. refl) (λ i. pick (leb (i .1 .0 + recordBytes) (length (i .0))) (sceneAt (i .0) (i .1 .0)) (idle 0))
     (λ w κs a r z p. both-said (enough-or-fewer _ _ _ _) (p .holds))
 
 pub one-divergence-at : OneAnswer divergence-at.ended (λ M. divergence-at.clauses) (λ M. divergence-at.spec) (λ κs a. now (a .0) beside a .1) (λ κs a r z. r)
 one-divergence-at =
-    by-equation (result-set divergence-at.ended) (λ w. refl) (λ i. pick (leb (i .1 .0 + recordStride) (length (i .0))) (divergenceAt (i .0) (i .1 .0)) noDivergence)
+    by-equation (result-set divergence-at.ended) (λ w. refl) (λ i. pick (leb (i .1 .0 + recordBytes) (length (i .0))) (divergenceAt (i .0) (i .1 .0)) noDivergence)
     (λ w κs a r z p. both-said (enough-or-fewer _ _ _ _) (p .holds))
 
 pub one-precise-at : OneAnswer precise-at.ended (λ M. precise-at.clauses) (λ M. precise-at.spec) (λ κs a. now (a .0) beside a .1) (λ κs a r z. r)
 one-precise-at =
-    by-equation (result-set precise-at.ended) (λ w. refl) (λ i. pick (leb (i .1 .0 + recordStride) (length (i .0))) (preciseAt (i .0) (i .1 .0)) noPrecise)
+    by-equation (result-set precise-at.ended) (λ w. refl) (λ i. pick (leb (i .1 .0 + recordBytes) (length (i .0))) (preciseAt (i .0) (i .1 .0)) noPrecise)
     (λ w κs a r z p. both-said (enough-or-fewer _ _ _ _) (p .holds))
 
 -- ---- what is stored: the bytes that are left in the lent buffer

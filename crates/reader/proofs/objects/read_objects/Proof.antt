@@ -2,7 +2,7 @@
 use Prim.Native.Nat.{_+_, _-_, _*_, _≤_}
 use native.Mathlib.Omega.{arith}
 use Rattle.bits.specs.Language.{bit}
-use Rattle.oamd.specs.Tables.{recordStride, roomBytes}
+use Rattle.oamd.specs.Tables.{recordBytes, scratchBytes}
 use Rattle.reader.proofs.ObjectLoop.{Among, first, further, finish, stop, room}
 use borrow.Author.Needs.{needs}
 use Rattle.reader.proofs.objects.read_objects.Statement.{statement}
@@ -15,7 +15,7 @@ abbrev μ-loop : tie.MeasureT-loop
 μ-loop s l blocks out₀ shares n cur₀ at₀ j₀ out cur at j = n - j
 
 -- in a turn the records of the object fit
-fits : (c : tie.In-loop Inv-loop μ-loop) → c .before .loop .at + recordStride * c .before .before .before .before .args .blocks ≤ roomBytes
+fits : (c : tie.In-loop Inv-loop μ-loop) → c .before .loop .at + recordBytes * c .before .before .before .before .args .blocks ≤ scratchBytes
 fits c =
     let head = c .before in
     let entry = head .before .before .before in
