@@ -95,8 +95,8 @@ fn read_entries(
     }
 }
 
-// Reads each payload of a shelf as a part of the store, each with the number of its frame. Where the lists are of unequal length, or slots or places lack room, the whole call is refused with 13 and nothing
-// is read or written. Else each entry's place holds its answer; its slots hold what a read of it alone would lay there; bytes behind the last slots and places stay.
+// Reads each payload of a shelf as a part of the store, each with the number of its frame. Where the lists are of unequal length, or slots or places lack room, the whole call is refused with 13
+// and nothing is read or written. Else each entry's place holds its answer; its slots hold what a read of it alone would lay there; bytes behind the last slots and places stay.
 pub fn read_batch(
     store: &[u8],
     starts: &[u64],

@@ -39,8 +39,8 @@ pub extern "C" fn skriemelt_read(
     reader::read(payload, frame, records, trim)
 }
 
-// Reads each payload of a shelf as a part of the store, with the number of its frame: each entry's slots and place as a read of it alone would give them. Refused with 13: nothing is read, and no byte of
-// the three lent buffers changes.
+// Reads each payload of a shelf as a part of the store, with the number of its frame: each entry's slots and place as a read of it alone would give them. Refused with 13: nothing is read, and no
+// byte of the three lent buffers changes.
 #[no_mangle]
 pub extern "C" fn skriemelt_read_batch(
     store: &[u8],

@@ -95,6 +95,7 @@ block-of object block blocks i e h = rw (← e, mul-add-mod-self-right object bl
 
 module _ (frame : ℕ) (t : Timing) (bytes : List ℕ) {n object block from i : ℕ} where
   pub its-time : SoFar (mistimedFrom frame t bytes) (t .blocks) n object block from i → i < n → n ≤ 255 * t .blocks → {valid : Bool} {time : ℕ}
-      → time ≡ frame * frameSamples + getD (t .updates) block noUpdate .start .0 → valid ≡ sameBytes (timeAt bytes from) (timeBytesOf time) → valid ≡ sameBytes (timeAt bytes from) (timeBytesOf (timeOf frame t i))
+      → time ≡ frame * frameSamples + getD (t .updates) block noUpdate .start .0 → valid ≡ sameBytes (timeAt bytes from) (timeBytesOf time)
+      → valid ≡ sameBytes (timeAt bytes from) (timeBytesOf (timeOf frame t i))
   unfolding blockTime
   its-time before h few e f = rw (block-of object block (t .blocks) i (before .turn) (omega arith), ← e) f
