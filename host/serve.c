@@ -2,12 +2,13 @@
  * serve: the library over standard input and output, for a program that cannot be linked to it (bench/compare on a machine that is not x86-64).
  *
  * Numbers have their lowest byte first, lengths and the skew 4 bytes; tables and answers are their fields in the header's order, without padding. What a
- * call looks at is sent as its length and its bytes, a list as its length and 8 bytes for each number, a lent buffer as its length, its skew and its bytes.
- *   request v                                                answer: version
- *   request r, payload, record buffer, trim buffer           answer: place, refusal, unknown, programme, timing, missing, the bytes of both buffers
- *   request b, store, starts, lengths, both slot lengths (8 bytes each), buffers of records, trim tables and answers
- *                                                            answer: place, refusal, the bytes of the three buffers
- *   request w, programme, timing, records, trim, buffer      answer: place, length, refusal, the bytes of the buffer
+ * call looks at is sent as its length and its bytes, a list as its length and 8 bytes for each number, or 4 for each frame, a frame by itself as 4 bytes, a lent buffer as its
+ * length, its skew and its bytes.
+ *   request v                                                  answer: version
+ *   request r, payload, frame, record buffer, trim buffer      answer: place, refusal, unknown, programme, timing, missing, the bytes of both buffers
+ *   request b, store, starts, lengths, frames, both slot lengths (8 bytes each), buffers of records, trim tables and answers
+ *                                                              answer: place, refusal, the bytes of the three buffers
+ *   request w, programme, timing, frame, records, trim, buffer answer: place, length, refusal, the bytes of the buffer
  * A buffer is sent as it is lent and answered whole. It is lent at an address that leaves the remainder `skew` by 16, with canaries around it.
  * Exit status: 0 at the end of the input; 1 for a request that is not one, or a call that changed a canary or what it may only look at.
  */
@@ -33,6 +34,12 @@ typedef struct list {
     uint64_t numbers[MOST_NUMBERS], kept[MOST_NUMBERS];
     size_t length;
 } list;
+
+/* A list of frames, likewise. */
+typedef struct frame_list {
+    uint32_t numbers[MOST_NUMBERS], kept[MOST_NUMBERS];
+    size_t length;
+} frame_list;
 
 /* A lent buffer, and the bytes in which it lies. */
 typedef struct lent {
@@ -177,13 +184,20 @@ static void hold_given(const given *g)
         stop("what a call may only look at has changed");
 }
 
+static size_t get_list_length(void)
+{
+    size_t length = get_length();
+
+    if (length > MOST_NUMBERS)
+        stop("a list is too long");
+    return length;
+}
+
 static void get_list(list *l)
 {
     size_t i;
 
-    l->length = get_length();
-    if (l->length > MOST_NUMBERS)
-        stop("a list is too long");
+    l->length = get_list_length();
     for (i = 0; i < l->length; i++)
         l->numbers[i] = get_long(8);
     memcpy(l->kept, l->numbers, 8 * l->length);
@@ -193,6 +207,22 @@ static void hold_list(const list *l)
 {
     if (memcmp(l->numbers, l->kept, 8 * l->length) != 0)
         stop("a list has changed");
+}
+
+static void get_frames(frame_list *l)
+{
+    size_t i;
+
+    l->length = get_list_length();
+    for (i = 0; i < l->length; i++)
+        l->numbers[i] = get(4);
+    memcpy(l->kept, l->numbers, 4 * l->length);
+}
+
+static void hold_frames(const frame_list *l)
+{
+    if (memcmp(l->numbers, l->kept, 4 * l->length) != 0)
+        stop("the frames have changed");
 }
 
 /* Takes a lent buffer, and lays canaries around it. */
@@ -227,12 +257,14 @@ static void serve_read(void)
 {
     static given payload;
     static lent records, trim;
+    uint32_t frame;
     skriemelt_read_answer a;
 
     get_given(&payload);
+    frame = get(4);
     get_lent(&records);
     get_lent(&trim);
-    a = skriemelt_read(payload.bytes, payload.length, records.bytes, records.length, trim.bytes, trim.length);
+    a = skriemelt_read(payload.bytes, payload.length, frame, records.bytes, records.length, trim.bytes, trim.length);
     hold_given(&payload);
     put(a.place, 8);
     put(a.refusal, 1);
@@ -248,6 +280,7 @@ static void serve_batch(void)
 {
     static given store;
     static list starts, lengths;
+    static frame_list frames;
     static lent records, trims, answers;
     size_t record_slot, trim_slot;
     skriemelt_batch_answer a;
@@ -255,16 +288,18 @@ static void serve_batch(void)
     get_given(&store);
     get_list(&starts);
     get_list(&lengths);
+    get_frames(&frames);
     record_slot = get_long(8);
     trim_slot = get_long(8);
     get_lent(&records);
     get_lent(&trims);
     get_lent(&answers);
-    a = skriemelt_read_batch(store.bytes, store.length, starts.numbers, starts.length, lengths.numbers, lengths.length, record_slot, trim_slot,
-                             records.bytes, records.length, trims.bytes, trims.length, (skriemelt_read_answer *)(void *)answers.bytes, answers.length);
+    a = skriemelt_read_batch(store.bytes, store.length, starts.numbers, starts.length, lengths.numbers, lengths.length, frames.numbers, frames.length,
+                             record_slot, trim_slot, records.bytes, records.length, trims.bytes, trims.length, (skriemelt_read_answer *)(void *)answers.bytes, answers.length);
     hold_given(&store);
     hold_list(&starts);
     hold_list(&lengths);
+    hold_frames(&frames);
     put(a.place, 8);
     put(a.refusal, 1);
     put_lent(&records);
@@ -278,12 +313,13 @@ static void serve_write(void)
     static lent payload;
     skriemelt_programme programme = get_programme();
     skriemelt_timing timing = get_timing();
+    uint32_t frame = get(4);
     skriemelt_write_answer a;
 
     get_given(&records);
     get_given(&trim);
     get_lent(&payload);
-    a = skriemelt_write(programme, timing, records.bytes, records.length, trim.bytes, trim.length, payload.bytes, payload.length);
+    a = skriemelt_write(programme, timing, frame, records.bytes, records.length, trim.bytes, trim.length, payload.bytes, payload.length);
     hold_given(&records);
     hold_given(&trim);
     put(a.place, 8);

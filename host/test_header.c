@@ -55,8 +55,8 @@ static void places(void)
     a.programme.objects = 3;
     a.timing.blocks = 2;
     check(skriemelt_record(&a, records, 0, 0) == records, "the first record");
-    check(skriemelt_record(&a, records, 1, 0) == records + 48, "objects outermost");
-    check(skriemelt_record(&a, records, 2, 1) == records + 120, "the last record");
+    check(skriemelt_record(&a, records, 1, 0) == records + 64, "objects outermost");
+    check(skriemelt_record(&a, records, 2, 1) == records + 160, "the last record");
     check(skriemelt_record(&a, records, 3, 0) == NULL && skriemelt_record(&a, records, 0, 2) == NULL, "no such record");
     a.timing.blocks = 0;
     check(skriemelt_record(&a, records, 0, 0) == NULL, "no blocks, no record");
@@ -85,6 +85,33 @@ static void numbers(void)
     check(near(skriemelt_z(r), -1 - 2.0 / 75), "code 3 takes two fifths");
     r[SKRIEMELT_RECORD_PRECISE_X] = 2;
     check(near(skriemelt_x(r), 31.0 / 62 - 1.0 / 310), "code 2 takes one fifth");
+}
+
+/* The time that a set lays is the one that is read, and no other byte changes. */
+static void one_time(uint32_t frame, uint16_t start, uint64_t time, const uint8_t *bytes)
+{
+    uint8_t r[SKRIEMELT_RECORD_STRIDE];
+    unsigned i;
+
+    memset(r, 0xA5, sizeof r);
+    skriemelt_set_time(r, frame, start);
+    check(memcmp(r + SKRIEMELT_RECORD_TIME, bytes, 8) == 0, "a time's bytes");
+    check(skriemelt_time(r) == time, "a time");
+    for (i = 0; i < SKRIEMELT_RECORD_TIME; i++)
+        check(r[i] == 0xA5, "a time leaves the other bytes");
+}
+
+/* 7 * 1,536 + 32 is 10,784, or 0x2A20; 4,294,967,295 * 1,536 + 2,047 is 0x600000001FF. */
+static void times(void)
+{
+    static const uint8_t none[8] = {0}, start[8] = {0x20}, seventh[8] = {0x20, 0x2A}, last[8] = {0xFF, 0x01, 0, 0, 0, 0x06};
+    static const uint8_t every[SKRIEMELT_RECORD_STRIDE] = {[SKRIEMELT_RECORD_TIME] = 1, 2, 3, 4, 5, 6, 7, 8};
+
+    one_time(0, 0, 0, none);
+    one_time(0, 32, 32, start);
+    one_time(7, 32, 10784, seventh);
+    one_time(UINT32_MAX, 2047, UINT64_C(0x600000001FF), last);
+    check(skriemelt_time(every) == UINT64_C(0x0807060504030201), "least byte first");
 }
 
 static void channels(void)
@@ -137,10 +164,11 @@ int main(void)
     check(is_refused(0) == 0 && is_refused(18) == 1 && is_refused(14) == -1, "a switch over the enum");
     places();
     numbers();
+    times();
     channels();
     counts();
     check(SKRIEMELT_VERSION == 1000 * SKRIEMELT_VERSION_MAJOR + SKRIEMELT_VERSION_MINOR, "the version's parts");
-    check(strcmp(SKRIEMELT_VERSION_STRING, "2.3") == 0, "the version's text");
+    check(strcmp(SKRIEMELT_VERSION_STRING, "3.0") == 0, "the version's text");
 #ifndef SKRIEMELT_TOO_LONG
     check(0, "the names are macros too");
 #endif

@@ -57,7 +57,10 @@ int main(void)
     sizes();
     offsets();
     check(skriemelt_version() == SKRIEMELT_VERSION, "version");
-    check(SKRIEMELT_RECORD_STRIDE == SKRIEMELT_RECORD_PRECISE_Z + 1, "a record ends with the code of z");
+    check(SKRIEMELT_RECORD_BYTES == SKRIEMELT_RECORD_PRECISE_Z + 1, "what the payload gives ends with the code of z");
+    check(SKRIEMELT_RECORD_TIME == SKRIEMELT_RECORD_BYTES, "the time follows");
+    check(SKRIEMELT_RECORD_STRIDE == SKRIEMELT_RECORD_TIME + sizeof(uint64_t), "a record ends with its time");
+    check(SKRIEMELT_MOST_RECORD_BYTES >= SKRIEMELT_RECORD_STRIDE * SKRIEMELT_MOST_OBJECTS * SKRIEMELT_MOST_BLOCKS, "the most records");
     check(SKRIEMELT_TRIM_CONFIG == SKRIEMELT_TRIM_GLOBAL_MODE + 1, "the configurations follow the modes");
     check(SKRIEMELT_TRIM_CONFIG_STRIDE == SKRIEMELT_TRIM_CONFIG_AMOUNT_LIS + 1, "a configuration ends with the amount of the listener plane");
     check(SKRIEMELT_TRIM_PER_OBJECT == SKRIEMELT_TRIM_CONFIG + SKRIEMELT_TRIM_CONFIG_STRIDE * SKRIEMELT_TRIM_CONFIGS, "nine configurations");

@@ -1,6 +1,7 @@
 /*
- * Every vector of crates/vectors/data/payloads through skriemelt_read, printed as the listing program prints it and with a line for a trim table that is
- * not all 0, against crates/vectors/stdout; the tables of each accepted one through skriemelt_write, against crates/vectors/data/written, and read back.
+ * Every vector of crates/vectors/data/payloads through skriemelt_read with frame 0, printed as the listing program prints it and with a line for a trim table that is
+ * not all 0, against crates/vectors/stdout; the tables of each accepted one through skriemelt_write, against crates/vectors/data/written, and read back. The same in the last
+ * frame of all: other times, the same form.
  * Arguments: the payloads, the expected lines, the written forms. The last file has an entry for each payload, in the same order: two bytes of length and
  * the form; the length is 0 where the payload is refused, has the reserved content flag set, or has a form of more than 4,096 bytes.
  */
@@ -162,18 +163,46 @@ static size_t trim_bytes(const tables *t)
 }
 
 /* The written form, read, gives the tables that it was written from, and no unknown element. */
-static void read_back(const tables *t, const uint8_t *form, size_t length)
+static void read_back(const tables *t, uint32_t frame, const uint8_t *form, size_t length)
 {
     static uint8_t again[SKRIEMELT_MOST_RECORD_BYTES], again_trim[SKRIEMELT_MOST_TRIM_BYTES];
     const skriemelt_read_answer *a = &t->answer;
     size_t bytes = (size_t)SKRIEMELT_RECORD_STRIDE * a->programme.objects * a->timing.blocks;
-    skriemelt_read_answer b = skriemelt_read(form, length, again, sizeof again, again_trim, sizeof again_trim);
+    skriemelt_read_answer b = skriemelt_read(form, length, frame, again, sizeof again, again_trim, sizeof again_trim);
 
     check(b.refusal == SKRIEMELT_ACCEPTED && b.place == 0 && b.unknown == 0, "the written form is accepted");
     check(same_programme(&a->programme, &b.programme), "the written programme is read back");
     check(same_timing(&a->timing, &b.timing), "the written timing is read back");
     check(memcmp(t->records, again, bytes) == 0, "the written records are read back");
     check(memcmp(t->trim, again_trim, trim_bytes(t)) == 0, "the written trim table is read back");
+}
+
+/* In another frame the payload gives the same but for the times, and its tables have the same form. */
+static void in_other_frame(const tables *t, const uint8_t *payload, size_t n, const uint8_t *form, size_t form_bytes)
+{
+    static tables other;
+    static uint8_t again[SKRIEMELT_MOST_PAYLOAD_BYTES];
+    const skriemelt_read_answer *a = &t->answer, *b = &other.answer;
+    unsigned blocks = a->timing.blocks, count = (unsigned)a->programme.objects * blocks, i;
+    skriemelt_write_answer w;
+
+    other.answer = skriemelt_read(payload, n, UINT32_MAX, other.records, sizeof other.records, other.trim, sizeof other.trim);
+    check(b->refusal == a->refusal && b->unknown == a->unknown && same_programme(&a->programme, &b->programme) && same_timing(&a->timing, &b->timing), "another frame's answer");
+    check(memcmp(t->trim, other.trim, trim_bytes(t)) == 0, "another frame's trim table");
+    for (i = 0; i < count; i++) {
+        const uint8_t *r = t->records + SKRIEMELT_RECORD_STRIDE * i, *s = other.records + SKRIEMELT_RECORD_STRIDE * i;
+
+        check(memcmp(r, s, SKRIEMELT_RECORD_BYTES) == 0, "another frame's record");
+        check(skriemelt_time(r) == a->timing.updates[i % blocks].start, "a time in frame 0");
+        check(skriemelt_time(s) == UINT64_C(4294967295) * 1536 + a->timing.updates[i % blocks].start, "a time in the last frame");
+    }
+    if (form_bytes == 0)
+        return;
+    w = skriemelt_write(b->programme, b->timing, UINT32_MAX, other.records, sizeof other.records, other.trim, sizeof other.trim, again, sizeof again);
+    check(w.refusal == SKRIEMELT_ACCEPTED && w.length == form_bytes && memcmp(again, form, form_bytes) == 0, "the form does not depend on the frame");
+    read_back(&other, UINT32_MAX, again, form_bytes);
+    w = skriemelt_write(b->programme, b->timing, 0, other.records, sizeof other.records, other.trim, sizeof other.trim, again, sizeof again);
+    check(count == 0 ? w.refusal == SKRIEMELT_ACCEPTED : w.refusal == SKRIEMELT_NOT_VALID && w.place == 1, "times of another frame are not written");
 }
 
 /* The lines of a form that was written and read back. */
@@ -196,7 +225,7 @@ static void write_vector(const tables *t, const uint8_t *want, size_t want_bytes
 
     if (form == NULL)
         exit(2);
-    w = skriemelt_write(a->programme, a->timing, t->records, sizeof t->records, t->trim, sizeof t->trim, form, want_bytes);
+    w = skriemelt_write(a->programme, a->timing, 0, t->records, sizeof t->records, t->trim, sizeof t->trim, form, want_bytes);
     if (a->programme.content & SKRIEMELT_CONTENT_RESERVED) {
         check(want_bytes == 0 && w.refusal == SKRIEMELT_NOT_VALID && w.place == 0 && w.length == 0, "the reserved content flag is not written");
     } else if (want_bytes == 0) {
@@ -206,7 +235,7 @@ static void write_vector(const tables *t, const uint8_t *want, size_t want_bytes
         check(w.refusal == SKRIEMELT_ACCEPTED && w.place == 0 && w.length == want_bytes, "the written form's length");
         check(w.refusal != SKRIEMELT_ACCEPTED || memcmp(form, want, want_bytes) == 0, "the written form");
         if (w.refusal == SKRIEMELT_ACCEPTED)
-            read_back(t, form, want_bytes);
+            read_back(t, 0, form, want_bytes);
         say_form(form, want_bytes);
     }
     free(form);
@@ -237,8 +266,7 @@ static void one_vector(unsigned number, const uint8_t *bytes, size_t n, const ui
         exit(2);
     memcpy(payload, bytes, n);
     memset(&t, 0xA5, sizeof t);
-    t.answer = skriemelt_read(payload, n, t.records, sizeof t.records, t.trim, sizeof t.trim);
-    free(payload);
+    t.answer = skriemelt_read(payload, n, 0, t.records, sizeof t.records, t.trim, sizeof t.trim);
     say("vector=%u\nrefusal=%u\nplace=%llu\n", number, t.answer.refusal, (unsigned long long)t.answer.place);
     if (t.answer.refusal == SKRIEMELT_PAST_PAYLOAD)
         say("missing=%lu\n", (unsigned long)t.answer.missing);
@@ -246,9 +274,11 @@ static void one_vector(unsigned number, const uint8_t *bytes, size_t n, const ui
         accepted(&t.answer, t.records);
         say_trim(t.trim, trim_bytes(&t));
         write_vector(&t, form, form_bytes);
+        in_other_frame(&t, payload, n, form, form_bytes);
     } else {
         check(form_bytes == 0, "no form of a refused vector is expected");
     }
+    free(payload);
 }
 
 int main(int argc, char **argv)

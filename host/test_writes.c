@@ -1,6 +1,6 @@
 /*
  * skriemelt_write: forms worked out by hand from the clauses, tables that are not valid, buffers of every length about the needed one with canaries
- * around them, unaligned pointers, the limit of 4,096 bytes and the longest tables of all.
+ * around them, unaligned pointers, the limit of 4,096 bytes and the longest tables of all, frames and times.
  */
 #include "bits.h"
 #include "lent.h"
@@ -11,6 +11,7 @@
 typedef struct tables {
     skriemelt_programme programme;
     skriemelt_timing timing;
+    uint32_t frame;
     uint8_t records[SKRIEMELT_MOST_RECORD_BYTES], trim[SKRIEMELT_MOST_TRIM_BYTES];
     size_t record_bytes, trim_bytes;
 } tables;
@@ -22,11 +23,11 @@ static uint8_t lent_bytes[SIDE + 16 + MOST_ROOM + SIDE];
 static const uint8_t defaults[22] = {0, 0, 31, 31, 64, 0, 0, 0, 0, 0, 1};
 
 /* An active dynamic record of which each field takes its most bits, without extended data. */
-static const uint8_t heavy[24] = {1, 2, 65, 31, 62, 0, 49, 17, 1, 2, 3, 5, 0, 1, 7, 3, 1};
+static const uint8_t heavy[SKRIEMELT_RECORD_BYTES] = {1, 2, 65, 31, 62, 0, 49, 17, 1, 2, 3, 5, 0, 1, 7, 3, 1};
 
 static skriemelt_write_answer write_given(uint8_t *payload, size_t room)
 {
-    return skriemelt_write(given.programme, given.timing, given.records, given.record_bytes, given.trim, given.trim_bytes, payload, room);
+    return skriemelt_write(given.programme, given.timing, given.frame, given.records, given.record_bytes, given.trim, given.trim_bytes, payload, room);
 }
 
 static uint8_t *record_at(size_t index)
@@ -39,7 +40,16 @@ static uint8_t *config_at(size_t index)
     return given.trim + SKRIEMELT_TRIM_CONFIG + SKRIEMELT_TRIM_CONFIG_STRIDE * index;
 }
 
-/* Dynamic objects only, the first an LFE object if lfe is 1; every record inactive; no trim. */
+/* Lays the times of the records that the tables need, for the frame and the timing that are given. */
+static void give_times(void)
+{
+    size_t i, count = (size_t)given.programme.objects * given.timing.blocks;
+
+    for (i = 0; i < count; i++)
+        skriemelt_set_time(record_at(i), given.frame, given.timing.updates[i % given.timing.blocks].start);
+}
+
+/* Dynamic objects only, the first an LFE object if lfe is 1; every record inactive; no trim; frame 0 and starts 0. */
 static void give_inactive(uint8_t objects, uint8_t lfe, uint8_t blocks)
 {
     size_t i, count = (size_t)objects * blocks;
@@ -95,7 +105,7 @@ static void all_rooms(const uint8_t *form, size_t length, const char *what)
         trim_skew = (3 * skew + 1) % 9;
         memcpy(shifted + skew, given.records, given.record_bytes);
         memcpy(shifted_trim + trim_skew, given.trim, given.trim_bytes);
-        a = skriemelt_write(given.programme, given.timing, shifted + skew, given.record_bytes, shifted_trim + trim_skew, given.trim_bytes, payload, length);
+        a = skriemelt_write(given.programme, given.timing, given.frame, shifted + skew, given.record_bytes, shifted_trim + trim_skew, given.trim_bytes, payload, length);
         check(a.refusal == SKRIEMELT_ACCEPTED && a.length == length && memcmp(payload, form, length) == 0, "unaligned");
         check(untouched(lent_bytes, skew, length, length), "unaligned: bytes around the buffer");
         check(memcmp(shifted + skew, given.records, given.record_bytes) == 0, "the records are only looked at");
@@ -113,7 +123,7 @@ static void exact(const uint8_t *form, size_t length)
         exit(2);
     memcpy(records, given.records, given.record_bytes);
     memcpy(trim, given.trim, given.trim_bytes);
-    a = skriemelt_write(given.programme, given.timing, records, given.record_bytes, trim, given.trim_bytes, payload, length);
+    a = skriemelt_write(given.programme, given.timing, given.frame, records, given.record_bytes, trim, given.trim_bytes, payload, length);
     check(a.refusal == SKRIEMELT_ACCEPTED && memcmp(payload, form, length) == 0, "exact lengths");
     free(records);
     free(trim);
@@ -127,18 +137,18 @@ static void nulls(void)
     skriemelt_write_answer a;
 
     give_inactive(1, 0, 0);
-    a = skriemelt_write(given.programme, given.timing, NULL, 0, given.trim, given.trim_bytes, NULL, 0);
+    a = skriemelt_write(given.programme, given.timing, 0, NULL, 0, given.trim, given.trim_bytes, NULL, 0);
     check(a.refusal == SKRIEMELT_NO_FIT && a.place == 2 && a.length == 0, "no records, no buffer");
-    a = skriemelt_write(given.programme, given.timing, NULL, 0, NULL, 0, NULL, 0);
+    a = skriemelt_write(given.programme, given.timing, 0, NULL, 0, NULL, 0, NULL, 0);
     check(a.refusal == SKRIEMELT_NOT_VALID && a.place == 1 && a.length == 0, "no trim table, and one is needed");
     all_rooms(one, 2, "one object without blocks");
     given.programme.lfe = 1;
     accepted(one_lfe, 2, 0, 2, "one LFE object without blocks");
     give_inactive(1, 0, 1);
-    a = skriemelt_write(given.programme, given.timing, NULL, 0, NULL, 0, NULL, 0);
+    a = skriemelt_write(given.programme, given.timing, 0, NULL, 0, NULL, 0, NULL, 0);
     check(a.refusal == SKRIEMELT_NOT_VALID && a.place == 0 && a.length == 0, "no records, and some needed");
     memset(&given, 0, sizeof given);
-    a = skriemelt_write(given.programme, given.timing, NULL, 0, NULL, 0, NULL, 0);
+    a = skriemelt_write(given.programme, given.timing, 0, NULL, 0, NULL, 0, NULL, 0);
     check(a.refusal == SKRIEMELT_NOT_VALID && a.place == 0 && a.length == 0, "nothing at all");
 }
 
@@ -163,6 +173,7 @@ static void give_updates(void)
                                                                     {101, 1},   {133, 2047}, {165, 32},  {1989, 1000}};
 
     memcpy(given.timing.updates, updates, sizeof updates);
+    give_times();
 }
 
 /*
@@ -213,7 +224,7 @@ static void every_byte(void)
     memset(record_at(1), 0xEE, 100);
     given.record_bytes += 100;
     accepted(form, length, 0, MOST_ROOM, "bytes behind the records are not looked at");
-    given.record_bytes = 23;
+    given.record_bytes = 31;
     refused(SKRIEMELT_NOT_VALID, 0, MOST_ROOM, "one record byte too few");
 }
 
@@ -266,19 +277,20 @@ static void give_valid(void)
         given.timing.updates[block].start = (uint16_t)(7 + 32 * block);
     memcpy(record_at(7), heavy, sizeof heavy);
     memcpy(given.trim, every_trim, sizeof every_trim);
+    give_times();
 }
 
 /* What the refused tables below are made from is read back as it was given. */
 static void valid_tables(void)
 {
-    uint8_t payload[256], records[24 * 9], trim[97];
+    uint8_t payload[256], records[32 * 9], trim[97];
     skriemelt_write_answer a;
     skriemelt_read_answer back;
 
     give_valid();
     a = write_given(payload, sizeof payload);
     check(a.refusal == SKRIEMELT_ACCEPTED && a.place == 0 && a.length > 0, "valid tables");
-    back = skriemelt_read(payload, a.length, records, sizeof records, trim, sizeof trim);
+    back = skriemelt_read(payload, a.length, given.frame, records, sizeof records, trim, sizeof trim);
     check(back.refusal == SKRIEMELT_ACCEPTED && back.unknown == 0, "valid tables, read back");
     check(back.programme.objects == 3 && back.programme.lfe == 1 && back.timing.blocks == 3 && back.timing.updates[2].start == 71, "their numbers");
     check(memcmp(records, given.records, sizeof records) == 0, "their records");
@@ -340,7 +352,8 @@ static void bad_timings(void)
     BAD(0, given.timing.updates[1].ramp = 2049);
     BAD(0, given.timing.updates[7].start = 7);
     BAD(0, given.timing.updates[7].ramp = 1);
-    BAD(0, given.record_bytes = 24 * 9 - 1);
+    BAD(0, given.record_bytes = 32 * 9 - 1);
+    BAD(0, given.record_bytes = 24 * 9);
     BAD(0, given.record_bytes = 0);
 }
 
@@ -372,6 +385,63 @@ static void bad_records(void)
     BAD(8, record_at(7)[SKRIEMELT_RECORD_PRECISE] = 8);
     BAD(8, record_at(7)[SKRIEMELT_RECORD_PRECISE_X] = 1);
     BAD(2, (record_at(7)[SKRIEMELT_RECORD_ZONE] = 6, record_at(1)[SKRIEMELT_RECORD_SNAP] = 1));
+}
+
+/* The starts are 7, 39 and 71; the time of record 4 is that of block 1. A timing that is valid by itself may give other times than the records have. */
+static void bad_times(void)
+{
+    unsigned byte;
+
+    for (byte = SKRIEMELT_RECORD_TIME; byte < SKRIEMELT_RECORD_STRIDE; byte++) {
+        BAD(1, record_at(0)[byte] ^= 1);
+        BAD(5, record_at(4)[byte] ^= 0x80);
+        BAD(9, record_at(8)[byte] ^= 0xFF);
+    }
+    BAD(1, given.frame = 1);
+    BAD(1, given.frame = UINT32_MAX);
+    BAD(5, skriemelt_set_time(record_at(4), 0, 7));
+    BAD(5, skriemelt_set_time(record_at(4), 1, 39));
+    BAD(5, memset(record_at(4) + SKRIEMELT_RECORD_TIME, 0, 8));
+    BAD(2, given.timing.updates[1].start = 7);
+    BAD(3, given.timing.updates[2].start = 2023);
+}
+
+/* The first record that is bad counts, by its own bytes or by its time; both come before the trim table. */
+static void bad_records_and_times(void)
+{
+    BAD(3, (record_at(2)[SKRIEMELT_RECORD_GAIN] = 1, record_at(7)[SKRIEMELT_RECORD_TIME] ^= 1));
+    BAD(3, (record_at(2)[SKRIEMELT_RECORD_TIME] ^= 1, record_at(7)[SKRIEMELT_RECORD_GAIN] = 66));
+    BAD(8, (record_at(7)[SKRIEMELT_RECORD_TIME] ^= 1, record_at(7)[SKRIEMELT_RECORD_GAIN] = 66));
+    BAD(1, (given.frame = 1, record_at(7)[SKRIEMELT_RECORD_GAIN] = 66));
+    BAD(9, (record_at(8)[SKRIEMELT_RECORD_TIME] ^= 1, given.trim[SKRIEMELT_TRIM_PRESENT] = 2));
+    BAD(0, (record_at(0)[SKRIEMELT_RECORD_TIME] ^= 1, given.timing.updates[7].ramp = 1));
+    BAD(0, (record_at(0)[SKRIEMELT_RECORD_TIME] ^= 1, given.record_bytes = 32 * 9 - 1));
+}
+
+/* The payload does not depend on the frame. Records of frame 7 are not those of frame 8, and without blocks the frame is not looked at. */
+static void frames(void)
+{
+    static const uint32_t numbers[5] = {1, 7, 8, 2796203, UINT32_MAX};
+    uint8_t form[256], one[2] = {0x01, 0x00};
+    skriemelt_write_answer a;
+    size_t i;
+
+    give_valid();
+    a = write_given(form, sizeof form);
+    check(a.refusal == SKRIEMELT_ACCEPTED, "valid tables in frame 0");
+    for (i = 0; i < 5; i++) {
+        given.frame = numbers[i];
+        refused(SKRIEMELT_NOT_VALID, 1, MOST_ROOM, "the records of another frame");
+        give_times();
+        accepted(form, a.length, 0, MOST_ROOM, "the same payload in every frame");
+    }
+    record_at(1)[SKRIEMELT_RECORD_TIME]++;
+    refused(SKRIEMELT_NOT_VALID, 2, MOST_ROOM, "the time of record 1");
+    give_inactive(1, 0, 0);
+    for (i = 0; i < 5; i++) {
+        given.frame = numbers[i];
+        accepted(one, 2, 0, 2, "no blocks, any frame");
+    }
 }
 
 /* Nine records: a bad trim table has place 10. Configurations 0 to 8 are default, disabled, nothing, centre, surround, height, tb, lis, all of them. */
@@ -464,7 +534,7 @@ static void limit(void)
     a = write_given(payload, 4096);
     check(a.refusal == SKRIEMELT_ACCEPTED && a.place == 0 && a.length == 4096, "a form of 4,096 bytes");
     check(untouched(lent_bytes, 0, 4096, 4096), "bytes around a form of 4,096 bytes");
-    back = skriemelt_read(payload, 4096, records, sizeof records, trim, sizeof trim);
+    back = skriemelt_read(payload, 4096, given.frame, records, sizeof records, trim, sizeof trim);
     check(back.refusal == SKRIEMELT_ACCEPTED && memcmp(records, given.records, given.record_bytes) == 0, "a form of 4,096 bytes, read back");
     check(memcmp(trim, given.trim, given.trim_bytes) == 0, "a form of 4,096 bytes, its trim table");
     refused(SKRIEMELT_NO_FIT, 4096, 4095, "4,096 bytes, room for 4,095");
@@ -492,6 +562,7 @@ static void longest(void)
         memcpy(record_at(i) + SKRIEMELT_RECORD_DIVERGENCE, extension, sizeof extension);
     for (i = 0; i < 8; i++)
         given.timing.updates[i].start = given.timing.updates[i].ramp = 1;
+    give_times();
     refused(SKRIEMELT_NO_FIT, 14457, MOST_ROOM, "dynamic objects only");
     given.programme.dynonly = 0;
     given.programme.content = SKRIEMELT_CONTENT_BED | SKRIEMELT_CONTENT_DYNAMIC;
@@ -522,6 +593,9 @@ int main(void)
     bad_programmes();
     bad_timings();
     bad_records();
+    bad_times();
+    bad_records_and_times();
+    frames();
     bad_trims();
     limit();
     longest();

@@ -4,26 +4,30 @@
  * The library is libhost.a (`rt staticlib host`). It needs memcpy and memset of the C library and nothing else: it has no state, takes no memory,
  * opens nothing and never ends the program. Behind `make -C host install` it is libskriemelt: `pkg-config --cflags --libs skriemelt` for the shared library,
  * `pkg-config --cflags --libs skriemelt-static` for the archive. Without an install link with target/staticlib/libhost.a. What stands here as a function with a
- * body is small, reads what it is given and nothing else, is not in the library and not part of what is proved.
+ * body is small, works on what it is given and nothing else, is not in the library and not part of what is proved.
  *
  * Slices. A slice is passed as two arguments: a pointer to its first byte, and its length in bytes. A pointer with length 0 may be NULL. A pointer with a
  * length above 0 must point to that many bytes; it needs no alignment. Bytes of every sort are fine in a payload, in records and in a trim table, and every
  * length is fine for them. What a call fills must not overlap any other slice of that call. The lists of a batch are slices of numbers: their length is a
- * count, and they are aligned as arrays of uint64_t are.
+ * count, and they are aligned as arrays of their numbers are.
  *
  * Tables. The programme and the timing are passed and answered by value. Values of every sort are fine in them.
  *
  * Refusals. A refused call leaves every byte of its lent buffers (read: the records and the trim table, batch: these of all entries and the answers, write:
  * the payload, listing: the text) as it came, and all fields of its answer but refusal and place, and with SKRIEMELT_PAST_PAYLOAD the missing bits, are 0. An
- * accepted read writes the first 24 * objects * blocks bytes of the record buffer, the first 94 + objects bytes of the trim buffer, and no others; an accepted write writes the first
+ * accepted read writes the first 32 * objects * blocks bytes of the record buffer, the first 94 + objects bytes of the trim buffer, and no others; an accepted write writes the first
  * `length` bytes of its buffer and no others. What a batch writes is said at its call.
  *
- * Threads. Every call works on its arguments and its own stack alone (a read: about 32 kB, a batch: about 35 kB, a write: about 1 kB, a listing: about 64 kB). Calls may run at once in
+ * Threads. Every call works on its arguments and its own stack alone (a read: about 32 kB, a batch: about 35 kB, a write: about 1 kB, a listing: about 75 kB). Calls may run at once in
  * several threads, as long as no two are lent the same buffer to be filled. What a call only looks at (read: the payload, batch: the store and the lists, write: the
  * records and the trim table, listing: the payload) may be shared.
  *
  * There and back. A payload that is read and written again may have other bytes: the written form is the one form of the tables, and what is not in the tables
  * (unknown elements, reserved data, alternate ids, how a value was coded) is gone. Read again, it gives the same tables and no unknown element.
+ *
+ * Frames. A payload belongs to one frame of the stream, and does not say which: the caller gives the frame's number, counted from 0; every number is fine. A frame is SKRIEMELT_FRAME_SAMPLES
+ * samples. Each record holds its absolute time, frame * SKRIEMELT_FRAME_SAMPLES + the start of its block; nothing else of an answer depends on the frame. With frame 0 the times are
+ * counted from the payload's own first sample.
  *
  * Bytes between the fields of an answer by value (padding) carry nothing: compare field by field. In the answers of a batch they are 0.
  */
@@ -39,10 +43,10 @@ extern "C" {
 #endif
 
 /* The version of this interface: a thousand times the major number, plus the minor. A program built for a lower minor number of the same major one still works. */
-#define SKRIEMELT_VERSION 2003
-#define SKRIEMELT_VERSION_MAJOR 2
-#define SKRIEMELT_VERSION_MINOR 3
-#define SKRIEMELT_VERSION_STRING "2.3"
+#define SKRIEMELT_VERSION 3000
+#define SKRIEMELT_VERSION_MAJOR 3
+#define SKRIEMELT_VERSION_MINOR 0
+#define SKRIEMELT_VERSION_STRING "3.0"
 
 /* A result that must not be dropped: the refusal stands in it. */
 #if defined(__GNUC__)
@@ -64,13 +68,16 @@ extern "C" {
 
 /* Limits. */
 #define SKRIEMELT_MOST_PAYLOAD_BYTES 4096 /* a longer payload is refused with 1, a longer written form with 11 */
-#define SKRIEMELT_MOST_RECORD_BYTES 30720 /* a buffer of this length holds the records of every payload */
+#define SKRIEMELT_MOST_RECORD_BYTES 40960 /* a buffer of this length holds the records of every payload */
 #define SKRIEMELT_MOST_TRIM_BYTES 253     /* the trim table of every payload fits */
 #define SKRIEMELT_MOST_OBJECTS 159
 #define SKRIEMELT_MOST_BLOCKS 8
 #define SKRIEMELT_MOST_BEDS 9
 #define SKRIEMELT_MOST_UNKNOWN 46
-#define SKRIEMELT_MOST_TEXT_BYTES 80000   /* the listing of every payload fits */
+#define SKRIEMELT_MOST_TEXT_BYTES 100000  /* the listing of every payload fits */
+
+/* Samples of a frame. A block may start past its end: that start is not folded into the next frame. */
+#define SKRIEMELT_FRAME_SAMPLES 1536
 
 /*
  * Refusals. Where it says "bit", the place is a bit position counted from 0 at the top bit of the payload's first byte. A read is refused with 1 to 9, a write with
@@ -89,8 +96,8 @@ typedef enum skriemelt_refusal {
     SKRIEMELT_EXTENDED_EARLY = 7,  /* an extended object element before any object element; place: first bit of its id */
     SKRIEMELT_PAST_ELEMENT = 8,    /* a field of a known element passes the element's declared end; place: first bit of that field */
     SKRIEMELT_NO_ROOM = 9,         /* the record buffer is too short, or, if that is not, the trim buffer; place: bytes needed */
-    SKRIEMELT_NOT_VALID = 10,      /* not valid: programme, timing or too few record bytes, place 0; a record, place: 1 + index of the first bad one;
-                                      the trim table or too few bytes of it, place: 1 + number of records */
+    SKRIEMELT_NOT_VALID = 10,      /* not valid: programme, timing or too few record bytes, place 0; a record, by its own bytes or by its time, place: 1 + index of
+                                      the first bad one; the trim table or too few bytes of it, place: 1 + number of records */
     SKRIEMELT_NO_FIT = 11,         /* the form is longer than the payload buffer or 4,096 bytes; place: bytes needed */
     SKRIEMELT_OUTSIDE = 12,        /* start and length leave the store; place: the start, in bytes */
     SKRIEMELT_LISTS = 13,          /* the lists differ in length, or slots or answers of all entries do not fit; place: the number of starts */
@@ -120,11 +127,13 @@ typedef enum skriemelt_refusal {
  *
  * Axes (4.2 of the standard). In the room, without the screen flag: x from 0 at the left wall to 1 at the right, y from 0 at the front wall to 1 at the back, z from -1 at the floor over
  * 0 at the listener to 1 at the ceiling. With the screen flag x and z run over the screen: x from its left edge to its right, z from its bottom edge to its top.
- * Width lies along x, depth along y, height along z. A bed or ISF object has no position of its own: its bytes from x on are the defaults.
+ * Width lies along x, depth along y, height along z. A bed or ISF object has no position of its own: its bytes from x up to its time are the defaults.
  *
- * A record's bytes:
+ * A record has SKRIEMELT_RECORD_STRIDE bytes. The first SKRIEMELT_RECORD_BYTES of them the payload gives, one byte each; the others are the record's time, which every
+ * record has, an inactive one too. Places in a record:
  */
-#define SKRIEMELT_RECORD_STRIDE 24
+#define SKRIEMELT_RECORD_STRIDE 32           /* bytes from one record to the next */
+#define SKRIEMELT_RECORD_BYTES 24            /* those of them that the payload gives; the time follows */
 #define SKRIEMELT_RECORD_ACTIVE 0            /* 1 active, 0 not */
 #define SKRIEMELT_RECORD_CLASS 1             /* one of SKRIEMELT_CLASS_.. */
 #define SKRIEMELT_RECORD_GAIN 2              /* gain in dB plus 50, 1 to 65: -49 to +15 dB; 0 is minus infinity (skriemelt_gain_db) */
@@ -150,6 +159,7 @@ typedef enum skriemelt_refusal {
 #define SKRIEMELT_RECORD_PRECISE_X 21        /* code of x, 0 to 3: 1, 2, -1, -2 fifths of a 62nd; 0 also where the presence bit is not set */
 #define SKRIEMELT_RECORD_PRECISE_Y 22        /* code of y, likewise */
 #define SKRIEMELT_RECORD_PRECISE_Z 23        /* code of z, 0 to 3: 1, 2, -1, -2 fifths of a 15th; likewise */
+#define SKRIEMELT_RECORD_TIME 24             /* eight bytes, least byte first: frame * SKRIEMELT_FRAME_SAMPLES + the start of the record's block, in samples (skriemelt_time) */
 
 #define SKRIEMELT_CLASS_BED 0
 #define SKRIEMELT_CLASS_ISF 1
@@ -281,16 +291,16 @@ SKRIEMELT_MUST_USE
 uint32_t skriemelt_version(void);
 
 /*
- * Reads one payload, already taken out of its EMDF container. The record buffer needs 24 * objects * blocks bytes, never more than
+ * Reads one payload, already taken out of its EMDF container, of a frame. The record buffer needs SKRIEMELT_RECORD_STRIDE * objects * blocks bytes, never more than
  * SKRIEMELT_MOST_RECORD_BYTES, the trim buffer SKRIEMELT_TRIM_FIXED + objects bytes, never more than SKRIEMELT_MOST_TRIM_BYTES, with or without a trim element;
  * they need not be cleared. Every input is answered: there is nothing to check beforehand.
  */
 SKRIEMELT_MUST_USE
-skriemelt_read_answer skriemelt_read(const uint8_t *payload, size_t payload_bytes, uint8_t *records, size_t records_bytes, uint8_t *trim, size_t trim_bytes);
+skriemelt_read_answer skriemelt_read(const uint8_t *payload, size_t payload_bytes, uint32_t frame, uint8_t *records, size_t records_bytes, uint8_t *trim, size_t trim_bytes);
 
 /*
  * Reads a shelf of payloads, n = starts_count of them, in one call. Payload i is bytes starts[i] to starts[i] + lengths[i] - 1 of the store, and is read as
- * skriemelt_read reads it by itself, into slot i of the records, slot i of the trim tables and answers[i]. Every input is answered: there is nothing to check
+ * skriemelt_read reads it by itself with frames[i], into slot i of the records, slot i of the trim tables and answers[i]. Every input is answered: there is nothing to check
  * beforehand, and no sum or product of what is given wraps around.
  *
  * Slots. Slot i of the records begins at byte i * record_slot and has record_slot bytes; likewise trim_slot bytes in trims. Each is the buffer of its entry: one
@@ -304,19 +314,26 @@ skriemelt_read_answer skriemelt_read(const uint8_t *payload, size_t payload_byte
  * them; of a refused entry nothing in either slot, and the entries behind it are read all the same. Nothing else: the rest of a slot, and what lies behind n slots
  * or n answers, stays. The call itself then answers SKRIEMELT_ACCEPTED with place 0.
  *
- * SKRIEMELT_LISTS with place n, before anything is read or written: lengths_count is not n, records_bytes is below n * record_slot, trims_bytes below n * trim_slot,
+ * Frames. They may repeat and stand in any order.
+ *
+ * SKRIEMELT_LISTS with place n, before anything is read or written: lengths_count or frames_count is not n, records_bytes is below n * record_slot, trims_bytes below n * trim_slot,
  * or answers_bytes below n * sizeof(skriemelt_read_answer). answers_bytes is in bytes, as the length of every lent buffer. n may be 0.
  *
  * Records, trims and answers must overlap neither one another nor the store or the lists; the store and the lists are only looked at.
  */
 SKRIEMELT_MUST_USE
 skriemelt_batch_answer skriemelt_read_batch(const uint8_t *store, size_t store_bytes, const uint64_t *starts, size_t starts_count, const uint64_t *lengths,
-                                            size_t lengths_count, size_t record_slot, size_t trim_slot, uint8_t *records, size_t records_bytes,
-                                            uint8_t *trims, size_t trims_bytes, skriemelt_read_answer *answers, size_t answers_bytes);
+                                            size_t lengths_count, const uint32_t *frames, size_t frames_count, size_t record_slot, size_t trim_slot,
+                                            uint8_t *records, size_t records_bytes, uint8_t *trims, size_t trims_bytes,
+                                            skriemelt_read_answer *answers, size_t answers_bytes);
 
 /*
- * Writes the payload of a programme, a timing, 24 * objects * blocks bytes of records and SKRIEMELT_TRIM_FIXED + objects bytes of a trim table: the one
- * form that the tables have. Read back, it gives the same tables and no unknown element. Every input is answered: there is nothing to check beforehand.
+ * Writes the payload of a programme, a timing, SKRIEMELT_RECORD_STRIDE * objects * blocks bytes of records and SKRIEMELT_TRIM_FIXED + objects bytes of a trim table:
+ * the one form that the tables have. Read back with the same frame, it gives the same tables and no unknown element. Every input is answered: there is nothing to
+ * check beforehand.
+ *
+ * Frame. The payload does not depend on it; it says which times the records must hold, those of a read with this frame. A record with another time is SKRIEMELT_NOT_VALID
+ * (skriemelt_set_time lays the right one). Without blocks it is not looked at.
  *
  * Records. They lie as a read leaves them. Bytes behind the last record are not looked at, so the buffer of a read can be passed with its whole length.
  * Without blocks no record is needed, and records may be NULL with length 0.
@@ -329,14 +346,14 @@ skriemelt_batch_answer skriemelt_read_batch(const uint8_t *store, size_t store_b
  *
  * Valid are the tables of every accepted payload with SKRIEMELT_CONTENT_RESERVED clear, and all others whose programme, timing, records and trim table each
  * could stem from such a payload: what is not carried is 0; the class of each record follows from the programme; all starts leave the same remainder by 32;
- * an inactive record holds the defaults behind its class (x and y 31, z 64, elevation flag 1, all else 0), a bed or ISF record from x on.
+ * an inactive record holds the defaults behind its class (x and y 31, z 64, elevation flag 1, all else 0), a bed or ISF record from x on, each up to its time.
  */
 SKRIEMELT_MUST_USE
-skriemelt_write_answer skriemelt_write(skriemelt_programme programme, skriemelt_timing timing, const uint8_t *records, size_t records_bytes,
+skriemelt_write_answer skriemelt_write(skriemelt_programme programme, skriemelt_timing timing, uint32_t frame, const uint8_t *records, size_t records_bytes,
                                        const uint8_t *trim, size_t trim_bytes, uint8_t *payload, size_t payload_bytes);
 
 /*
- * Lists one payload: the text of its listing, lines key=value, as the programs of this project print it. A payload that is refused has a listing too. No byte 0 ends the
+ * Lists one payload, read with frame 0: the text of its listing, lines key=value, as the programs of this project print it. A payload that is refused has a listing too. No byte 0 ends the
  * text: it has `length` bytes, never more than SKRIEMELT_MOST_TEXT_BYTES. A buffer that is too short is SKRIEMELT_SHORT_TEXT with the bytes needed as the place, so with text NULL and
  * length 0 the length can be asked for. Accepted, the text is the first bytes of the buffer, and no other byte changes. The buffer need not be cleared. Every input is answered: there is
  * nothing to check beforehand.
@@ -358,7 +375,7 @@ SKRIEMELT_INLINE const char *skriemelt_refusal_text(unsigned refusal)
     case SKRIEMELT_EXTENDED_EARLY: return "an extended object element comes before any object element";
     case SKRIEMELT_PAST_ELEMENT: return "a field passes the end that its element declares";
     case SKRIEMELT_NO_ROOM: return "the buffer for the records or for the trim table is too short";
-    case SKRIEMELT_NOT_VALID: return "the programme, the timing, a record or the trim table is not valid";
+    case SKRIEMELT_NOT_VALID: return "the programme, the timing, a record, its time or the trim table is not valid";
     case SKRIEMELT_NO_FIT: return "the written form is longer than its buffer or than 4,096 bytes";
     case SKRIEMELT_OUTSIDE: return "the payload does not lie within the store";
     case SKRIEMELT_LISTS: return "the lists of a batch differ in length, or its slots or answers do not fit their buffers";
@@ -373,6 +390,27 @@ SKRIEMELT_INLINE const uint8_t *skriemelt_record(const skriemelt_read_answer *an
     if (object >= answer->programme.objects || block >= answer->timing.blocks)
         return NULL;
     return records + SKRIEMELT_RECORD_STRIDE * ((size_t)object * answer->timing.blocks + block);
+}
+
+/* A record's time in samples from the first sample of frame 0: when its block starts. */
+SKRIEMELT_INLINE uint64_t skriemelt_time(const uint8_t *record)
+{
+    uint64_t time = 0;
+    unsigned i;
+
+    for (i = SKRIEMELT_RECORD_STRIDE; i > SKRIEMELT_RECORD_TIME; i--)
+        time = time << 8 | record[i - 1];
+    return time;
+}
+
+/* Lays the time of a record whose block starts at `start` of a frame, as a write with that frame needs it. */
+SKRIEMELT_INLINE void skriemelt_set_time(uint8_t *record, uint32_t frame, uint16_t start)
+{
+    uint64_t time = (uint64_t)SKRIEMELT_FRAME_SAMPLES * frame + start;
+    unsigned i;
+
+    for (i = SKRIEMELT_RECORD_TIME; i < SKRIEMELT_RECORD_STRIDE; i++, time >>= 8)
+        record[i] = (uint8_t)(time & 255);
 }
 
 /* A record's gain in dB; -HUGE_VAL for minus infinity. */

@@ -2,21 +2,25 @@
 
     import skriemelt
     try:
-        tables = skriemelt.read(payload)                  # bytes, bytearray or memoryview
+        tables = skriemelt.read(payload, frame=7)         # bytes, bytearray or memoryview; frame 0 if it is not given
     except skriemelt.Refused as refused:
         print(refused.number, refused.place, refused.meaning)
     for update in tables.timing.updates:
         print(update.start, update.ramp)                  # in samples
     record = tables.record(1, 0)                          # object 1, block 0
     print(record.gain_db, record.position, record.object_class, record.raw.hex())
+    print(record.time)                                    # 7 * 1,536 + the start of block 0, in samples
     payload = skriemelt.write(tables)                     # the one form that the tables have
-    answers = skriemelt.read_batch(store, [(0, 45), (45, 12)])  # Tables or Refused, in order
+    answers = skriemelt.read_batch(store, [(0, 45), (45, 12)], frames=[7, 8])  # Tables or Refused, in order
 
 Fields hold the numbers of include/skriemelt.h under its names, so that nothing is lost between a read and a write; properties say what they mean. Objects
 are frozen: `dataclasses.replace` gives changed ones. What the library reads is proved; this module hands it bytes and names what it answers.
 
+Tables have a frame, and each record in them the time of its block in that frame. Nobody needs to work times out: Tables give every record that is put into them its time, by their
+frame and timing, so that they can be made by hand, moved to another frame or given another timing with `dataclasses.replace`, and written. The payload does not depend on the frame.
+
 The library is looked for when the first call needs it. The environment variable SKRIEMELT_LIBRARY names it (a path, or a name for the loader); if that is
-not set, it is looked for beside this file, as libskriemelt.so.2 where the loader looks, and by ctypes.util.find_library. Its version must have the major
+not set, it is looked for beside this file, as libskriemelt.so.3 where the loader looks, and by ctypes.util.find_library. Its version must have the major
 number of INTERFACE and be INTERFACE at least; otherwise, and where there is none, LibraryError says what was looked for and found.
 
 Calls may run at once in several threads: nothing is kept between them but the loaded library. Bytes are used in place; a bytearray or a memoryview is copied first, so it may change during the call.
@@ -27,29 +31,33 @@ import ctypes
 import ctypes.util
 import enum
 import functools
+import itertools
 import operator
 import os
-from dataclasses import astuple, dataclass, fields
+from dataclasses import astuple, dataclass, field, fields, replace
 from typing import Any, Iterable, Iterator, List, Optional, Sequence, Tuple, Union
 
 __all__ = [
-    "Bed", "Content", "INTERFACE", "Library", "LibraryError", "MOST_BEDS", "MOST_BLOCKS", "MOST_OBJECTS", "MOST_PAYLOAD_BYTES", "MOST_RECORD_BYTES",
-    "MOST_TEXT_BYTES", "MOST_TRIM_BYTES", "MOST_UNKNOWN", "ObjectClass", "Programme", "RECORD_STRIDE", "Record", "Refusal", "Refused", "TRIM_CONFIGS",
-    "TRIM_CONFIG_STRIDE", "TRIM_FIXED", "Tables", "Timing", "Trim", "TrimCarried", "TrimConfig", "TrimMode", "Update", "Zone", "default_library",
+    "Bed", "Content", "FRAME_SAMPLES", "INTERFACE", "Library", "LibraryError", "MOST_BEDS", "MOST_BLOCKS", "MOST_OBJECTS", "MOST_PAYLOAD_BYTES",
+    "MOST_RECORD_BYTES", "MOST_TEXT_BYTES", "MOST_TRIM_BYTES", "MOST_UNKNOWN", "ObjectClass", "Programme", "RECORD_BYTES", "RECORD_STRIDE", "RECORD_TIME",
+    "Record", "Refusal", "Refused", "TRIM_CONFIGS", "TRIM_CONFIG_STRIDE", "TRIM_FIXED", "Tables", "Timing", "Trim", "TrimCarried", "TrimConfig", "TrimMode", "Update", "Zone", "default_library",
     "list_text", "read", "read_batch", "write",
 ]
 
-INTERFACE = 2002  # the version of the C interface that is needed: a thousand times the major number, plus the minor
+INTERFACE = 3000  # the version of the C interface that is needed: a thousand times the major number, plus the minor
 
 MOST_PAYLOAD_BYTES = 4096
-MOST_RECORD_BYTES = 30720
+MOST_RECORD_BYTES = 40960
 MOST_TRIM_BYTES = 253
 MOST_OBJECTS = 159
 MOST_BLOCKS = 8
 MOST_BEDS = 9
 MOST_UNKNOWN = 46
-MOST_TEXT_BYTES = 80000  # the listing of every payload fits
-RECORD_STRIDE = 24
+MOST_TEXT_BYTES = 100000  # the listing of every payload fits
+FRAME_SAMPLES = 1536  # samples of a frame
+RECORD_STRIDE = 32  # bytes of a record: those that the payload gives, and its time
+RECORD_BYTES = 24
+RECORD_TIME = 24  # where the time begins
 TRIM_PRESENT = 0
 TRIM_WARP_MODE = 1
 TRIM_GLOBAL_MODE = 2
@@ -59,6 +67,8 @@ TRIM_FIXED = 94
 TRIM_CONFIGS = 9
 TRIM_CONFIG_STRIDE = 10
 
+_MOST_FRAME = (1 << 32) - 1
+_MOST_TIME = (1 << 64) - 1
 _BATCH_ROOM = 1 << 23  # bytes that a batch borrows at once; longer lists are read in several calls
 
 BytesLike = Union[bytes, bytearray, memoryview]
@@ -316,7 +326,10 @@ class Timing:
 
 @dataclass(frozen=True)
 class Record:
-    """One object in one block: its 24 bytes by name. `Record()` is an inactive dynamic object."""
+    """One object in one block: the 24 bytes that the payload gives by name, and its time. `Record()` is an inactive dynamic object.
+
+    Records are equal whose 24 bytes are, at whatever time.
+    """
 
     active: int = 0  # 1 active, 0 not
     class_: int = 2  # see object_class
@@ -342,22 +355,23 @@ class Record:
     precise_x: int = 0  # code of x
     precise_y: int = 0  # code of y
     precise_z: int = 0  # code of z
+    time: int = field(default=0, compare=False)  # when its block starts, in samples from the start of frame 0; Tables set it
 
     @classmethod
     def from_bytes(cls, raw: BytesLike) -> Record:
-        """The record of 24 bytes."""
+        """The record of 32 bytes."""
         data = _bytes_of(raw, "raw")
         if len(data) != RECORD_STRIDE:
             raise ValueError(f"a record has {RECORD_STRIDE} bytes, not {len(data)}")
-        return cls(*data)
+        return cls(*data[:RECORD_BYTES], time=int.from_bytes(data[RECORD_TIME:], "little"))
 
     @property
     def raw(self) -> bytes:
-        """The record's 24 bytes."""
+        """The record's 32 bytes."""
         return self._raw("record")
 
     def _raw(self, what: str) -> bytes:
-        return _packed(_record_values(self), _RECORD_NAMES, what)
+        return _packed(_record_values(self), _RECORD_NAMES, what) + _number(self.time, _MOST_TIME, f"{what}.time").to_bytes(8, "little")
 
     @property
     def is_active(self) -> bool:
@@ -410,7 +424,7 @@ class Record:
         return Zone(self.zone)
 
 
-_RECORD_NAMES = tuple(field.name for field in fields(Record))
+_RECORD_NAMES = tuple(each.name for each in fields(Record))[:RECORD_BYTES]
 _record_values = operator.attrgetter(*_RECORD_NAMES)
 
 
@@ -440,7 +454,7 @@ class TrimConfig:
         return TrimCarried(self.carried)
 
 
-_CONFIG_NAMES = tuple(field.name for field in fields(TrimConfig))
+_CONFIG_NAMES = tuple(each.name for each in fields(TrimConfig))
 _NO_CONFIGS = (TrimConfig(),) * TRIM_CONFIGS
 
 
@@ -490,13 +504,23 @@ class Trim:
 
 @dataclass(frozen=True)
 class Tables:
-    """What an accepted payload says: its programme, the timing of each block, a record for each object and block, and the trim table."""
+    """What an accepted payload says: its programme, the timing of each block, a record for each object and block, and the trim table.
+
+    The records get the time of their block in the frame, whatever time they had.
+    """
 
     programme: Programme
     timing: Timing
     records: Tuple[Record, ...]  # objects outermost: object o and block b at o * blocks + b
     trim: Trim
     unknown: int = 0  # number of unknown elements, 0 to 46; a write does not look at it
+    frame: int = 0  # the number of the frame, 0 to 4,294,967,295
+
+    def __post_init__(self) -> None:
+        times = _times(self.frame, self.timing)
+        if times:
+            timed = [record if record.time == time else replace(record, time=time) for record, time in zip(self.records, itertools.cycle(times))]
+            object.__setattr__(self, "records", tuple(timed))
 
     @property
     def objects(self) -> int:
@@ -525,6 +549,15 @@ class Tables:
         if not 0 <= block < self.blocks:
             raise IndexError(f"block {block} of {self.blocks}")
         return self.records[number * self.blocks + block]
+
+
+def _times(frame: Any, timing: Timing) -> Tuple[int, ...]:
+    """The time of each block in a frame; none if one of the numbers is no integer, which a write says by name."""
+    numbers = [frame, *[update.start for update in timing.updates]]
+    if not all(hasattr(number, "__index__") for number in numbers):
+        return ()
+    first, *starts = map(operator.index, numbers)
+    return tuple(FRAME_SAMPLES * first + start for start in starts)
 
 
 # ---- the C interface
@@ -571,10 +604,11 @@ class _BatchAnswer(ctypes.Structure):
 
 
 _SLICE = [ctypes.c_void_p, ctypes.c_size_t]
-_READ = (_ReadAnswer, _SLICE * 3)
-_WRITE = (_WriteAnswer, [_Programme, _Timing] + _SLICE * 3)
-_READ_BATCH = (_BatchAnswer, _SLICE * 3 + [ctypes.c_size_t] * 2 + _SLICE * 3)
+_READ = (_ReadAnswer, _SLICE + [ctypes.c_uint32] + _SLICE * 2)
+_WRITE = (_WriteAnswer, [_Programme, _Timing, ctypes.c_uint32] + _SLICE * 3)
+_READ_BATCH = (_BatchAnswer, _SLICE * 4 + [ctypes.c_size_t] * 2 + _SLICE * 3)
 _LIST_TEXT = (_WriteAnswer, _SLICE * 2)
+_SONAME = f"libskriemelt.so.{INTERFACE // 1000}"
 
 
 class Library:
@@ -596,12 +630,7 @@ class Library:
         self._read = self._function("skriemelt_read", *_READ)
         self._write = self._function("skriemelt_write", *_WRITE)
         self._read_batch = self._function("skriemelt_read_batch", *_READ_BATCH)
-        self._list_text = self._function("skriemelt_list_text", *_LIST_TEXT) if hasattr(self._handle, "skriemelt_list_text") else None
-
-    @property
-    def lists(self) -> bool:
-        """Whether the library can list a payload, see list_text."""
-        return self._list_text is not None
+        self._list_text = self._function("skriemelt_list_text", *_LIST_TEXT)
 
     def _function(self, name: str, result: Any, arguments: List[Any]) -> Any:
         try:
@@ -619,11 +648,11 @@ class Library:
 def _candidates() -> Iterator[str]:
     """Where the library is looked for, in this order, without SKRIEMELT_LIBRARY."""
     here = os.path.dirname(os.path.abspath(__file__))
-    yield os.path.join(here, "libskriemelt.so.2")
+    yield os.path.join(here, _SONAME)
     yield os.path.join(here, "libskriemelt.so")
-    yield "libskriemelt.so.2"
+    yield _SONAME
     found = ctypes.util.find_library("skriemelt")
-    if found is not None and found != "libskriemelt.so.2":
+    if found is not None and found != _SONAME:
         yield found
 
 
@@ -655,30 +684,43 @@ def _buffer(count: int) -> Any:
     return (ctypes.c_uint8 * count)()
 
 
-def _tables_of(answer: Any, records_at: int, trim_at: int) -> Tables:
-    """The tables of an accepted answer, and of the buffers at two addresses."""
+def _tables_of(answer: Any, frame: int, records_at: int, trim_at: int) -> Tables:
+    """The tables of an accepted answer in a frame, and of the buffers at two addresses."""
     given, timing = answer.programme, answer.timing
     beds = tuple(Bed(bed.assignment, bed.lfeonly, bed.standard) for bed in given.beds[:given.bedcount])
     numbers = {name: getattr(given, name) for name in _PROGRAMME_NAMES if name != "bedcount"}
     updates = tuple(Update(update.start, update.ramp) for update in timing.updates[:timing.blocks])
     raw = ctypes.string_at(records_at, RECORD_STRIDE * given.objects * timing.blocks)
-    records = tuple(Record(*raw[at:at + RECORD_STRIDE]) for at in range(0, len(raw), RECORD_STRIDE))
+    records = tuple(Record.from_bytes(raw[at:at + RECORD_STRIDE]) for at in range(0, len(raw), RECORD_STRIDE))
     trim = Trim.from_bytes(ctypes.string_at(trim_at, TRIM_FIXED + given.objects))
-    return Tables(Programme(beds=beds, **numbers), Timing(updates), records, trim, answer.unknown)
+    tables = Tables(Programme(beds=beds, **numbers), Timing(updates), (), trim, answer.unknown, frame)
+    object.__setattr__(tables, "records", records)  # as they are: their times are the library's own
+    return tables
 
 
-def read(payload: BytesLike, *, record_room: int = MOST_RECORD_BYTES, trim_room: int = MOST_TRIM_BYTES, library: Optional[Library] = None) -> Tables:
-    """The tables of one payload, already taken out of its EMDF container.
+def read(
+    payload: BytesLike,
+    frame: int = 0,
+    *,
+    record_room: int = MOST_RECORD_BYTES,
+    trim_room: int = MOST_TRIM_BYTES,
+    library: Optional[Library] = None,
+) -> Tables:
+    """The tables of one payload, already taken out of its EMDF container, of the frame with this number, 0 to 4,294,967,295.
 
     Refused (1 to 9) if the payload is. Every payload's tables fit unless less room is given, in bytes; then NO_ROOM says how much is needed.
     """
     data = _bytes_of(payload, "payload")
+    number = _number(frame, _MOST_FRAME, "frame")
     lib = library or default_library()
     records, trim = _buffer(_room(record_room, "record_room")), _buffer(_room(trim_room, "trim_room"))
-    answer = lib._read(data, len(data), records, len(records), trim, len(trim))
+    answer = lib._read(data, len(data), number, records, len(records), trim, len(trim))
     if answer.refusal:
         raise Refused(answer.refusal, answer.place, answer.missing)
-    return _tables_of(answer, ctypes.addressof(records), ctypes.addressof(trim))
+    return _tables_of(answer, number, ctypes.addressof(records), ctypes.addressof(trim))
+
+
+_Entry = Tuple[int, int, int]  # start, length and frame
 
 
 def _listed(entries: Iterable[Tuple[int, int]]) -> List[Tuple[int, int]]:
@@ -693,6 +735,14 @@ def _listed(entries: Iterable[Tuple[int, int]]) -> List[Tuple[int, int]]:
     return listed
 
 
+def _framed(entries: List[Tuple[int, int]], frames: Optional[Iterable[int]]) -> List[_Entry]:
+    """The entries of a batch, each with its frame; 0 where none are given."""
+    numbers = [0] * len(entries) if frames is None else [_number(frame, _MOST_FRAME, f"frames[{index}]") for index, frame in enumerate(frames)]
+    if len(numbers) != len(entries):
+        raise ValueError(f"there are {len(numbers)} frames for {len(entries)} entries")
+    return [(start, length, frame) for (start, length), frame in zip(entries, numbers)]
+
+
 class _Shelf:
     """The buffers of a batch of so many entries at the most."""
 
@@ -701,38 +751,40 @@ class _Shelf:
         self.records, self.trims = _buffer(count * record_slot), _buffer(count * trim_slot)
         self.answers = (_ReadAnswer * count)()
 
-    def read(self, lib: Library, data: bytes, entries: Sequence[Tuple[int, int]]) -> List[Union[Tables, Refused]]:
+    def read(self, lib: Library, data: bytes, entries: Sequence[_Entry]) -> List[Union[Tables, Refused]]:
         """What each entry is answered."""
-        numbers = ctypes.c_uint64 * len(entries)
-        starts, lengths = numbers(*[start for start, _ in entries]), numbers(*[length for _, length in entries])
+        count = len(entries)
+        starts, lengths, frames = zip(*entries) if entries else ((), (), ())
+        lists = ((ctypes.c_uint64 * count)(*starts), count, (ctypes.c_uint64 * count)(*lengths), count, (ctypes.c_uint32 * count)(*frames), count)
         slots = (self.record_slot, self.trim_slot, self.records, len(self.records), self.trims, len(self.trims))
-        answer = lib._read_batch(data, len(data), starts, len(starts), lengths, len(lengths), *slots, self.answers, ctypes.sizeof(self.answers))
+        answer = lib._read_batch(data, len(data), *lists, *slots, self.answers, ctypes.sizeof(self.answers))
         if answer.refusal:
             raise Refused(answer.refusal, answer.place)
-        return [self.answered(index) for index in range(len(entries))]
+        return [self.answered(index, frame) for index, frame in enumerate(frames)]
 
-    def answered(self, index: int) -> Union[Tables, Refused]:
+    def answered(self, index: int, frame: int) -> Union[Tables, Refused]:
         answer = self.answers[index]
         if answer.refusal:
             return Refused(answer.refusal, answer.place, answer.missing)
-        return _tables_of(answer, ctypes.addressof(self.records) + index * self.record_slot, ctypes.addressof(self.trims) + index * self.trim_slot)
+        return _tables_of(answer, frame, ctypes.addressof(self.records) + index * self.record_slot, ctypes.addressof(self.trims) + index * self.trim_slot)
 
 
 def read_batch(
     store: BytesLike,
     entries: Iterable[Tuple[int, int]],
+    frames: Optional[Iterable[int]] = None,
     *,
     record_slot: int = MOST_RECORD_BYTES,
     trim_slot: int = MOST_TRIM_BYTES,
     library: Optional[Library] = None,
 ) -> List[Union[Tables, Refused]]:
-    """Reads many payloads, each a start and a length within one store, in bytes.
+    """Reads many payloads, each a start and a length within one store, in bytes, and each of a frame: `range(7, 10)` for three that follow one another.
 
-    The list has for each entry, in order, its Tables or the Refused that `read` would raise for that part of the store; OUTSIDE if start and length leave it.
+    Without frames every payload is read with frame 0. ValueError if there are not as many frames as entries. The list has for each entry, in order, its Tables or the Refused that `read` would raise for that part of the store; OUTSIDE if start and length leave it.
     A slot is the room of one entry. Payloads may overlap and repeat.
     """
     data = _bytes_of(store, "store")
-    listed = _listed(entries)
+    listed = _framed(_listed(entries), frames)
     lib = library or default_library()
     record_room, trim_room = _room(record_slot, "record_slot"), _room(trim_slot, "trim_slot")
     step = max(1, min(len(listed), _BATCH_ROOM // (record_room + trim_room + ctypes.sizeof(_ReadAnswer))))
@@ -773,27 +825,25 @@ def _not_valid_detail(tables: Tables, place: int) -> str:
 
 
 def write(tables: Tables, *, room: int = MOST_PAYLOAD_BYTES, library: Optional[Library] = None) -> bytes:
-    """The payload of tables, in the one form that they have; read, it gives the same tables and no unknown element.
+    """The payload of tables, in the one form that they have; read with their frame, it gives the same tables and no unknown element.
 
     Refused with NOT_VALID if no payload gives these tables, and with NO_FIT if their form is longer than the room or 4,096 bytes. ValueError for a number that
     its field in C cannot hold. Records behind the last that is needed are not looked at, as little as flags behind that of the trim table's last object.
     """
-    programme, timing = _c_programme(tables.programme), _c_timing(tables.timing)
+    programme, timing, frame = _c_programme(tables.programme), _c_timing(tables.timing), _number(tables.frame, _MOST_FRAME, "frame")
     records, trim = tables.record_bytes, tables.trim_bytes
     payload = _buffer(_room(room, "room"))
     lib = library or default_library()
-    answer = lib._write(programme, timing, records, len(records), trim, len(trim), payload, len(payload))
+    answer = lib._write(programme, timing, frame, records, len(records), trim, len(trim), payload, len(payload))
     if answer.refusal:
         raise Refused(answer.refusal, answer.place, 0, _not_valid_detail(tables, answer.place) if answer.refusal == Refusal.NOT_VALID else "")
     return ctypes.string_at(payload, answer.length)
 
 
 def list_text(payload: BytesLike, *, room: int = MOST_TEXT_BYTES, library: Optional[Library] = None) -> str:
-    """The listing of a payload, lines `key=value`, a refused one too. LibraryError if the library cannot list, see Library.lists."""
+    """The listing of a payload, lines `key=value`, a refused one too, read with frame 0."""
     data = _bytes_of(payload, "payload")
     lib = library or default_library()
-    if lib._list_text is None:
-        raise LibraryError(f"{lib.path}, version {lib.version} of the interface, has no function skriemelt_list_text: it cannot list")
     text = _buffer(_room(room, "room"))
     answer = lib._list_text(data, len(data), text, len(text))
     if answer.refusal:

@@ -1,7 +1,8 @@
 """The one form of docs/DECISIONS.md, "The written form": tables to the fields of a payload, from the requirements and clause 5.5.
 
 Tables: a programme (class Programme), the timing as a list of (start, ramp) for each block, the records as a list of
-24 bytes each, objects outermost, blocks within, and the bytes of the trim table.  `form` gives the fields of the payload,
+32 bytes each, objects outermost, blocks within, and the bytes of the trim table.  The time in a record's last eight bytes
+follows from the timing and the frame number, so nothing of it is written.  `form` gives the fields of the payload,
 `pack` of helpers.py its bytes.  Nothing in here reads a payload.
 """
 from helpers import *

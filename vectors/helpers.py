@@ -420,8 +420,8 @@ def object_trims(flags):
 
 def rec(active, class_, gain=0, prio=0, x=31, y=31, z=64, dist=0, w=0, d=0, h=0, zone=0, elev=1,
         scr=0, sf=0, df=0, snap=0, div=0, mode=0, dval=0, pres=0, ex=0, ey=0, ez=0):
-    """The 24 bytes of the requirements as 48 hex digits, byte values as they stand in the record (gain: dB + 50,
-    z: numerator + 64, dist: 0, 1 or 2 + index).  The keyword defaults are those of Tables 28 and 29:
+    """The 24 bytes that a payload gives a record as 48 hex digits, byte values as they stand in the record (gain: dB + 50,
+    z: numerator + 64, dist: 0, 1 or 2 + index).  The time is not among them: `timed`.  The keyword defaults are those of Tables 28 and 29:
     gain minus infinity (0), priority 0, x = y = 0,5 (31 of 62), z = 0 (64), no distance, sizes 0, zone 0,
     elevation true, no screen, no snap; and 0 for what is not carried (bytes 17 to 23)."""
     return bytes([active, class_, gain, prio, x, y, z, dist, w, d, h, zone, elev, scr, sf, df, snap,
@@ -448,6 +448,14 @@ def T(objects, warp, mode, configs=(), flags=None):
 def lines(*parts):
     """Expected text: each word of each part is one line of the listing."""
     return [word for p in parts for word in (p.split() if isinstance(p, str) else p)]
+
+
+def timed(expected):
+    """The expected text with the time of each record behind its 48 digits: bytes 24 to 31 hold 1,536 times the frame number,
+    which is 0 here, plus the start of the record's block, least byte first."""
+    starts = [int(line.split(",")[1]) for line in expected if line.startswith("block=")]
+    return [line + starts[int(line.split(",")[1])].to_bytes(8, "little").hex() if line.startswith("record=") else line
+            for line in expected]
 
 
 class refused(list):
@@ -503,10 +511,10 @@ def pack(fields, padbit):
     return bytes(int(bits[i:i + 8], 2) for i in range(0, len(bits), 8)), n
 
 
-def vector(name, exercises, how, payload, expected, pad=0, extra=b"", cut=None, trim=None, whole=None):
+def vector(name, exercises, how, payload, expected, pad=0, extra=b"", cut=None, trim=None, whole=None, times=None):
     """payload: bytes, or a list of tuples, filled up to a byte with bits of value `pad`, then `extra` bytes,
     then only the first `cut` bytes of it if cut is given.  trim: the trim table, None if there is no trim element.  whole: the
-    fields of the payload from which bytes were cut."""
+    fields of the payload from which bytes were cut.  times: of one object, the digits of each record's time, by hand."""
     v = Vector()
     v.name, v.exercises, v.how, v.expected, v.trim = name, exercises, how, expected, trim
     assert all(name != o.name for o in VECTORS), ("name twice", name)
@@ -525,6 +533,10 @@ def vector(name, exercises, how, payload, expected, pad=0, extra=b"", cut=None, 
         lacks = missing(v.fields or whole, int(expected[1].removeprefix("place=")), 8 * len(v.bytes), expected.field)
         assert lacks >= 1, ("missing", name, lacks)
         v.expected = expected + ["missing=%d" % lacks]
+    if expected[0] == "refusal=0":
+        v.expected = timed(expected)
+    if times is not None:
+        assert [line[-16:] for line in v.expected if line.startswith("record=")] == times, ("times", name)
     VECTORS.append(v)
 
 

@@ -12,7 +12,8 @@ length 0 where the payload is refused, has the reserved content flag set, or has
 a line vector=N, then the lines of the listing program of the requirements, then, of a payload with a trim element, its trim table,
 then, of an accepted payload without that flag, the written form.  The buffers are taken to be large enough, so refusal 9 does
 not occur, and 11 only above 4,096 bytes.
-Nothing here decodes a payload: the expected text stands in the vectors_*.py files, derived by hand; form.py writes the forms,
+Nothing here decodes a payload: the expected text stands in the vectors_*.py files, derived by hand but for the missing bits of
+refusal 2 and the time of each record (helpers.py); form.py writes the forms,
 and written.py has some of them, and some trim tables, derived by hand.
 """
 import io

@@ -23,6 +23,7 @@ def one(body, **k):
 
 # ------------------------------------------------------------------------------- starts
 
+# The time of a record, frame 0: its block's start in eight bytes, least first.  1,520 = 5 x 256 + 240: f0 05; 344 = 256 + 88: 58 01; 1,920 = 7 x 256 + 128: 80 07.
 # All literal.  Record: active 01, class 02, gain 0 dB = 50 = 32, priority 1 = 32/32 = 20, x 31 = 1f, y 31 = 1f, z 64 = 40,
 # distance 00, sizes 00 00 00, zone 00, elevation 01, screen 00 00 00, snap 00, seven times 00.
 vector("plain", "one active object, one block, everything plain", "each byte by the requirements: 0 dB is 50 (32 hex), default priority 32 (20)",
@@ -34,26 +35,31 @@ vector("offset-idx-0", "sample offset index 0", "Table 23: 8; 8 + 32 x 0 = 8",
        lines("refusal=0 place=0 objects=1 bed=0 isf=0 dynamic=1 blocks=1 unknown=0 block=0,8,0", off(1)))
 vector("offset-idx-1", "sample offset index 1, factor 47", "Table 23: 16; 16 + 32 x 47 = 1520",
        one([timing(off_idx(1), [ramp(47, 0)]), inactive()]),
-       lines("refusal=0 place=0 objects=1 bed=0 isf=0 dynamic=1 blocks=1 unknown=0 block=0,1520,0", off(1)))
+       lines("refusal=0 place=0 objects=1 bed=0 isf=0 dynamic=1 blocks=1 unknown=0 block=0,1520,0", off(1)),
+       times=["f005000000000000"])
 vector("offset-idx-2", "sample offset index 2, factor 0 (example of the requirements)", "printed in the requirements: 18",
        one([timing(off_idx(2), [ramp(0, 0)]), inactive()]),
        lines("refusal=0 place=0 objects=1 bed=0 isf=0 dynamic=1 blocks=1 unknown=0 block=0,18,0", off(1)))
 vector("offset-idx-3", "sample offset index 3, two blocks", "Table 23: 24; 24 + 32 x 0 = 24, 24 + 32 x 10 = 344",
        one([timing(off_idx(3), [ramp(0, 0), ramp(10, 0)]), [inactive()] * 2]),
-       lines("refusal=0 place=0 objects=1 bed=0 isf=0 dynamic=1 blocks=2 unknown=0 block=0,24,0 block=1,344,0", off(2)))
+       lines("refusal=0 place=0 objects=1 bed=0 isf=0 dynamic=1 blocks=2 unknown=0 block=0,24,0 block=1,344,0", off(2)),
+       times=["1800000000000000", "5801000000000000"])
 vector("offset-31-factor-63", "5-bit offset 31 with factor 63", "printed in the requirements: 31 + 32 x 63 = 2,047",
        one([timing(off_bits(31), [ramp(63, 0)]), inactive()]),
-       lines("refusal=0 place=0 objects=1 bed=0 isf=0 dynamic=1 blocks=1 unknown=0 block=0,2047,0", off(1)))
+       lines("refusal=0 place=0 objects=1 bed=0 isf=0 dynamic=1 blocks=1 unknown=0 block=0,2047,0", off(1)),
+       times=["ff07000000000000"])
 vector("offset-bits-0", "5-bit offset 0 and factor 1", "0 + 32 x 1 = 32",
        one([timing(off_bits(0), [ramp(1, 0)]), inactive()]),
        lines("refusal=0 place=0 objects=1 bed=0 isf=0 dynamic=1 blocks=1 unknown=0 block=0,32,0", off(1)))
 vector("factor-48", "factor 48: kept, though past the frame (misreading 2)", "printed in the requirements: 32 x 48 = 1,536",
        one([timing(OFF0, [ramp(48, 0)]), inactive()]),
-       lines("refusal=0 place=0 objects=1 bed=0 isf=0 dynamic=1 blocks=1 unknown=0 block=0,1536,0", off(1)))
+       lines("refusal=0 place=0 objects=1 bed=0 isf=0 dynamic=1 blocks=1 unknown=0 block=0,1536,0", off(1)),
+       times=["0006000000000000"])
 vector("starts-out-of-order", "starts out of order and equal", "factors 5, 3, 60, 3: 160, 96, 1920, 96, kept as carried",
        one([timing(OFF0, [ramp(5, 0), ramp(3, 0), ramp(60, 0), ramp(3, 0)]), [inactive()] * 4]),
        lines("refusal=0 place=0 objects=1 bed=0 isf=0 dynamic=1 blocks=4 unknown=0",
-             "block=0,160,0 block=1,96,0 block=2,1920,0 block=3,96,0", off(4)))
+             "block=0,160,0 block=1,96,0 block=2,1920,0 block=3,96,0", off(4)),
+       times=["a000000000000000", "6000000000000000", "8007000000000000", "6000000000000000"])
 
 # ------------------------------------------------------------------------------- ramps
 

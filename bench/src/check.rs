@@ -3,8 +3,9 @@
 pub mod length;
 
 use self::length::form_bytes;
-use crate::gen::{Case, TableCase};
-use crate::plain::{needed, read, trim_needed, write, Answer, WriteAnswer};
+use crate::gen::{timed, Case, TableCase};
+use crate::plain::{needed, read, trim_needed, write};
+use crate::plain::{Answer, Record, WriteAnswer, RECORD_STRIDE};
 
 /// Fails with a message.
 macro_rules! ensure {
@@ -22,10 +23,13 @@ struct Left {
     trim: Vec<u8>,
 }
 
+/// A payload and its frame.
+type Framed<'a> = (&'a [u8], u32);
+
 /// Reads into buffers of these rooms, filled with a pattern.
-fn left(payload: &[u8], (room, trim_room): (usize, usize), seed: u8) -> Left {
+fn left((payload, frame): Framed, (room, trim_room): (usize, usize), seed: u8) -> Left {
     let (mut records, mut trim) = (pattern(room, seed), pattern(trim_room, !seed));
-    let answer = read(payload, &mut records, &mut trim);
+    let answer = read(payload, frame, &mut records, &mut trim);
     Left {
         answer,
         records,
@@ -49,9 +53,13 @@ fn refused(left: &Left, expect: (u32, u64, u32), seed: u8) -> Result<(), String>
     Ok(())
 }
 
+fn framed(case: &Case) -> Framed<'_> {
+    (&case.payload, case.frame)
+}
+
 /// Reads a case and checks the answer and the buffers.
 pub fn check_case(case: &Case) -> Result<Answer, String> {
-    let left = left(&case.payload, (case.room, case.trim_room), 0xA5);
+    let left = left(framed(case), (case.room, case.trim_room), 0xA5);
     let answer = left.answer;
     let got = (answer.refusal, answer.place, answer.missing);
     if let Some(expect) = case.expect {
@@ -87,7 +95,7 @@ fn accepted(case: &Case, first: &Left) -> Result<(), String> {
         ensure!(records == tables.records, "records");
         ensure!(trim == tables.trim, "trim {trim:?}, not {:?}", tables.trim);
     }
-    let second = left(&case.payload, (bytes, trim_bytes), 0x3C);
+    let second = left(framed(case), (bytes, trim_bytes), 0x3C);
     ensure!(second.answer == *answer, "another answer with exact room");
     ensure!(
         second.records == records,
@@ -95,16 +103,42 @@ fn accepted(case: &Case, first: &Left) -> Result<(), String> {
     );
     ensure!(second.trim == trim, "a trim byte was left as it was");
     too_short(case, bytes, trim_bytes)?;
+    other_frame(case, &second)?;
     appended(case, &second)
+}
+
+/// In another frame the same is read, but for the times, which are all moved by
+/// as many frames.
+fn other_frame(case: &Case, second: &Left) -> Result<(), String> {
+    let frame = !case.frame;
+    let rooms = (second.records.len(), second.trim.len());
+    let other = left((&case.payload, frame), rooms, 0x3C);
+    let same = other.answer == second.answer && other.trim == second.trim;
+    ensure!(same, "another answer or trim table in frame {frame}");
+    let entries = |left: &Left| left.records.as_chunks::<RECORD_STRIDE>().0.to_vec();
+    for (a, b) in entries(second).iter().zip(&entries(&other)) {
+        ensure!(a[..24] == b[..24], "another record in frame {frame}");
+        let from = |entry: &[u8], frame: u32| {
+            let time = entry[24..]
+                .iter()
+                .rev()
+                .fold(0, |t, b| t << 8 | u64::from(*b));
+            time.wrapping_sub(1536 * u64::from(frame))
+        };
+        let starts = (from(a, case.frame), from(b, frame));
+        ensure!(starts.0 == starts.1, "starts {starts:?} in frame {frame}");
+        ensure!(starts.0 < 2048, "a start of {}", starts.0);
+    }
+    Ok(())
 }
 
 /// One byte short of either, then of both: the records are named first.
 fn too_short(case: &Case, bytes: usize, trim_bytes: usize) -> Result<(), String> {
-    let short = left(&case.payload, (bytes, trim_bytes - 1), 0x3C);
+    let short = left(framed(case), (bytes, trim_bytes - 1), 0x3C);
     refused(&short, (9, trim_bytes as u64, 0), 0x3C)?;
     if bytes > 0 {
         for trim_room in [trim_bytes, trim_bytes - 1, 0] {
-            let short = left(&case.payload, (bytes - 1, trim_room), 0x3C);
+            let short = left(framed(case), (bytes - 1, trim_room), 0x3C);
             refused(&short, (9, bytes as u64, 0), 0x3C)?;
         }
     }
@@ -117,7 +151,7 @@ fn appended(case: &Case, second: &Left) -> Result<(), String> {
         let mut longer = case.payload.clone();
         longer.push(0xFF);
         let rooms = (second.records.len(), second.trim.len());
-        let again = left(&longer, rooms, 0x3C);
+        let again = left((&longer, case.frame), rooms, 0x3C);
         let same = again.answer == second.answer
             && again.records == second.records
             && again.trim == second.trim;
@@ -133,11 +167,12 @@ pub fn check_rewrite(case: &Case, answer: &Answer) -> Result<WriteAnswer, String
         needed(&answer.programme, &answer.timing),
         trim_needed(&answer.programme),
     );
-    let left = left(&case.payload, rooms, 0);
+    let left = left(framed(case), rooms, 0);
     let tables = TableCase {
         kind: "read",
         programme: answer.programme,
         timing: answer.timing,
+        frame: case.frame,
         records: left.records,
         trim: left.trim,
         valid: Some(answer.programme.content & 8 == 0),
@@ -157,6 +192,7 @@ pub fn check_tables(case: &TableCase) -> Result<WriteAnswer, String> {
             ensure!(answer.place == 0, "written with a place");
             read_back(case, &out[..length])?;
             rooms(case, length, &out[..length])?;
+            other_frame_written(case, &out[..length])?;
         }
         10 | 11 => {
             ensure!(out == pattern(5000, 0x5A), "buffer changed on a refusal");
@@ -198,6 +234,30 @@ fn rooms(case: &TableCase, length: usize, payload: &[u8]) -> Result<(), String> 
     Ok(())
 }
 
+/// The form is the same in another frame, if the times are of that; if they are
+/// not, the first record is bad.
+fn other_frame_written(case: &TableCase, payload: &[u8]) -> Result<(), String> {
+    let mut other = case.clone();
+    other.frame = !case.frame;
+    let (answer, _) = written(&other, payload.len());
+    let expected = if case.timing.blocks == 0 {
+        (0, 0)
+    } else {
+        (10, 1)
+    };
+    let got = (answer.refusal, answer.place);
+    ensure!(got == expected, "frame {}: {answer:?}", other.frame);
+    let entries = case.records.as_chunks::<RECORD_STRIDE>().0.iter();
+    let records: Vec<Record> = entries
+        .map(|r| *r.first_chunk().expect("a record"))
+        .collect();
+    let count = needed(&case.programme, &case.timing) / RECORD_STRIDE;
+    other.records = timed(&records[..count], &case.timing, other.frame);
+    let (answer, out) = written(&other, payload.len());
+    ensure!(answer.refusal == 0 && out == payload, "another form");
+    Ok(())
+}
+
 /// The written bytes are read as the same tables, nothing unknown, and these
 /// are written as the same bytes.
 fn read_back(case: &TableCase, payload: &[u8]) -> Result<(), String> {
@@ -207,7 +267,7 @@ fn read_back(case: &TableCase, payload: &[u8]) -> Result<(), String> {
         answer,
         records,
         trim,
-    } = left(payload, (bytes, trim_bytes), 0xC3);
+    } = left((payload, case.frame), (bytes, trim_bytes), 0xC3);
     ensure!(
         answer.refusal == 0,
         "what was written is refused: {answer:?}"
@@ -218,7 +278,8 @@ fn read_back(case: &TableCase, payload: &[u8]) -> Result<(), String> {
     ensure!(records == case.records[..bytes], "other records");
     ensure!(trim == case.trim[..trim_bytes], "another trim table");
     let mut out = pattern(payload.len(), 0x11);
-    let again = write(&answer.programme, &answer.timing, &records, &trim, &mut out);
+    let (programme, timing) = (&answer.programme, &answer.timing);
+    let again = write(programme, timing, case.frame, &records, &trim, &mut out);
     ensure!(again.refusal == 0, "written once only: {again:?}");
     ensure!(out == payload, "another form the second time");
     Ok(())
@@ -229,6 +290,7 @@ fn written(case: &TableCase, room: usize) -> (WriteAnswer, Vec<u8>) {
     let answer = write(
         &case.programme,
         &case.timing,
+        case.frame,
         &case.records,
         &case.trim,
         &mut out,

@@ -22,12 +22,20 @@ use marks::Marks;
 use rng::Rng;
 
 pub use tables::longest;
+pub use timing::timed;
+
+/// Bytes of a record in a buffer: 24 that the payload gives, 8 of its time.
+const STRIDE: usize = 32;
+/// A buffer of this many bytes holds the records of every payload.
+const ROOM: usize = 40_960;
 
 /// One payload to be read.
 pub struct Case {
     /// What kind of case it is.
     pub kind: &'static str,
     pub payload: Vec<u8>,
+    /// The frame that it is read in.
+    pub frame: u32,
     /// Length of the record buffer.
     pub room: usize,
     /// Length of the trim buffer.
@@ -56,6 +64,8 @@ pub struct TableCase {
     pub kind: &'static str,
     pub programme: Programme,
     pub timing: Timing,
+    /// The frame that they are written in.
+    pub frame: u32,
     pub records: Vec<u8>,
     pub trim: Vec<u8>,
     /// Whether they are valid, where the generator knows it.
@@ -93,6 +103,8 @@ pub struct Gen {
     rng: Rng,
     marks: Marks,
     fault: Option<Fault>,
+    /// The frame of the case or the tables that are made.
+    frame: u32,
     /// The length in bytes that a last, unknown element is to fill.
     fill: Option<usize>,
 }
@@ -103,8 +115,15 @@ impl Gen {
             rng: Rng::new(seed),
             marks: Marks::default(),
             fault: None,
+            frame: 0,
             fill: None,
         }
+    }
+
+    /// Any frame, the first and the last one more often.
+    fn draw_frame(&mut self) {
+        let any = self.rng.word() as u32;
+        self.frame = self.rng.pick(&[0, 1, any % 100_000, any, u32::MAX]);
     }
 
     /// Whether `fault` is wanted and is to be placed here, with this chance in

@@ -19,21 +19,24 @@ mod writer;
 #[cfg(test)]
 mod canonical_tests;
 
-use reader::Scratch;
+use reader::{Scratch, Tables};
+use record::times;
 
 pub use batch::{answer_bytes, read_batch, BatchAnswer, Shelf, ANSWER_BYTES};
-pub use record::{Record, RECORD_BYTES};
+pub use record::{Record, FRAME_SAMPLES, RECORD_BYTES, RECORD_STRIDE};
 
 /// Longest payload in bytes (house rule).
 pub const MAX_PAYLOAD: usize = 4096;
 /// A buffer of this many bytes holds the records of every payload.
-pub const MAX_RECORD_BYTES: usize = 30_720;
+pub const MAX_RECORD_BYTES: usize = 40_960;
 /// Most beds: num_bed_instances_bits + 2 (5.6.0.10).
 pub const MAX_BEDS: usize = 9;
 /// Most update blocks: num_obj_info_blocks_bits + 1 (5.6.2.4).
 pub const MAX_BLOCKS: usize = 8;
 /// Most objects: object_count_bits with its extension + 1 (5.6.0.2).
 pub const MAX_OBJECTS: usize = 159;
+/// Most records.
+pub const MAX_RECORDS: usize = MAX_OBJECTS * MAX_BLOCKS;
 /// A buffer of this many bytes holds the trim table of every payload.
 pub const MAX_TRIM_BYTES: usize = trim::FIRST_FLAG + MAX_OBJECTS;
 
@@ -147,19 +150,18 @@ pub struct WriteAnswer {
     pub length: u64,
 }
 
-/// Reads one payload. If it is accepted, the first 24 x objects x blocks bytes
-/// of `records` hold the records, the first 94 + objects bytes of `trim` the
-/// trim table, and no other byte is changed; if it is refused, no byte is
-/// changed.
-pub fn read(payload: &[u8], records: &mut [u8], trim: &mut [u8]) -> Answer {
+/// Reads one payload. If it is accepted, the first 32 x objects x blocks bytes
+/// of `records` hold the records, each with its time in this frame, the first
+/// 94 + objects bytes of `trim` the trim table, and no other byte is changed; if
+/// it is refused, no byte is changed.
+pub fn read(payload: &[u8], frame: u32, records: &mut [u8], trim: &mut [u8]) -> Answer {
     let mut scratch = Scratch {
-        records: [[0; RECORD_BYTES]; MAX_RECORD_BYTES / RECORD_BYTES],
+        records: [[0; RECORD_BYTES]; MAX_RECORDS],
         trim: [0; MAX_TRIM_BYTES],
     };
     match reader::payload(payload, (records.len(), trim.len()), &mut scratch) {
         Ok(tables) => {
-            let bytes = needed(&tables.programme, &tables.timing);
-            records[..bytes].copy_from_slice(&scratch.records.as_flattened()[..bytes]);
+            lay_records(&scratch.records, frame, &tables, records);
             let bytes = trim_needed(&tables.programme);
             trim[..bytes].copy_from_slice(&scratch.trim[..bytes]);
             Answer {
@@ -180,17 +182,32 @@ pub fn read(payload: &[u8], records: &mut [u8], trim: &mut [u8]) -> Answer {
     }
 }
 
-/// Writes the one form of the tables (docs/DECISIONS.md, "The written form"). If it
+/// Lays each record and its time into the lent buffer, which has room for them.
+fn lay_records(records: &[Record], frame: u32, tables: &Tables, out: &mut [u8]) {
+    let times = times(frame, &tables.timing);
+    let times = times[..usize::from(tables.timing.blocks)].iter().cycle();
+    let out = &mut out[..needed(&tables.programme, &tables.timing)];
+    let entries = out.as_chunks_mut::<RECORD_STRIDE>().0;
+    for ((entry, record), time) in entries.iter_mut().zip(records).zip(times) {
+        let (first, last) = entry.split_at_mut(RECORD_BYTES);
+        first.copy_from_slice(record);
+        last.copy_from_slice(time);
+    }
+}
+
+/// Writes the one form of the tables (docs/DECISIONS.md, "The written form"). The
+/// records hold their times in this frame; the form does not depend on it. If it
 /// is accepted, the first `length` bytes of `out` hold the payload and no other
 /// byte is changed; if it is refused, no byte is changed.
 pub fn write(
     programme: &Programme,
     timing: &Timing,
+    frame: u32,
     records: &[u8],
     trim: &[u8],
     out: &mut [u8],
 ) -> WriteAnswer {
-    match writer::payload(programme, timing, records, trim, out) {
+    match writer::payload(programme, timing, (frame, records), trim, out) {
         Ok(length) => WriteAnswer {
             refusal: refusal::ACCEPTED,
             place: 0,
@@ -204,9 +221,9 @@ pub fn write(
     }
 }
 
-/// Bytes of all records: 24 x objects x blocks.
+/// Bytes of all records: 32 x objects x blocks.
 pub fn needed(programme: &Programme, timing: &Timing) -> usize {
-    RECORD_BYTES * usize::from(programme.objects) * usize::from(timing.blocks)
+    RECORD_STRIDE * usize::from(programme.objects) * usize::from(timing.blocks)
 }
 
 /// Bytes of the trim table: 94 + objects.
@@ -230,4 +247,5 @@ const _: () = {
     assert!(offset_of!(WriteAnswer, place) == 8 && offset_of!(WriteAnswer, length) == 16);
     assert!(size_of::<WriteAnswer>() == 24);
     assert!(trim::FIRST_FLAG == 94 && MAX_TRIM_BYTES == 253);
+    assert!(RECORD_STRIDE == 32 && RECORD_STRIDE * MAX_RECORDS <= MAX_RECORD_BYTES);
 };

@@ -6,6 +6,9 @@ use skriemelt_bench::plain::{answer_bytes, read, read_batch, Answer, BatchAnswer
 const SAMPLE: &[u8] = include_bytes!("../../samples/three-objects.oamd");
 const FILL: u8 = 0xEE;
 
+/// Starts, lengths and frames.
+type Lists<'a> = (&'a [u64], &'a [u64], &'a [u32]);
+
 /// What a call leaves.
 struct Left {
     answer: BatchAnswer,
@@ -19,12 +22,13 @@ fn store() -> Vec<u8> {
 }
 
 /// Reads into buffers of these lengths.
-fn call(lists: (&[u64], &[u64]), slots: (usize, usize), rooms: [usize; 3]) -> Left {
+fn call(lists: Lists, slots: (usize, usize), rooms: [usize; 3]) -> Left {
     let store = store();
     let shelf = Shelf {
         store: &store,
         starts: lists.0,
         lengths: lists.1,
+        frames: lists.2,
         record_slot: slots.0,
         trim_slot: slots.1,
     };
@@ -43,7 +47,7 @@ fn places(entries: &[(u64, u64)], slots: (usize, usize)) -> Vec<Vec<u8>> {
     let (starts, lengths): (Vec<u64>, Vec<u64>) = entries.iter().copied().unzip();
     let n = entries.len();
     let left = call(
-        (&starts, &lengths),
+        (&starts, &lengths, &vec![7; n]),
         slots,
         [n * slots.0, n * slots.1, n * 136],
     );
@@ -83,32 +87,38 @@ fn segment() {
     let (all, early) = (accepted_sample(), ends_early());
     let small = accepted_small();
     let slots = |records, trims| places(&SEGMENT, (records, trims));
-    assert_eq!(slots(144, 97), [all, early.clone(), small.clone()]);
-    let short = [no_room(144), early.clone(), small];
-    assert_eq!(slots(143, 97), short);
+    assert_eq!(slots(192, 97), [all, early.clone(), small.clone()]);
+    let short = [no_room(192), early.clone(), small];
+    assert_eq!(slots(191, 97), short);
     assert_eq!(slots(0, 97), short);
-    assert_eq!(slots(144, 94), [no_room(97), early, no_room(95)]);
+    assert_eq!(slots(192, 94), [no_room(97), early, no_room(95)]);
 }
 
 #[test]
 fn slots_as_single_reads() {
     let (starts, lengths) = ([0, 45, 45, 0], [45, 3, 4, 49]);
-    let left = call((&starts, &lengths), (150, 100), [620, 410, 560]);
+    let frames = [7, 8, 9, u32::MAX];
+    let lists = (&starts[..], &lengths[..], &frames[..]);
+    let left = call(lists, (200, 100), [820, 410, 560]);
     let store = store();
     for i in 0..4 {
-        let (mut records, mut trim) = ([FILL; 150], [FILL; 100]);
+        let (mut records, mut trim) = ([FILL; 200], [FILL; 100]);
         let (from, to) = (starts[i] as usize, (starts[i] + lengths[i]) as usize);
-        let answer = read(&store[from..to], &mut records, &mut trim);
-        assert_eq!(left.records[150 * i..][..150], records);
+        let answer = read(&store[from..to], frames[i], &mut records, &mut trim);
+        assert_eq!(left.records[200 * i..][..200], records);
         assert_eq!(left.trims[100 * i..][..100], trim);
         assert_eq!(left.places[136 * i..][..136], answer_bytes(&answer));
     }
     let behind = [
-        &left.records[600..],
+        &left.records[800..],
         &left.trims[400..],
         &left.places[544..],
     ];
     assert!(behind.concat().iter().all(|byte| *byte == FILL));
+    // 7 x 1,536 + 32 is 0x2A20; 4,294,967,295 x 1,536 is 0x5FFFFFFFA00
+    assert_eq!(left.records[32 + 24..][..8], [0x20, 0x2A, 0, 0, 0, 0, 0, 0]);
+    let last = [0x20, 0xFA, 0xFF, 0xFF, 0xFF, 0x05, 0, 0];
+    assert_eq!(left.records[600 + 32 + 24..][..8], last);
 }
 
 #[test]
@@ -122,7 +132,7 @@ fn outside() {
             ..Answer::default()
         })
     };
-    for (got, (start, _)) in places(&entries, (144, 97)).iter().zip(entries) {
+    for (got, (start, _)) in places(&entries, (192, 97)).iter().zip(entries) {
         assert_eq!(got[..], outside(start));
     }
     assert_eq!(
@@ -130,13 +140,13 @@ fn outside() {
         [255, 255, 255, 255, 255, 255, 255, 255, 12]
     );
     let empty = place(&[(8, 2), (132, 2)]);
-    assert_eq!(places(&[(49, 0)], (144, 97)), [empty]);
+    assert_eq!(places(&[(49, 0)], (192, 97)), [empty]);
 }
 
 #[test]
 fn lists() {
-    let (starts, lengths) = ([0, 45, 45], [45, 3, 4, 45]);
-    let enough = [432, 291, 408];
+    let (starts, lengths, frames) = ([0, 45, 45], [45, 3, 4, 45], [0; 4]);
+    let enough = [576, 291, 408];
     let refused = |left: Left, place: u64| {
         let expected = BatchAnswer { refusal: 13, place };
         assert_eq!(left.answer, expected);
@@ -144,21 +154,26 @@ fn lists() {
         assert!(all.iter().all(|byte| *byte == FILL));
     };
     for (n, m) in [(3, 2), (3, 4), (2, 3), (0, 1), (1, 0)] {
-        let lists = (&starts[..n], &lengths[..m]);
-        refused(call(lists, (144, 97), enough), n as u64);
+        for lists in [
+            (&starts[..n], &lengths[..m], &frames[..n]),
+            (&starts[..n], &lengths[..n], &frames[..m]),
+            (&starts[..n], &lengths[..m], &frames[..m]),
+        ] {
+            refused(call(lists, (192, 97), enough), n as u64);
+        }
     }
-    let lists = (&starts[..], &lengths[..3]);
+    let lists = (&starts[..], &lengths[..3], &frames[..3]);
     for short in 0..3 {
         let mut rooms = enough;
         rooms[short] -= 1;
-        refused(call(lists, (144, 97), rooms), 3);
+        refused(call(lists, (192, 97), rooms), 3);
     }
     // 3 x the last is 2^64 + 2
-    for slot in [145, 1 << 63, usize::MAX, usize::MAX / 3 + 1] {
+    for slot in [193, 1 << 63, usize::MAX, usize::MAX / 3 + 1] {
         refused(call(lists, (slot, 97), enough), 3);
-        refused(call(lists, (144, slot), enough), 3);
+        refused(call(lists, (192, slot), enough), 3);
     }
-    let none = call((&[], &[]), (usize::MAX, usize::MAX), [0, 5, 5]);
+    let none = call((&[], &[], &[]), (usize::MAX, usize::MAX), [0, 5, 5]);
     assert_eq!(none.answer, BatchAnswer::default());
     assert_eq!((none.trims, none.places), (vec![FILL; 5], vec![FILL; 5]));
 }

@@ -5,11 +5,12 @@ mod common;
 use common::{bytes, element, read_all, ONE};
 use skriemelt_bench::plain::{write, Answer, Bed, Programme, Timing, Update};
 
-/// Writes the tables of an answer without trim, with room to spare.
+/// Writes the tables of an answer in frame 0 without trim, with room to spare.
 fn written(answer: &Answer, records: &[u8]) -> Vec<u8> {
     let mut out = vec![0xEE; 4096];
     let trim = vec![0; 94 + usize::from(answer.programme.objects)];
-    let result = write(&answer.programme, &answer.timing, records, &trim, &mut out);
+    let (programme, timing) = (&answer.programme, &answer.timing);
+    let result = write(programme, timing, 0, records, &trim, &mut out);
     assert_eq!((result.refusal, result.place), (0, 0));
     assert!(out[result.length as usize..].iter().all(|b| *b == 0xEE));
     out.truncate(result.length as usize);
@@ -36,20 +37,23 @@ fn moved_and_mixed() {
     };
     assert_eq!(answer.timing, timing);
     let first = [
-        1, 2, 65, 31, 62, 0, 49, 17, 1, 2, 3, 5, 0, 1, 7, 3, 1, 0, 0, 0, 0, 0, 0, 0,
+        1, 2, 65, 31, 62, 0, 49, 17, 1, 2, 3, 5, 0, 1, 7, 3, 1, 0, 0, 0, 0, 0, 0, 0, // time 1
+        1, 0, 0, 0, 0, 0, 0, 0,
     ];
     let second = [
-        1, 2, 65, 32, 62, 0, 49, 0, 1, 2, 3, 5, 0, 1, 7, 3, 0, 0, 0, 0, 0, 0, 0, 0,
+        1, 2, 65, 32, 62, 0, 49, 0, 1, 2, 3, 5, 0, 1, 7, 3, 0, 0, 0, 0, 0, 0, 0,
+        0, // time 1,537
+        1, 6, 0, 0, 0, 0, 0, 0,
     ];
-    assert_eq!(records[..48], [first, second].concat());
-    assert_eq!(records[48], 0xEE);
+    assert_eq!(records[..64], [first, second].concat());
+    assert_eq!(records[64], 0xEE);
     let form = "0  10 00001 001  000000 00  110000 11 1 1111  1
         0  10 000000  0 11111  111110 000000 0 1111  1 0 1111  101 0
            10 00001 00010 00011  1 111 11  1  0
         0  01 10 000000  1  01 0 111110 000000 0 1111  0  101 0
            10 00001 00010 00011  1 111 11  0  0";
     let form = bytes(&format!("{ONE} 0001 {}", element(1, form)));
-    assert_eq!(written(&answer, &records[..48]), form);
+    assert_eq!(written(&answer, &records[..64]), form);
 }
 
 /// Bed (L/R, C, LFE), ISF 0 and two dynamic objects: 4 + 4 + 2, one block; gain
@@ -122,8 +126,9 @@ fn classes_gains_and_extension() {
                 31, 31, 64, 0, 0, 0, 0, 0, 1, 0, 0, 0, 0, 0, 0, 0, 0, 0, 0, 0,
             ],
         };
-        let record = &records[24 * object..24 * object + 24];
-        assert_eq!((&record[..4], &record[4..]), (&start[..], &rest[..]));
+        let record = &records[32 * object..32 * object + 32];
+        assert_eq!((&record[..4], &record[4..24]), (&start[..], &rest[..]));
+        assert_eq!(record[24..], [0; 8]);
     }
 }
 
@@ -139,7 +144,7 @@ fn form_of_ten_objects() {
     let extended = "0  1  1 10 111111  0   1  1 101 01 10  0";
     let elements = [element(1, object), element(5, extended)];
     let form = bytes(&format!("{header}{}", elements.concat()));
-    assert_eq!(written(&answer, &records[..240]), form);
+    assert_eq!(written(&answer, &records[..320]), form);
 }
 
 /// Objects inactive, default, reuse: each from the block before.
@@ -156,7 +161,7 @@ fn status_rules() {
         0  01 00 1  01 1 111 001 100  1 1  101 1  00  1 011 10  0  0";
     let (answer, records) = read_all(&bytes(&format!("{ONE} 0001 {}", element(1, content))));
     assert_eq!((answer.refusal, answer.timing.blocks), (0, 7));
-    let record = |block: usize| &records[24 * block..24 * block + 17];
+    let record = |block: usize| &records[32 * block..32 * block + 17];
     let first = [1, 2, 64, 7, 1, 2, 67, 0, 1, 1, 1, 1, 0, 0, 0, 0, 1];
     assert_eq!(record(0), first);
     assert_eq!(record(1), first);

@@ -34,9 +34,9 @@ fn same_seed() {
     for _ in 0..500 {
         let (a, b) = (one.case(), two.case());
         assert_eq!((a.payload, a.room), (b.payload, b.room));
-        assert_eq!(a.trim_room, b.trim_room);
+        assert_eq!((a.trim_room, a.frame), (b.trim_room, b.frame));
         let (a, b) = (one.tables(), two.tables());
         assert_eq!((a.programme, a.records), (b.programme, b.records));
-        assert_eq!(a.trim, b.trim);
+        assert_eq!((a.trim, a.frame), (b.trim, b.frame));
     }
 }

@@ -7,7 +7,8 @@ use skriemelt_bench::plain::{write, Programme};
 /// The needed bytes as the writer says them.
 fn said(case: &TableCase) -> u64 {
     let (records, trim) = (&case.records, &case.trim);
-    let answer = write(&case.programme, &case.timing, records, trim, &mut []);
+    let (programme, timing) = (&case.programme, &case.timing);
+    let answer = write(programme, timing, case.frame, records, trim, &mut []);
     assert_eq!(answer.refusal, 11);
     answer.place
 }

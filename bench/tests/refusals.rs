@@ -163,22 +163,22 @@ fn past_the_element() {
 #[test]
 fn room() {
     let payload = bytes(&format!("{ONE} 0001 {}", element(1, INACTIVE)));
-    for (room, refusal) in [(0, 9), (23, 9), (24, 0), (25, 0)] {
+    for (room, refusal) in [(0, 9), (24, 9), (31, 9), (32, 0), (33, 0)] {
         let (mut records, mut trim) = (vec![0xEE; room], [0xEE; 95]);
-        let answer = read(&payload, &mut records, &mut trim);
-        let place = if refusal == 9 { 24 } else { 0 };
+        let answer = read(&payload, 0, &mut records, &mut trim);
+        let place = if refusal == 9 { 32 } else { 0 };
         assert_eq!((answer.refusal, answer.place), (refusal, place));
-        let untouched = if refusal == 9 { 0 } else { 24 };
+        let untouched = if refusal == 9 { 0 } else { 32 };
         assert!(records[untouched..].iter().all(|byte| *byte == 0xEE));
     }
     // Last of all: a second object element is refused first.
     let twice = format!("{ONE} 0010 {0}{0}", element(1, INACTIVE));
-    let answer = read(&bytes(&twice), &mut [], &mut []);
+    let answer = read(&bytes(&twice), 0, &mut [], &mut []);
     assert_eq!(answer.refusal, 6);
 }
 
 /// One dynamic object, one block.
-fn tables() -> (Programme, Timing, [u8; 24]) {
+fn tables() -> (Programme, Timing, [u8; 32]) {
     let programme = Programme {
         objects: 1,
         dynonly: 1,
@@ -189,14 +189,14 @@ fn tables() -> (Programme, Timing, [u8; 24]) {
         ..Timing::default()
     };
     timing.updates[0] = Update { start: 0, ramp: 0 };
-    let mut record = [0; 24];
+    let mut record = [0; 32];
     record[..7].copy_from_slice(&[1, 2, 50, 32, 31, 31, 64]);
     (programme, timing, record)
 }
 
-/// Refusal, place and length, without trim.
+/// Refusal, place and length, in frame 0 and without trim.
 fn answer(programme: &Programme, timing: &Timing, records: &[u8]) -> (u32, u64, u64) {
-    let answer = write(programme, timing, records, &[0; 253], &mut [0; 100]);
+    let answer = write(programme, timing, 0, records, &[0; 253], &mut [0; 100]);
     (answer.refusal, answer.place, answer.length)
 }
 
@@ -206,7 +206,7 @@ fn tables_that_are_not_valid() {
     // 14 bits, id and size 9; the element has 1 + 2 + 3 + 8 + 1 bits, then
     // 1 + 2 + 1 + 17 + 1 + 4 + 2 + 1 + 1 + 1: 46 bits, so 6 bytes. 71 in all.
     assert_eq!(answer(&programme, &timing, &record), (0, 0, 9));
-    assert_eq!(answer(&programme, &timing, &record[..23]), (10, 0, 0));
+    assert_eq!(answer(&programme, &timing, &record[..31]), (10, 0, 0));
     for (byte, value) in (0..24).zip([
         2, 1, 66, 33, 63, 63, 80, 18, 32, 32, 32, 6, 2, 2, 1, 1, 2, 2, 1, 1, 8, 1, 1, 1,
     ]) {
@@ -257,8 +257,8 @@ fn divergence_triples() {
 #[test]
 fn timings() {
     let (programme, _, record) = tables();
-    let records = record.repeat(8);
     let with = |starts: &[u16], ramp: u16| {
+        let mut records = vec![];
         let mut timing = Timing {
             blocks: starts.len() as u8,
             ..Timing::default()
@@ -268,13 +268,16 @@ fn timings() {
                 start: *start,
                 ramp,
             };
+            records.extend(&record[..24]);
+            records.extend(u64::from(*start).to_le_bytes());
         }
-        answer(&programme, &timing, &records).0
+        let answer = answer(&programme, &timing, &records);
+        (answer.0, answer.1)
     };
-    assert_eq!(with(&[2047, 31, 63], 2048), 0);
-    assert_eq!(with(&[2048], 0), 10);
-    assert_eq!(with(&[0], 2049), 10);
-    assert_eq!(with(&[31, 32], 0), 10);
+    assert_eq!(with(&[2047, 31, 63], 2048), (0, 0));
+    assert_eq!(with(&[2048], 0), (10, 0));
+    assert_eq!(with(&[0], 2049), (10, 0));
+    assert_eq!(with(&[31, 32], 0), (10, 0));
     let mut timing = Timing::default();
     timing.updates[0].ramp = 1;
     assert_eq!(answer(&programme, &timing, &[]), (10, 0, 0));

@@ -51,7 +51,7 @@ fn written(trim: &[u8]) -> Result<Vec<u8>, (u32, u64)> {
         ..Programme::default()
     };
     let mut out = vec![0xEE; 100];
-    let answer = write(&programme, &Timing::default(), &[], trim, &mut out);
+    let answer = write(&programme, &Timing::default(), 0, &[], trim, &mut out);
     let length = answer.length as usize;
     assert!(out[length..].iter().all(|byte| *byte == 0xEE));
     out.truncate(length);
@@ -221,9 +221,9 @@ fn rooms() {
     let payload = bytes(&text);
     let answer = |room: usize, trim_room: usize| {
         let (mut records, mut trim) = (vec![0xEE; room], vec![0xEE; trim_room]);
-        let answer = read(&payload, &mut records, &mut trim);
+        let answer = read(&payload, 0, &mut records, &mut trim);
         let (used, trim_used) = if answer.refusal == 0 {
-            (72, 97)
+            (96, 97)
         } else {
             (0, 0)
         };
@@ -242,13 +242,13 @@ fn rooms() {
         assert!(answer.refusal == 0 || answer == bare);
         (answer.refusal, answer.place)
     };
-    assert_eq!(answer(72, 97), (0, 0));
-    assert_eq!(answer(80, 253), (0, 0));
-    assert_eq!(answer(72, 96), (9, 97));
-    assert_eq!(answer(72, 0), (9, 97));
-    assert_eq!(answer(71, 97), (9, 72));
-    assert_eq!(answer(71, 96), (9, 72));
-    assert_eq!(answer(0, 0), (9, 72));
+    assert_eq!(answer(96, 97), (0, 0));
+    assert_eq!(answer(110, 253), (0, 0));
+    assert_eq!(answer(96, 96), (9, 97));
+    assert_eq!(answer(96, 0), (9, 97));
+    assert_eq!(answer(95, 97), (9, 96));
+    assert_eq!(answer(95, 96), (9, 96));
+    assert_eq!(answer(0, 0), (9, 96));
 }
 
 #[test]
@@ -256,7 +256,7 @@ fn room_without_the_element() {
     let payload = bytes(&format!("{ONE} 0000"));
     for (room, expected) in [(0, (9, 95)), (94, (9, 95)), (95, (0, 0)), (96, (0, 0))] {
         let mut trim = vec![0xEE; room];
-        let answer = read(&payload, &mut [], &mut trim);
+        let answer = read(&payload, 0, &mut [], &mut trim);
         assert_eq!((answer.refusal, answer.place), expected);
         let used = if expected.0 == 0 { 95 } else { 0 };
         assert!(trim[..used].iter().all(|byte| *byte == 0));
@@ -342,15 +342,15 @@ fn order_of_refusals() {
         blocks: 1,
         ..Timing::default()
     };
-    let mut record = [0; 24];
+    let mut record = [0; 32];
     (record[1], record[4], record[5], record[6], record[12]) = (2, 31, 31, 64, 1);
     let records = record.repeat(2);
     let place = |programme, records: &[u8], trim: &[u8], room| {
-        let answer = write(&programme, &timing, records, trim, &mut vec![0; room]);
+        let answer = write(&programme, &timing, 0, records, trim, &mut vec![0; room]);
         (answer.refusal, answer.place)
     };
     let mut bad = records.clone();
-    bad[24] = 2;
+    bad[32] = 2;
     // 14 + 4 + 5 bits, 1 + 2 + 3 + 8 + 1 + 4 = 19 of the element: 3 bytes.
     assert_eq!(place(programme, &records, &[0; 96], 100), (0, 0));
     assert_eq!(place(programme, &records, &[0; 96], 5), (11, 6));
@@ -358,7 +358,7 @@ fn order_of_refusals() {
     assert_eq!(place(programme, &records, &[2; 96], 0), (10, 3));
     assert_eq!(place(programme, &records, &[0; 95], 100), (10, 3));
     assert_eq!(place(programme, &bad, &[2; 96], 100), (10, 2));
-    assert_eq!(place(programme, &records[..47], &[2; 96], 100), (10, 0));
+    assert_eq!(place(programme, &records[..63], &[2; 96], 100), (10, 0));
     let other = Programme {
         lfe: 2,
         ..programme
@@ -378,13 +378,13 @@ fn last_of_the_form() {
         blocks: 1,
         ..Timing::default()
     };
-    let mut record = [0; 24];
+    let mut record = [0; 32];
     record[..7].copy_from_slice(&[1, 2, 50, 32, 31, 31, 64]);
     (record[17], record[18]) = (1, 1);
     let mut trim = [0; 95];
     (trim[0], trim[2], trim[93], trim[94]) = (1, 1, 1, 1);
     let mut out = vec![0; 100];
-    let answer = write(&programme, &timing, &record, &trim, &mut out);
+    let answer = write(&programme, &timing, 0, &record, &trim, &mut out);
     assert_eq!(answer.refusal, 0);
     out.truncate(answer.length as usize);
     let object = "0 00 000 000000 00 1  0 00 1  011111 011111 0 0000 0  000 0 00 0 0 0";

@@ -118,8 +118,8 @@ fn gains() {
         // An LFE object alone: a bed object with basic values only.
         let content = format!("0 00 000 000000 00 1  0 {bits} 1 0");
         let payload = bytes(&format!("00 00000 1 1 0 0001 {}", element(1, &content)));
-        let mut records = [0xEE; 24];
-        let answer = read(&payload, &mut records, &mut [0xEE; 95]);
+        let mut records = [0xEE; 32];
+        let answer = read(&payload, 0, &mut records, &mut [0xEE; 95]);
         assert_eq!((answer.refusal, answer.programme.lfe), (0, 1));
         assert_eq!(records[..4], [1, 0, gain, 32], "{bits}");
         assert_eq!(records[4..17], [31, 31, 64, 0, 0, 0, 0, 0, 1, 0, 0, 0, 0]);

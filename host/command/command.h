@@ -17,13 +17,20 @@ typedef struct request {
     int trim;           /* the trim table's fields too */
     int progress;       /* shelf: progress on standard error, terminal or not */
     unsigned long rate; /* samples in a second, for milliseconds */
+    int framed;         /* the first frame was given */
+    uint64_t first;     /* the frame of the first payload; those behind it count on */
     char **names;       /* the files, none for standard input */
     int name_count;
 } request;
 
+/* What a frame number may be; the first number that is none. */
+#define MOST_FRAME UINT32_MAX
+#define NO_FRAME ((uint64_t)MOST_FRAME + 1)
+
 /* A payload that was read. */
 typedef struct reading {
     skriemelt_read_answer answer;
+    uint32_t frame;
     const uint8_t *records, *trim;
 } reading;
 

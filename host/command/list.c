@@ -15,12 +15,13 @@ static void print_listing(const uint8_t *payload, size_t payload_bytes)
         complain("the listing", skriemelt_refusal_text(a.refusal), 0);
 }
 
-static int print_payload(const request *asked, const uint8_t *payload, size_t payload_bytes)
+static int print_payload(const request *asked, uint32_t frame, const uint8_t *payload, size_t payload_bytes)
 {
     static uint8_t records[SKRIEMELT_MOST_RECORD_BYTES], trim[SKRIEMELT_MOST_TRIM_BYTES];
     reading r;
 
-    r.answer = skriemelt_read(payload, payload_bytes, records, sizeof records, trim, sizeof trim);
+    r.answer = skriemelt_read(payload, payload_bytes, frame, records, sizeof records, trim, sizeof trim);
+    r.frame = frame;
     r.records = records;
     r.trim = trim;
     if (asked->people)
@@ -34,12 +35,15 @@ static int print_payload(const request *asked, const uint8_t *payload, size_t pa
     return r.answer.refusal == SKRIEMELT_ACCEPTED ? STATUS_ACCEPTED : STATUS_REFUSED;
 }
 
-static int list_file(const request *asked, const char *name)
+static int list_file(const request *asked, uint64_t frame, const char *name)
 {
     static uint8_t payload[LOOKED_AT];
-    FILE *in = input_open(name);
+    FILE *in;
     size_t payload_bytes;
 
+    if (frame > MOST_FRAME)
+        return complain(input_title(name), "there is no frame number left for it", 0);
+    in = input_open(name);
     if (in == NULL)
         return STATUS_FAILED;
     payload_bytes = fread(payload, 1, sizeof payload, in);
@@ -47,7 +51,7 @@ static int list_file(const request *asked, const char *name)
         return STATUS_FAILED;
     if (asked->name_count > 1)
         print_name("file", name);
-    return print_payload(asked, payload, payload_bytes);
+    return print_payload(asked, (uint32_t)frame, payload, payload_bytes);
 }
 
 int run_list(const request *asked)
@@ -55,9 +59,9 @@ int run_list(const request *asked)
     int i, status = STATUS_ACCEPTED;
 
     if (asked->name_count == 0)
-        return list_file(asked, "-");
+        return list_file(asked, asked->first, "-");
     for (i = 0; i < asked->name_count && !print_failed(); i++) {
-        int of_file = list_file(asked, asked->names[i]);
+        int of_file = list_file(asked, asked->first + (uint64_t)i, asked->names[i]);
 
         if (of_file > status)
             status = of_file;

@@ -164,24 +164,37 @@ static void print_records(const reading *r)
     }
 }
 
-static void print_blocks(const skriemelt_timing *t, unsigned long rate)
+/* A time in samples from the start of frame 0, and in hours, minutes and seconds. */
+static void print_time(uint64_t time, unsigned long rate)
 {
+    unsigned long long ms = (1000 * time + rate / 2) / rate, seconds = ms / 1000;
+
+    print("time %llu samples (%llu:%02llu:%02llu.%03llu)", (unsigned long long)time, seconds / 3600, seconds / 60 % 60, seconds % 60, ms % 1000);
+}
+
+/* Every object has a record in every block, with the time of the block. */
+static void print_blocks(const reading *r, unsigned long rate)
+{
+    const skriemelt_timing *t = &r->answer.timing;
     unsigned i;
 
     for (i = 0; i < t->blocks; i++) {
-        print("block %u: start %u samples (%.3f ms), ramp %u samples (%.3f ms)\n", i, t->updates[i].start, 1000.0 * t->updates[i].start / (double)rate, t->updates[i].ramp,
+        print("block %u: start %u samples (%.3f ms), ramp %u samples (%.3f ms), ", i, t->updates[i].start, 1000.0 * t->updates[i].start / (double)rate, t->updates[i].ramp,
               1000.0 * t->updates[i].ramp / (double)rate);
+        print_time(skriemelt_time(skriemelt_record(&r->answer, r->records, 0, i)), rate);
+        print("\n");
     }
 }
 
-static void print_refused(const skriemelt_read_answer *a)
+static void print_refused(const reading *r)
 {
+    const skriemelt_read_answer *a = &r->answer;
     const char *unit = a->refusal == SKRIEMELT_TOO_LONG ? "bytes looked at" : "bit";
 
     print("refused (%u): %s; %s %llu", a->refusal, skriemelt_refusal_text(a->refusal), unit, (unsigned long long)a->place);
     if (a->refusal == SKRIEMELT_PAST_PAYLOAD)
         print(", %lu bits missing", (unsigned long)a->missing);
-    print("\n");
+    print("; frame %lu\n", (unsigned long)r->frame);
 }
 
 void print_people(const reading *r, unsigned long rate)
@@ -190,12 +203,12 @@ void print_people(const reading *r, unsigned long rate)
     skriemelt_counts counts = skriemelt_counts_of(&a->programme);
 
     if (a->refusal != SKRIEMELT_ACCEPTED) {
-        print_refused(a);
+        print_refused(r);
         return;
     }
-    print("accepted: %u objects (%u bed, %u ISF, %u dynamic), %u blocks, %u unknown elements\n", a->programme.objects, counts.bed, counts.isf, counts.dynamic,
-          a->timing.blocks, a->unknown);
-    print_blocks(&a->timing, rate);
+    print("accepted: %u objects (%u bed, %u ISF, %u dynamic), %u blocks, %u unknown elements; frame %lu\n", a->programme.objects, counts.bed, counts.isf, counts.dynamic,
+          a->timing.blocks, a->unknown, (unsigned long)r->frame);
+    print_blocks(r, rate);
     if (a->timing.blocks > 0)
         print_records(r);
 }

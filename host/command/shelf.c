@@ -2,13 +2,14 @@
 #include "command.h"
 
 #define MOST_LENGTH 65535 /* of two bytes */
-#define ENTRIES 64        /* payloads of a segment; its buffers take about 6 MB */
+#define ENTRIES 64        /* payloads of a segment; its buffers take about 7 MB */
 #define REFUSALS 256
 
 /* A segment: its payloads, and what they are read into. */
 static struct segment {
     uint8_t store[ENTRIES * MOST_LENGTH];
     uint64_t starts[ENTRIES], lengths[ENTRIES];
+    uint32_t frames[ENTRIES];
     size_t count, bytes;
     uint8_t records[ENTRIES * SKRIEMELT_MOST_RECORD_BYTES], trims[ENTRIES * SKRIEMELT_MOST_TRIM_BYTES];
     skriemelt_read_answer answers[ENTRIES];
@@ -19,11 +20,11 @@ typedef struct totals {
     unsigned long long payloads, refused, bytes, of[REFUSALS];
 } totals;
 
-/* How the reading of a segment ended. */
-typedef enum ending { FULL, AT_END, WITHIN } ending;
+/* How the reading of a segment ended; past the frames: with a payload that no frame number is left for. */
+typedef enum ending { FULL, AT_END, WITHIN, PAST_FRAMES } ending;
 
-/* Reads the payloads of the next segment. */
-static ending fill_segment(FILE *in)
+/* Reads the payloads of the next segment, from this frame on. */
+static ending fill_segment(FILE *in, uint64_t frame)
 {
     segment.count = segment.bytes = 0;
     while (segment.count < ENTRIES) {
@@ -32,11 +33,14 @@ static ending fill_segment(FILE *in)
 
         if (got < 2)
             return got == 0 && !ferror(in) ? AT_END : WITHIN;
+        if (frame + segment.count > MOST_FRAME)
+            return PAST_FRAMES;
         length = 256 * (size_t)head[0] + head[1];
         if (fread(segment.store + segment.bytes, 1, length, in) != length)
             return WITHIN;
         segment.starts[segment.count] = segment.bytes;
         segment.lengths[segment.count] = length;
+        segment.frames[segment.count] = (uint32_t)(frame + segment.count);
         segment.bytes += length;
         segment.count++;
     }
@@ -46,7 +50,7 @@ static ending fill_segment(FILE *in)
 static int read_segment(void)
 {
     skriemelt_batch_answer a = skriemelt_read_batch(
-        segment.store, segment.bytes, segment.starts, segment.count, segment.lengths, segment.count, SKRIEMELT_MOST_RECORD_BYTES, SKRIEMELT_MOST_TRIM_BYTES,
+        segment.store, segment.bytes, segment.starts, segment.count, segment.lengths, segment.count, segment.frames, segment.count, SKRIEMELT_MOST_RECORD_BYTES, SKRIEMELT_MOST_TRIM_BYTES,
         segment.records, sizeof segment.records, segment.trims, sizeof segment.trims, segment.answers, sizeof segment.answers);
 
     if (a.refusal != SKRIEMELT_ACCEPTED)
@@ -63,20 +67,19 @@ static void print_accepted(const reading *r)
     for (i = 0; i < records; i++)
         active += r->records[SKRIEMELT_RECORD_STRIDE * i + SKRIEMELT_RECORD_ACTIVE];
     print(" objects=%u bed=%u isf=%u dynamic=%u", a->programme.objects, counts.bed, counts.isf, counts.dynamic);
-    print(" blocks=%u unknown=%u active=%u\n", a->timing.blocks, a->unknown, active);
+    print(" blocks=%u unknown=%u active=%u", a->timing.blocks, a->unknown, active);
 }
 
 static void print_entry(const request *asked, size_t i, totals *t)
 {
-    reading r = {segment.answers[i], segment.records + i * SKRIEMELT_MOST_RECORD_BYTES, segment.trims + i * SKRIEMELT_MOST_TRIM_BYTES};
+    reading r = {segment.answers[i], segment.frames[i], segment.records + i * SKRIEMELT_MOST_RECORD_BYTES, segment.trims + i * SKRIEMELT_MOST_TRIM_BYTES};
 
     print("payload=%llu bytes=%llu refusal=%u place=%llu", t->payloads, (unsigned long long)segment.lengths[i], r.answer.refusal, (unsigned long long)r.answer.place);
     if (r.answer.refusal == SKRIEMELT_ACCEPTED)
         print_accepted(&r);
     else if (r.answer.refusal == SKRIEMELT_PAST_PAYLOAD)
-        print(" missing=%lu\n", (unsigned long)r.answer.missing);
-    else
-        print("\n");
+        print(" missing=%lu", (unsigned long)r.answer.missing);
+    print(" frame=%lu\n", (unsigned long)r.frame);
     if (asked->trim)
         print_trim(&r);
     t->payloads++;
@@ -96,7 +99,7 @@ static void print_totals(const totals *t)
     }
 }
 
-/* Reads segment by segment, a line for each payload. Whether all could be read and printed up to the end of the file or, as `how` says, within a payload. */
+/* Reads segment by segment, a line for each payload. Whether all could be read and printed up to where `how` says: the end of the file, or a payload. */
 static int print_shelf(const request *asked, FILE *in, totals *t, ending *how)
 {
     progress shown;
@@ -104,7 +107,7 @@ static int print_shelf(const request *asked, FILE *in, totals *t, ending *how)
 
     progress_start(&shown, in, asked->progress);
     do {
-        *how = fill_segment(in);
+        *how = fill_segment(in, asked->first + t->payloads);
         if (!read_segment())
             return 0;
         for (i = 0; i < segment.count; i++)
@@ -130,8 +133,8 @@ int run_shelf(const request *asked)
         return STATUS_FAILED;
     if (!print_shelf(asked, in, &t, &how) || !input_close(in, name) || print_failed())
         return STATUS_FAILED;
-    if (how == WITHIN) {
-        snprintf(where, sizeof where, "ends within payload %llu", t.payloads);
+    if (how == WITHIN || how == PAST_FRAMES) {
+        snprintf(where, sizeof where, how == WITHIN ? "ends within payload %llu" : "there is no frame number left for payload %llu", t.payloads);
         return complain(input_title(name), where, 0);
     }
     print_totals(&t);

@@ -3,6 +3,7 @@
 #include "command.h"
 
 #include <errno.h>
+#include <limits.h>
 #include <signal.h>
 #include <stdlib.h>
 #include <string.h>
@@ -10,8 +11,8 @@
 #define USUAL_RATE 48000
 
 static const char general_help[] =
-    "usage: skriemelt list [--people] [--trim] [--rate HZ] [FILE..]\n"
-    "       skriemelt shelf [--trim] [--progress] [FILE]\n"
+    "usage: skriemelt list [--people] [--trim] [--rate HZ] [--first N] [FILE..]\n"
+    "       skriemelt shelf [--trim] [--first N] [--progress] [FILE]\n"
     "       skriemelt SUBCOMMAND --help\n"
     "       skriemelt --help | --version\n"
     "\n"
@@ -22,20 +23,22 @@ static const char general_help[] =
     "Exit status: 0 all accepted, 1 something was refused, 2 usage, or a file that cannot be read or written.\n";
 
 static const char list_help[] =
-    "usage: skriemelt list [--people] [--trim] [--rate HZ] [FILE..]\n"
+    "usage: skriemelt list [--people] [--trim] [--rate HZ] [--first N] [FILE..]\n"
     "\n"
-    "Each FILE is one payload (- or none: standard input), of which at most 4,097 bytes are looked at. Prints its listing, lines key=value; with several\n"
-    "files a line file=FILE before each.\n"
+    "Each FILE is one payload (- or none: standard input), of which at most 4,097 bytes are looked at. Prints its listing, lines key=value, of frame 0;\n"
+    "with several files a line file=FILE before each.\n"
     "  --people   a table for people: gain in dB, position and size as numbers, times in samples and milliseconds\n"
     "  --trim     the trim table's fields by name, too\n"
-    "  --rate HZ  samples in a second, for the milliseconds of --people; 48000 if it is not given, since the payload does not hold it\n";
+    "  --rate HZ  samples in a second, for the milliseconds of --people; 48000 if it is not given, since the payload does not hold it\n"
+    "  --first N  with --people, the frame of the first file, for the time of each block; each further file is the next frame; 0 if it is not given\n";
 
 static const char shelf_help[] =
-    "usage: skriemelt shelf [--trim] [--progress] [FILE]\n"
+    "usage: skriemelt shelf [--trim] [--first N] [--progress] [FILE]\n"
     "\n"
     "FILE (- or none: standard input) holds payloads one behind the other, each behind its length in 2 bytes, most byte first. Prints a line for each,\n"
     "and at the end how many there were, and how many of each refusal. The file may have any length.\n"
     "  --trim      the trim table's fields of each payload by name, too\n"
+    "  --first N   the frame of the first payload; each further payload is the next frame; 0 if it is not given\n"
     "  --progress  progress on standard error, also where that is no terminal\n";
 
 static const struct subcommand {
@@ -51,17 +54,23 @@ static int misuse(const char *what, const char *why)
     return STATUS_FAILED;
 }
 
-/* The rate behind --rate; 0 for what is no rate. */
-static unsigned long rate_of(const char *digits)
+/* The word behind an option, which is taken too; NULL if there is none. */
+static const char *take_value(char ***arguments)
+{
+    return (*arguments)[1] == NULL ? NULL : *++*arguments;
+}
+
+/* The number that digits stand for, if they do and it is not above the most; else another one. */
+static unsigned long long number_of(const char *digits, unsigned long long most, unsigned long long otherwise)
 {
     char *end;
-    unsigned long rate;
+    unsigned long long number;
 
     if (digits == NULL || *digits < '0' || *digits > '9')
-        return 0;
+        return otherwise;
     errno = 0;
-    rate = strtoul(digits, &end, 10);
-    return *end == '\0' && errno == 0 ? rate : 0;
+    number = strtoull(digits, &end, 10);
+    return *end == '\0' && errno == 0 && number <= most ? number : otherwise;
 }
 
 /* Takes one option at *arguments, and its value if it has one; whether it is one of this subcommand. */
@@ -75,9 +84,10 @@ static int take_option(const struct subcommand *s, char ***arguments, request *a
     } else if (lists && strcmp(option, "--people") == 0) {
         asked->people = 1;
     } else if (lists && strcmp(option, "--rate") == 0) {
-        asked->rate = rate_of((*arguments)[1]);
-        if ((*arguments)[1] != NULL)
-            ++*arguments;
+        asked->rate = (unsigned long)number_of(take_value(arguments), ULONG_MAX, 0);
+    } else if (strcmp(option, "--first") == 0) {
+        asked->framed = 1;
+        asked->first = number_of(take_value(arguments), MOST_FRAME, NO_FRAME);
     } else if (!lists && strcmp(option, "--progress") == 0) {
         asked->progress = 1;
     } else {
@@ -86,10 +96,24 @@ static int take_option(const struct subcommand *s, char ***arguments, request *a
     return 1;
 }
 
+/* Runs a subcommand, if what it was asked for goes together. */
+static int run_asked(const struct subcommand *s, const request *asked)
+{
+    if (asked->rate == 0)
+        return misuse("--rate", "needs a number above 0");
+    if (asked->first == NO_FRAME)
+        return misuse("--first", "needs a number from 0 to 4294967295");
+    if (asked->framed && s->run == run_list && !asked->people)
+        return misuse("--first", "needs --people: the listing is of frame 0");
+    if (s->most_names >= 0 && asked->name_count > s->most_names)
+        return misuse(asked->names[s->most_names], "one file too many");
+    return s->run(asked);
+}
+
 /* Runs a subcommand with the arguments behind its name. The names are gathered at the front of the arguments. */
 static int run_subcommand(const struct subcommand *s, char **arguments)
 {
-    request asked = {0, 0, 0, USUAL_RATE, arguments, 0};
+    request asked = {0, 0, 0, USUAL_RATE, 0, 0, arguments, 0};
     int options = 1;
 
     for (; *arguments != NULL; arguments++) {
@@ -104,11 +128,7 @@ static int run_subcommand(const struct subcommand *s, char **arguments)
             return misuse(*arguments, "no such option");
         }
     }
-    if (asked.rate == 0)
-        return misuse("--rate", "needs a number above 0");
-    if (s->most_names >= 0 && asked.name_count > s->most_names)
-        return misuse(asked.names[s->most_names], "one file too many");
-    return s->run(&asked);
+    return run_asked(s, &asked);
 }
 
 static int run(char **arguments)

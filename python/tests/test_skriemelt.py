@@ -72,10 +72,10 @@ def expectations():
 PAYLOADS, WRITTEN, EXPECTED = entries("payloads"), entries("written"), expectations()
 
 
-def answer_of(payload, **rooms):
+def answer_of(payload, frame=0, **rooms):
     """What a read gives, or the refusal that it raises."""
     try:
-        return skriemelt.read(payload, **rooms)
+        return skriemelt.read(payload, frame, **rooms)
     except Refused as refused:
         return refused
 
@@ -191,8 +191,6 @@ class Vectors(Case):
                 self.same([Trim.from_bytes(answer.trim_bytes)], [answer.trim])
 
     def test_listing(self):
-        if not skriemelt.default_library().lists:
-            self.skipTest("the library cannot list")
         self.same([skriemelt.list_text(payload) for payload in PAYLOADS], [expected.listing() for expected in EXPECTED])
 
     def test_threads(self):
@@ -240,10 +238,10 @@ class Batch(Case):
         self.assertEqual(skriemelt.read_batch(SAMPLE, iter(())), [])
 
     def test_short_slots(self):
-        self.assertEqual(plain(skriemelt.read_batch(SAMPLE, [(0, 45)], record_slot=143)[0])[:2], (Refusal.NO_ROOM, 144))
+        self.assertEqual(plain(skriemelt.read_batch(SAMPLE, [(0, 45)], record_slot=191)[0])[:2], (Refusal.NO_ROOM, 192))
         self.assertEqual(plain(skriemelt.read_batch(SAMPLE, [(0, 45)], trim_slot=96)[0])[:2], (Refusal.NO_ROOM, 97))
-        self.assertEqual(plain(skriemelt.read_batch(SAMPLE, [(0, 45)], record_slot=0, trim_slot=0)[0])[:2], (Refusal.NO_ROOM, 144))
-        tight = skriemelt.read_batch(SAMPLE, [(0, 45)] * 3, record_slot=144, trim_slot=97)
+        self.assertEqual(plain(skriemelt.read_batch(SAMPLE, [(0, 45)], record_slot=0, trim_slot=0)[0])[:2], (Refusal.NO_ROOM, 192))
+        tight = skriemelt.read_batch(SAMPLE, [(0, 45)] * 3, record_slot=192, trim_slot=97)
         self.same(tight, [skriemelt.read(SAMPLE)] * 3)
 
     def test_entries_that_are_none(self):
@@ -257,12 +255,104 @@ class Batch(Case):
     def test_lists_that_differ(self):
         library = skriemelt.default_library()
         two, three = (ctypes.c_uint64 * 2)(), (ctypes.c_uint64 * 3)()
-        answer = library._read_batch(b"", 0, two, 2, three, 3, 0, 0, None, 0, None, 0, None, 0)
-        self.assertEqual((answer.refusal, answer.place), (Refusal.LISTS, 2))
-        shelf = skriemelt._Shelf(1, 144, 97)
+        frames, answers = (ctypes.c_uint32 * 3)(), (skriemelt._ReadAnswer * 2)()
+        for lists in ((two, 2, three, 3, frames, 2), (two, 2, two, 2, frames, 3), (two, 2, two, 2, None, 0)):
+            answer = library._read_batch(b"", 0, *lists, 0, 0, None, 0, None, 0, answers, ctypes.sizeof(answers))
+            self.assertEqual((answer.refusal, answer.place), (Refusal.LISTS, 2))
+        shelf = skriemelt._Shelf(1, 192, 97)
         with self.assertRaises(Refused) as caught:
-            shelf.read(library, SAMPLE, [(0, 45)] * 2)
+            shelf.read(library, SAMPLE, [(0, 45, 0)] * 2)
         self.assertEqual((caught.exception.number, caught.exception.place), (Refusal.LISTS, 2))
+
+
+class Frames(Case):
+    """Frames, and the time of each record."""
+
+    LAST = (1 << 32) - 1
+
+    def written(self, frame, tables, records):
+        """What the library answers to records in a frame."""
+        programme, timing = skriemelt._c_programme(tables.programme), skriemelt._c_timing(tables.timing)
+        payload, trim = (ctypes.c_uint8 * 4096)(), tables.trim_bytes
+        answer = skriemelt.default_library()._write(programme, timing, frame, records, len(records), trim, len(trim), payload, len(payload))
+        return answer.refusal, answer.place
+
+    def test_sample(self):
+        raw = "01003e041f1f4000000000000100000000000000000000002000000000000000"
+        self.assertEqual(skriemelt.read(SAMPLE).record(0, 1).raw.hex(), raw)
+        for frame, first in ((0, 0), (7, 10752), (self.LAST, 6597069765120)):
+            tables = skriemelt.read(SAMPLE, frame)
+            self.assertEqual(tables.frame, frame)
+            self.assertEqual([record.time for record in tables.records], [first, first + 32] * 3)
+        self.assertEqual(skriemelt.read(SAMPLE, frame=7).record(0, 1).raw.hex()[-16:], "202a000000000000")
+        self.assertEqual(Record(time=self.LAST * 1536 + 2047).raw.hex()[-16:], "ff01000000060000")
+
+    def test_every_vector(self):
+        for payload, form in zip(PAYLOADS, WRITTEN):
+            here, there = answer_of(payload), answer_of(payload, 1000)
+            if isinstance(here, Refused):
+                self.same([here], [there])
+            else:
+                self.same([dataclasses.replace(here, frame=1000)], [there])
+                self.same([dataclasses.replace(here, frame=1000).record_bytes], [there.record_bytes])
+                self.assertEqual(skriemelt.write(there) if form else b"", form)
+
+    def test_equality(self):
+        here, there = skriemelt.read(SAMPLE), skriemelt.read(SAMPLE, 7)
+        self.assertNotEqual(here, there)
+        self.assertEqual(here.records, there.records)
+        self.assertEqual(here.record(1, 0), here.record(1, 1))
+        self.assertNotEqual(here.record(0, 0), here.record(0, 1))
+
+    def test_tables_by_hand(self):
+        tables = dataclasses.replace(small(), frame=7)
+        self.assertEqual([record.time for record in tables.records], [10752, 10784] * 2)
+        self.assertEqual(skriemelt.read(skriemelt.write(tables), 7), tables)
+        self.assertEqual(skriemelt.write(tables), skriemelt.write(small()))
+        later = dataclasses.replace(tables, timing=Timing((Update(5), Update(2021))), frame=8)
+        self.assertEqual([record.time for record in later.records], [12293, 14309] * 2)
+        self.assertEqual(skriemelt.read(skriemelt.write(later), 8), later)
+        moved = dataclasses.replace(tables, records=later.records[::-1])
+        self.assertEqual(moved.record_bytes, tables.record_bytes)
+        self.assertIsInstance(dataclasses.replace(tables, records=list(tables.records)).records, tuple)
+
+    def test_no_blocks(self):
+        for frame in (0, 7, self.LAST):
+            tables = Tables(Programme(1, dynonly=1), Timing(), (), Trim.none(1), frame=frame)
+            self.assertEqual(skriemelt.write(tables), b"\x01\x00")
+            self.assertEqual(skriemelt.read(b"\x01\x00", frame), tables)
+
+    def test_refused_times(self):
+        tables = skriemelt.read(SAMPLE, 7)
+        records = bytearray(tables.record_bytes)
+        self.assertEqual(self.written(7, tables, bytes(records)), (0, 0))
+        self.assertEqual(self.written(8, tables, bytes(records)), (Refusal.NOT_VALID, 1))
+        records[32 + 24] ^= 1
+        self.assertEqual(self.written(7, tables, bytes(records)), (Refusal.NOT_VALID, 2))
+        self.assertEqual(self.written(7, tables, bytes(records[:191])), (Refusal.NOT_VALID, 0))
+
+    def test_batch(self):
+        store, places = SAMPLE * 2, [(0, 45), (0, 3), (45, 45)]
+        want = [skriemelt.read(SAMPLE, 7), answer_of(SAMPLE[:3]), skriemelt.read(SAMPLE, self.LAST)]
+        self.same(skriemelt.read_batch(store, places, [7, 8, self.LAST]), want)
+        self.same(skriemelt.read_batch(store, places), [answer_of(payload) for payload in (SAMPLE, SAMPLE[:3], SAMPLE)])
+        many = skriemelt.read_batch(SAMPLE, [(0, 45)] * 1000, frames=range(5, 1005))
+        self.assertEqual([tables.frame for tables in many], list(range(5, 1005)))
+        self.assertEqual([tables.record(2, 1).time for tables in many], [1536 * frame + 32 for frame in range(5, 1005)])
+
+    def test_frames_that_are_none(self):
+        for bad in (-1, 1 << 32):
+            self.assertRaisesRegex(ValueError, f"frame is {bad}", skriemelt.read, SAMPLE, bad)
+            self.assertRaisesRegex(ValueError, r"frames\[1\] is", skriemelt.read_batch, SAMPLE, [(0, 45)] * 2, [0, bad])
+        for bad in ("7", 7.0, None):
+            self.assertRaisesRegex(TypeError, "frame must be an integer", skriemelt.read, SAMPLE, bad)
+        for count in (0, 1, 3):
+            self.assertRaisesRegex(ValueError, f"there are {count} frames for 2 entries", skriemelt.read_batch, SAMPLE, [(0, 45)] * 2, [0] * count)
+
+    def test_times_that_are_none(self):
+        for bad in (-1, 1 << 64):
+            self.assertRaisesRegex(ValueError, "record.time", lambda: Record(time=bad).raw)
+        self.assertRaisesRegex(TypeError, "record.time must be an integer", lambda: Record(time=1.0).raw)
 
 
 class Refusals(unittest.TestCase):
@@ -303,10 +393,10 @@ class Refusals(unittest.TestCase):
         self.assertEqual(pickle.loads(pickle.dumps(tables)), tables)
 
     def test_no_room(self):
-        self.assertEqual(self.raised(skriemelt.read, SAMPLE, record_room=143).args[:2], (Refusal.NO_ROOM, 144))
+        self.assertEqual(self.raised(skriemelt.read, SAMPLE, record_room=191).args[:2], (Refusal.NO_ROOM, 192))
         self.assertEqual(self.raised(skriemelt.read, SAMPLE, trim_room=96).args[:2], (Refusal.NO_ROOM, 97))
-        self.assertEqual(self.raised(skriemelt.read, SAMPLE, record_room=0, trim_room=0).args[:2], (Refusal.NO_ROOM, 144))
-        self.assertEqual(skriemelt.read(SAMPLE, record_room=144, trim_room=97), skriemelt.read(SAMPLE))
+        self.assertEqual(self.raised(skriemelt.read, SAMPLE, record_room=0, trim_room=0).args[:2], (Refusal.NO_ROOM, 192))
+        self.assertEqual(skriemelt.read(SAMPLE, record_room=192, trim_room=97), skriemelt.read(SAMPLE))
 
     def test_bad_record(self):
         tables = small()
@@ -427,6 +517,8 @@ class Values(unittest.TestCase):
             "trim.object_flags[1]": dataclasses.replace(tables, trim=Trim(object_flags=(0, 256))),
             "trim configuration.centre": dataclasses.replace(tables, trim=Trim(1, 0, 2, (TrimConfig(centre=300),) * 9, 0, (0, 0))),
             "9 beds": dataclasses.replace(tables, programme=Programme(2, beds=(Bed(),) * 10)),
+            "frame is 4294967296": dataclasses.replace(tables, frame=1 << 32),
+            "frame is -1": dataclasses.replace(tables, frame=-1),
             "8 updates": dataclasses.replace(tables, timing=Timing((Update(),) * 9)),
         }
         for name, case in cases.items():
@@ -435,7 +527,7 @@ class Values(unittest.TestCase):
 
     def test_values_that_are_no_numbers(self):
         tables = small()
-        for case in (with_record(tables, 0, gain=50.0), with_record(tables, 0, gain=None), dataclasses.replace(tables, programme=Programme("2")),
+        for case in (with_record(tables, 0, gain=50.0), with_record(tables, 0, gain=None), dataclasses.replace(tables, frame="7"), dataclasses.replace(tables, programme=Programme("2")),
                      dataclasses.replace(tables, timing=Timing((Update("0"), Update(32))))):
             self.assertRaisesRegex(TypeError, "must be an integer", skriemelt.write, case)
 
@@ -482,7 +574,7 @@ class NoBytes(unittest.TestCase):
         self.assertEqual(skriemelt.read_batch(Long(SAMPLE), [(0, 46)])[0].number, Refusal.OUTSIDE)
 
     def test_lengths_of_raw_bytes(self):
-        for count in (0, 23, 25):
+        for count in (0, 24, 31, 33):
             self.assertRaisesRegex(ValueError, f"not {count}", Record.from_bytes, bytes(count))
         self.assertRaisesRegex(ValueError, "not 93", Trim.from_bytes, bytes(93))
         self.assertEqual(Trim.from_bytes(bytes(94)), Trim())
@@ -508,7 +600,7 @@ class Interface(unittest.TestCase):
         known.update({member.name: member for member in Refusal})
         known.update({"RECORD_" + name.rstrip("_").upper(): at for at, name in enumerate(skriemelt._RECORD_NAMES)})
         known.update({"TRIM_CONFIG_" + name.upper(): at for at, name in enumerate(skriemelt._CONFIG_NAMES)})
-        known.update({name: getattr(skriemelt, name) for name in dir(skriemelt) if re.fullmatch(r"(MOST|RECORD|TRIM)_[A-Z_]+", name)})
+        known.update({name: getattr(skriemelt, name) for name in dir(skriemelt) if re.fullmatch(r"(MOST|FRAME|RECORD|TRIM)_[A-Z_]+", name)})
         for name, value in defined.items():
             if name in known:
                 self.assertEqual(known[name], value, name)
@@ -552,8 +644,6 @@ uint32_t skriemelt_version(void) { return VERSION; }
 void skriemelt_read(void) {}
 void skriemelt_write(void) {}
 void skriemelt_read_batch(void) {}
-#endif
-#ifdef LISTS
 text_answer skriemelt_list_text(const uint8_t *payload, size_t payload_bytes, uint8_t *text, size_t text_bytes)
 {
     text_answer a = {0, 10, 0}, b = {10, 0, 18};
@@ -581,29 +671,29 @@ class Missing(unittest.TestCase):
         return str(caught.exception)
 
     def test_named_and_not_there(self):
-        says = self.error("/nowhere/libskriemelt.so.2")
+        says = self.error("/nowhere/libskriemelt.so.3")
         self.assertIn("SKRIEMELT_LIBRARY names", says)
-        self.assertIn("/nowhere/libskriemelt.so.2", says)
+        self.assertIn("/nowhere/libskriemelt.so.3", says)
 
     def test_named_and_no_library(self):
         self.assertIn(__file__, self.error(__file__))
 
     def test_not_named_and_not_there(self):
-        with mock.patch.object(skriemelt, "_candidates", lambda: iter(["/nowhere/libskriemelt.so.2", "/nowhere/libskriemelt.so"])):
+        with mock.patch.object(skriemelt, "_candidates", lambda: iter(["/nowhere/libskriemelt.so.3", "/nowhere/libskriemelt.so"])):
             skriemelt._opened.cache_clear()
             says = self.error("")
-        for part in ("SKRIEMELT_LIBRARY is not set", "/nowhere/libskriemelt.so.2: ", "/nowhere/libskriemelt.so: "):
+        for part in ("SKRIEMELT_LIBRARY is not set", "/nowhere/libskriemelt.so.3: ", "/nowhere/libskriemelt.so: "):
             self.assertIn(part, says)
 
     def test_where_it_is_looked_for(self):
         beside = str(HERE.parent / "libskriemelt.so")
         with mock.patch("ctypes.util.find_library", lambda name: f"lib{name}.so.9"):
-            self.assertEqual(list(skriemelt._candidates()), [beside + ".2", beside, "libskriemelt.so.2", "libskriemelt.so.9"])
+            self.assertEqual(list(skriemelt._candidates()), [beside + ".3", beside, "libskriemelt.so.3", "libskriemelt.so.9"])
         with mock.patch("ctypes.util.find_library", lambda name: None):
-            self.assertEqual(list(skriemelt._candidates()), [beside + ".2", beside, "libskriemelt.so.2"])
+            self.assertEqual(list(skriemelt._candidates()), [beside + ".3", beside, "libskriemelt.so.3"])
 
     def test_import_needs_no_library(self):
-        environment = dict(os.environ, SKRIEMELT_LIBRARY="/nowhere/libskriemelt.so.2", PYTHONPATH=str(HERE.parent))
+        environment = dict(os.environ, SKRIEMELT_LIBRARY="/nowhere/libskriemelt.so.3", PYTHONPATH=str(HERE.parent))
         subprocess.run([sys.executable, "-c", "import skriemelt; skriemelt.Record().raw"], env=environment, check=True)
 
 
@@ -619,43 +709,40 @@ class OtherVersion(unittest.TestCase):
         """A library made with these options."""
         folder = pathlib.Path(tempfile.mkdtemp(dir=self.folder.name))
         (folder / "stub.c").write_text(STUB, encoding="ascii")
-        path = folder / "libskriemelt.so.2"
+        path = folder / "libskriemelt.so.3"
         subprocess.run([compiler(), "-shared", "-fPIC", *options, "-o", str(path), str(folder / "stub.c")], check=True)
         return str(path)
 
     def test_versions_that_do_not_fit(self):
-        for version in (0, 1002, 1999, 2000, 2001, 3000, 3002, 12002):
+        for version in (0, 1002, 2003, 2999, 4000, 13000):
             path = self.stub(f"-DVERSION={version}")
             with self.subTest(version=version), mock.patch.dict(os.environ, {"SKRIEMELT_LIBRARY": path}):
                 with self.assertRaises(skriemelt.LibraryError) as caught:
                     skriemelt.read(SAMPLE)
-                for part in (path, f"has version {version} ", "2002 to 2999"):
+                for part in (path, f"has version {version} ", "3000 to 3999"):
                     self.assertIn(part, str(caught.exception))
 
     def test_versions_that_fit(self):
-        for version in (2002, 2003, 2999):
+        for version in (3000, 3001, 3999):
             library = skriemelt.Library(self.stub(f"-DVERSION={version}"))
             self.assertEqual(library.version, version)
-            self.assertFalse(library.lists)
             self.assertIn(str(version), repr(library))
-            self.assertRaisesRegex(skriemelt.LibraryError, "cannot list", skriemelt.list_text, SAMPLE, library=library)
 
     def test_listing(self):
-        library = skriemelt.Library(self.stub("-DVERSION=2003", "-DLISTS"))
-        self.assertTrue(library.lists)
+        library = skriemelt.Library(self.stub("-DVERSION=3000"))
         self.assertEqual(skriemelt.list_text(SAMPLE, library=library), "refusal=0\n")
         with self.assertRaises(Refused) as caught:
             skriemelt.list_text(SAMPLE, room=9, library=library)
         self.assertEqual((caught.exception.refusal, caught.exception.place), (Refusal.SHORT_TEXT, 10))
 
     def test_functions_that_are_not_there(self):
-        path = self.stub("-DVERSION=2002", "-DALONE")
+        path = self.stub("-DVERSION=3000", "-DALONE")
         self.assertRaisesRegex(skriemelt.LibraryError, "no function skriemelt_read", skriemelt.Library, path)
-        other = self.stub("-DVERSION=2002", "-Dskriemelt_version=another_version")
+        other = self.stub("-DVERSION=3000", "-Dskriemelt_version=another_version")
         self.assertRaisesRegex(skriemelt.LibraryError, "no function skriemelt_version", skriemelt.Library, pathlib.Path(other))
 
     def test_the_first_that_loads_decides(self):
-        old, fit = self.stub("-DVERSION=2001"), self.stub("-DVERSION=2002")
+        old, fit = self.stub("-DVERSION=2003"), self.stub("-DVERSION=3000")
         with mock.patch.dict(os.environ, {"SKRIEMELT_LIBRARY": ""}):
             self.addCleanup(skriemelt._opened.cache_clear)
             with mock.patch.object(skriemelt, "_candidates", lambda: iter(["/nowhere/lib.so", fit, old])):
@@ -664,7 +751,7 @@ class OtherVersion(unittest.TestCase):
                 self.assertIs(skriemelt.default_library(), skriemelt.default_library())
             with mock.patch.object(skriemelt, "_candidates", lambda: iter([old, fit])):
                 skriemelt._opened.cache_clear()
-                self.assertRaisesRegex(skriemelt.LibraryError, "has version 2001", skriemelt.default_library)
+                self.assertRaisesRegex(skriemelt.LibraryError, "has version 2003", skriemelt.default_library)
 
 
 if __name__ == "__main__":

@@ -70,7 +70,7 @@ pub fn form_bytes(case: &TableCase) -> usize {
     let (p, t) = (&case.programme, &case.timing);
     let blocks = usize::from(t.blocks);
     let count = usize::from(p.objects) * blocks;
-    let records: Vec<&[u8]> = case.records.chunks(24).take(count).collect();
+    let records: Vec<&[u8]> = case.records.chunks(32).take(count).collect();
     let mut object = 0;
     if blocks > 0 {
         let offset = if t.updates[0].start % 32 == 0 { 2 } else { 7 };

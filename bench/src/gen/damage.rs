@@ -3,7 +3,7 @@
 use super::draft::Draft;
 use super::marks::{Group, Marks};
 use super::payload::Whole;
-use super::{Case, Fault, Gen, Tables};
+use super::{Case, Fault, Gen, Tables, ROOM, STRIDE};
 
 const FAULTS: [Fault; 19] = [
     Fault::Version,
@@ -45,6 +45,7 @@ impl Gen {
     pub fn case(&mut self) -> Case {
         self.marks = Marks::default();
         self.fault = None;
+        self.draw_frame();
         match self.rng.below(100) {
             0..=39 => self.valid(),
             40..=62 => self.faulty(),
@@ -173,7 +174,7 @@ impl Gen {
         }
         let bytes = self.bytes(&draft);
         let objects = usize::from(programme.objects);
-        let needed = 24 * objects * self.rng.within(1, 8);
+        let needed = STRIDE * objects * self.rng.within(1, 8);
         self.finish_open("noisy", bytes, (needed, 94 + objects))
     }
 
@@ -184,7 +185,7 @@ impl Gen {
         if let Some(first) = bytes.first_mut() {
             *first &= self.rng.pick(&[0xFF, 0x3F, 0x3F, 0x07]);
         }
-        let needed = (self.rng.below(30_720), self.rng.within(95, 253));
+        let needed = (self.rng.below(ROOM), self.rng.within(95, 253));
         self.finish_open("random", bytes, needed)
     }
 
@@ -239,6 +240,7 @@ impl Gen {
         Case {
             kind,
             payload,
+            frame: self.frame,
             room: self.room(records),
             trim_room: self.trim_room(trim),
             expect: (length > 4096).then_some((1, length as u64, 0)),
@@ -266,6 +268,7 @@ impl Gen {
         Case {
             kind,
             payload,
+            frame: self.frame,
             room,
             trim_room,
             expect: Some((expect.0, expect.1 as u64, expect.2 as u32)),
@@ -289,7 +292,7 @@ impl Gen {
     fn room(&mut self, needed: usize) -> usize {
         match self.rng.below(20) {
             0..=6 => needed,
-            7..=12 => 30_720,
+            7..=12 => ROOM,
             13..=16 => needed + self.rng.within(1, 100),
             17..=18 => needed.saturating_sub(1),
             _ => 0,

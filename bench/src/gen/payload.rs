@@ -4,7 +4,7 @@ use super::draft::Draft;
 use super::marks::Group;
 use super::object::ObjectElement;
 use super::programme::counts;
-use super::{Fault, Gen, Tables};
+use super::{timed, Fault, Gen, Tables};
 use crate::plain::{Programme, Record, Timing};
 
 /// A payload in bits, and what a reader is to make of it if nothing is wrong
@@ -85,7 +85,7 @@ impl Gen {
         Tables {
             programme: elements.programme,
             timing,
-            records: records.concat(),
+            records: timed(&records, &timing, self.frame),
             trim: elements.trim.unwrap_or_else(|| vec![0; 94 + objects]),
             unknown,
         }

@@ -1,17 +1,18 @@
 //! Tables to be written: valid, with one value changed, or not fit to write.
 
 use super::programme::counts;
-use super::{Gen, TableCase};
-use crate::plain::{Bed, Programme, Timing, Update};
+use super::{timed, Gen, TableCase, STRIDE};
+use crate::plain::{Bed, Programme, Record, Timing, Update};
 
 impl Gen {
     /// The next tables.
     pub fn tables(&mut self) -> TableCase {
+        self.draw_frame();
         if self.rng.chance(3) {
             return self.random_tables();
         }
         let mut case = self.valid_tables();
-        match self.rng.below(26) {
+        match self.rng.below(29) {
             0..=9 => {}
             10..=14 if !case.records.is_empty() => self.change_record(&mut case),
             15..=16 => self.change_programme(&mut case),
@@ -28,6 +29,7 @@ impl Gen {
             }
             20..=23 => self.spoil_trim(&mut case),
             24 => self.change_trim(&mut case),
+            25..=27 if !case.records.is_empty() => self.spoil_time(&mut case),
             _ => {
                 let (more, trim) = (self.rng.within(1, 50), self.rng.within(1, 50));
                 case.records.extend((0..more).map(|k| k as u8));
@@ -42,7 +44,7 @@ impl Gen {
     /// off or put behind the others.
     pub fn damage_tables(&mut self, case: &mut TableCase) {
         for _ in 0..self.rng.within(1, 3) {
-            match self.rng.below(16) {
+            match self.rng.below(18) {
                 0..=6 if !case.records.is_empty() => self.change_record(case),
                 7..=8 => self.change_programme(case),
                 9 => self.change_timing(case),
@@ -52,6 +54,8 @@ impl Gen {
                 11..=13 if !case.trim.is_empty() => self.change_trim(case),
                 14 => case.trim.truncate(self.rng.below(case.trim.len() + 1)),
                 15 => case.trim.push(self.rng.byte()),
+                16 => case.frame ^= 1 << self.rng.below(32),
+                17 if !case.records.is_empty() => self.spoil_time(case),
                 _ => case.records.push(self.rng.byte()),
             }
         }
@@ -93,6 +97,7 @@ impl Gen {
             kind: "random tables",
             programme,
             timing,
+            frame: self.frame,
             records: bytes(length),
             trim: bytes(trim_length),
             valid: None,
@@ -112,14 +117,15 @@ impl Gen {
             let class = u8::from(object >= bed) + u8::from(object >= bed + isf);
             for _ in 0..timing.blocks {
                 let active = !self.rng.chance(inactive);
-                records.extend(self.record(active, class, extended));
+                records.push(self.record(active, class, extended));
             }
         }
         TableCase {
             kind: "valid tables",
             programme,
             timing,
-            records,
+            frame: self.frame,
+            records: timed(&records, &timing, self.frame),
             trim: self.valid_trim(programme.objects.into()),
             valid: Some(true),
             place: None,
@@ -149,7 +155,7 @@ impl Gen {
     }
 
     /// A valid record.
-    fn record(&mut self, active: bool, class: u8, extended: usize) -> [u8; 24] {
+    fn record(&mut self, active: bool, class: u8, extended: usize) -> Record {
         let mut r = [0; 24];
         (r[0], r[1]) = (u8::from(active), class);
         (r[4], r[5], r[6], r[12]) = (31, 31, 64, 1);
@@ -186,7 +192,7 @@ impl Gen {
     }
 
     /// Bytes 17 to 23 of an active dynamic record.
-    fn extend(&mut self, r: &mut [u8; 24]) {
+    fn extend(&mut self, r: &mut Record) {
         let mode = self.rng.below(4) as u8;
         if mode < 3 {
             r[17] = 1;
@@ -230,14 +236,45 @@ impl Gen {
         let mut at = self.rng.below(case.records.len());
         for _ in 0..4 {
             // Rather an active dynamic record.
-            if case.records[at / 24 * 24..].starts_with(&[1, 2]) {
+            if case.records[at / STRIDE * STRIDE..].starts_with(&[1, 2]) {
                 break;
             }
             at = self.rng.below(case.records.len());
         }
         case.records[at] = self.other(case.records[at]);
         case.kind = "record byte changed";
-        (case.valid, case.place) = (None, Some(1 + at as u64 / 24));
+        (case.valid, case.place) = (None, Some(1 + (at / STRIDE) as u64));
+    }
+
+    /// Gives a record another time, or all of them another frame.
+    fn spoil_time(&mut self, case: &mut TableCase) {
+        let count = case.records.len() / STRIDE;
+        if count == 0 || self.rng.chance(20) {
+            case.frame = case
+                .frame
+                .wrapping_add(self.rng.pick(&[1, u32::MAX, 1 << 16]));
+            case.kind = "another frame";
+            (case.valid, case.place) = (Some(false), Some(1));
+            return;
+        }
+        let index = self.rng.below(count);
+        let time = &mut case.records[STRIDE * index + 24..STRIDE * (index + 1)];
+        let right = time.to_vec();
+        let first = 1536 * u64::from(case.frame);
+        let start = case.timing.updates[self.rng.below(8)].start;
+        match self.rng.below(6) {
+            // the start left out, that of another block, and counted in another frame
+            0 => time.copy_from_slice(&first.to_le_bytes()),
+            1 => time.copy_from_slice(&(first + u64::from(start)).to_le_bytes()),
+            2 => time.copy_from_slice(&(first + 1536 + u64::from(start)).to_le_bytes()),
+            3 => time.reverse(),
+            4 => time.fill(0),
+            _ => time[self.rng.below(8)] ^= 1 << self.rng.below(8),
+        }
+        if *time != right {
+            case.kind = "another time";
+            (case.valid, case.place) = (Some(false), Some(1 + index as u64));
+        }
     }
 
     fn change_programme(&mut self, case: &mut TableCase) {
@@ -306,7 +343,8 @@ pub fn longest() -> TableCase {
         kind: "longest",
         programme,
         timing,
-        records: record.repeat(159 * 8),
+        frame: u32::MAX,
+        records: timed(&[record; 159 * 8], &timing, u32::MAX),
         trim: [&[1, 1, 2][..], &config.repeat(9), &[1; 160]].concat(),
         valid: Some(true),
         place: None,

@@ -2,8 +2,21 @@
 
 use super::draft::Draft;
 use super::marks::Group;
-use super::{Fault, Gen};
-use crate::plain::Timing;
+use super::{Fault, Gen, STRIDE};
+use crate::plain::{Record, Timing};
+
+/// The bytes of records, each with its time behind it: 1,536 samples for every
+/// frame before this one, and the start of its block.
+pub fn timed(records: &[Record], timing: &Timing, frame: u32) -> Vec<u8> {
+    let mut bytes = Vec::with_capacity(STRIDE * records.len());
+    for (index, record) in records.iter().enumerate() {
+        let start = timing.updates[index % usize::from(timing.blocks)].start;
+        let time = 1536 * u64::from(frame) + u64::from(start);
+        bytes.extend(record);
+        bytes.extend((0..8).map(|byte| (time >> (8 * byte)) as u8));
+    }
+    bytes
+}
 
 impl Gen {
     /// md_update_info (5.5.6, 5.5.7).

@@ -14,6 +14,8 @@ pub struct Shelf<'a> {
     /// Where each payload begins in the store, and how long it is.
     pub starts: &'a [u64],
     pub lengths: &'a [u64],
+    /// The frame of each payload.
+    pub frames: &'a [u32],
     /// Bytes of every slot, of records and of trim.
     pub record_slot: usize,
     pub trim_slot: usize,
@@ -42,37 +44,41 @@ pub fn read_batch(
     let enough = holds(records, shelf.record_slot)
         && holds(trims, shelf.trim_slot)
         && holds(answers, ANSWER_BYTES);
-    if shelf.lengths.len() != count || !enough {
+    let lists = shelf.lengths.len() == count && shelf.frames.len() == count;
+    if !lists || !enough {
         return BatchAnswer {
             refusal: refusal::LISTS,
             place: count as u64,
         };
     }
     let (mut records, mut trims) = (records, trims);
-    let entries = shelf.starts.iter().zip(shelf.lengths);
-    for ((start, length), place) in entries.zip(answers.chunks_exact_mut(ANSWER_BYTES)) {
+    let entries = shelf.starts.iter().zip(shelf.lengths).zip(shelf.frames);
+    for (((start, length), frame), place) in entries.zip(answers.chunks_exact_mut(ANSWER_BYTES)) {
         let (slot, more) = records.split_at_mut(shelf.record_slot);
         let (trim_slot, more_trims) = trims.split_at_mut(shelf.trim_slot);
-        let answer = entry(shelf.store, *start, *length, slot, trim_slot);
+        let answer = match part(shelf.store, *start, *length) {
+            Some(payload) => read(payload, *frame, slot, trim_slot),
+            None => outside(*start),
+        };
         place.copy_from_slice(&answer_bytes(&answer));
         (records, trims) = (more, more_trims);
     }
     BatchAnswer::default()
 }
 
-/// One entry: refusal 12 where it leaves the store, before anything else.
-fn entry(store: &[u8], start: u64, length: u64, records: &mut [u8], trim: &mut [u8]) -> Answer {
-    let part = start.checked_add(length).and_then(|end| {
-        let (start, end) = (usize::try_from(start).ok()?, usize::try_from(end).ok()?);
-        store.get(start..end)
-    });
-    match part {
-        Some(payload) => read(payload, records, trim),
-        None => Answer {
-            refusal: refusal::OUTSIDE,
-            place: start,
-            ..Answer::default()
-        },
+/// A part of the store, if it does not leave it.
+fn part(store: &[u8], start: u64, length: u64) -> Option<&[u8]> {
+    let end = usize::try_from(start.checked_add(length)?).ok()?;
+    store.get(usize::try_from(start).ok()?..end)
+}
+
+/// The answer of an entry that leaves the store, before anything else is said
+/// of it.
+fn outside(start: u64) -> Answer {
+    Answer {
+        refusal: refusal::OUTSIDE,
+        place: start,
+        ..Answer::default()
     }
 }
 

@@ -4,10 +4,10 @@ use super::assignment::program_assignment;
 use super::bits::{Bits, Refusal};
 use super::extended::extended_object_element;
 use super::object::object_element;
-use super::record::{Record, RECORD_BYTES};
+use super::record::Record;
 use super::trim::{trim_element, PRESENT};
 use super::{needed, refusal, trim_needed};
-use super::{Programme, Timing, MAX_PAYLOAD, MAX_RECORD_BYTES, MAX_TRIM_BYTES};
+use super::{Programme, Timing, MAX_PAYLOAD, MAX_RECORDS, MAX_TRIM_BYTES};
 
 /// What has been read so far, the records and the trim table left out.
 pub struct Tables {
@@ -18,7 +18,7 @@ pub struct Tables {
 
 /// Room for the records and the trim table of every payload.
 pub struct Scratch {
-    pub records: [Record; MAX_RECORD_BYTES / RECORD_BYTES],
+    pub records: [Record; MAX_RECORDS],
     pub trim: [u8; MAX_TRIM_BYTES],
 }
 

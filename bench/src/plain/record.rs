@@ -1,12 +1,21 @@
 //! The record of one object in one block, byte by byte.
 
-use super::Programme;
+use super::{Programme, Timing, MAX_BLOCKS};
 
-/// Bytes of one record.
+/// Bytes of one record that a payload gives.
 pub const RECORD_BYTES: usize = 24;
+/// Bytes of one record in a buffer: these, and behind them its time.
+pub const RECORD_STRIDE: usize = RECORD_BYTES + size_of::<Time>();
+/// Samples of a frame.
+pub const FRAME_SAMPLES: u64 = 1536;
 
 /// One record; the constants below name its bytes.
 pub type Record = [u8; RECORD_BYTES];
+/// When a record's block starts, in samples from the start of frame 0, least
+/// byte first.
+pub type Time = [u8; 8];
+/// A record as it lies in a buffer.
+pub type Entry = [u8; RECORD_STRIDE];
 
 pub const ACTIVE: usize = 0;
 pub const CLASS: usize = 1;
@@ -60,6 +69,21 @@ pub const DEFAULTS: Record = {
     record[ELEVATION] = 1;
     record
 };
+
+/// The record and the time of an entry.
+#[inline]
+pub fn parts(entry: &Entry) -> (&Record, &Time) {
+    let (record, time) = entry.split_first_chunk().expect("a record");
+    (record, time.try_into().expect("its time"))
+}
+
+/// The time of each block: starts past the end of the frame are not folded.
+pub fn times(frame: u32, timing: &Timing) -> [Time; MAX_BLOCKS] {
+    let first = FRAME_SAMPLES * u64::from(frame);
+    timing
+        .updates
+        .map(|update| (first + u64::from(update.start)).to_le_bytes())
+}
 
 /// Bits of content_description (Table 11a; index 0 is sent first, point 1).
 pub const CONTENT_RESERVED: u8 = 8;

@@ -6,18 +6,19 @@ use super::put;
 use super::record::*;
 use super::sink::{Count, Pen, Sink};
 use super::trim::PRESENT;
-use super::{needed, refusal, trim_needed, valid, Programme, Timing, MAX_PAYLOAD, RECORD_BYTES};
+use super::{needed, refusal, trim_needed, valid, Programme, Timing, MAX_PAYLOAD};
 
 /// Values of oa_element_id_idx (Table 26).
 const OBJECT_ID: u32 = 1;
 const TRIM_ID: u32 = 2;
 const EXTENDED_ID: u32 = 5;
 
-/// Writes the tables into `out` and answers the length in bytes.
+/// Writes the tables, with the frame that the records' times are of, into `out`
+/// and answers the length in bytes.
 pub fn payload(
     programme: &Programme,
     timing: &Timing,
-    records: &[u8],
+    records: (u32, &[u8]),
     trim: &[u8],
     out: &mut [u8],
 ) -> Result<usize, Refusal> {
@@ -36,7 +37,7 @@ pub fn payload(
 struct Form<'a> {
     programme: &'a Programme,
     timing: &'a Timing,
-    records: &'a [Record],
+    entries: &'a [Entry],
     trim: &'a [u8],
     /// b_obj_div_block: some record carries divergence.
     divergence: bool,
@@ -55,7 +56,7 @@ impl<'a> Form<'a> {
     fn new(
         programme: &'a Programme,
         timing: &'a Timing,
-        records: &'a [u8],
+        (frame, records): (u32, &'a [u8]),
         trim: &'a [u8],
     ) -> Result<Self, Refusal> {
         let bad = |place| Refusal::new(refusal::TABLES, place);
@@ -63,24 +64,21 @@ impl<'a> Form<'a> {
         if !valid::programme(programme) || !valid::timing(timing) || records.len() < needed {
             return Err(bad(0));
         }
-        let (records, _) = records[..needed].as_chunks::<RECORD_BYTES>();
-        let counts = Counts::of(programme);
-        let class = |index: usize| counts.class(index / usize::from(timing.blocks));
-        let mut all = records.iter().enumerate();
-        if let Some(index) = all.position(|(index, r)| !valid::record(r, class(index))) {
+        let (entries, _) = records[..needed].as_chunks::<RECORD_STRIDE>();
+        if let Some(index) = first_bad(programme, timing, frame, entries) {
             return Err(bad(1 + index));
         }
         let trim = match trim.get(..trim_needed(programme)) {
             Some(trim) if valid::trim(trim) => trim,
-            _ => return Err(bad(1 + records.len())),
+            _ => return Err(bad(1 + entries.len())),
         };
         let mut form = Self {
             programme,
             timing,
-            records,
+            entries,
             trim,
-            divergence: records.iter().any(|r| r[DIVERGENCE] != 0),
-            precise: records.iter().any(|r| r[PRESENCE] != 0),
+            divergence: entries.iter().any(|r| r[DIVERGENCE] != 0),
+            precise: entries.iter().any(|r| r[PRESENCE] != 0),
             object_bits: 0,
             extended_bits: 0,
             trim_bits: 0,
@@ -158,9 +156,9 @@ impl<'a> Form<'a> {
         // b_reserved_data_not_present (point 5).
         sink.flag(true);
         let blocks = usize::from(self.timing.blocks);
-        for object in self.records.chunks_exact(blocks) {
-            for (block, record) in object.iter().enumerate() {
-                put::object_info_block(sink, record, block == 0);
+        for object in self.entries.chunks_exact(blocks) {
+            for (block, entry) in object.iter().enumerate() {
+                put::object_info_block(sink, parts(entry).0, block == 0);
             }
         }
     }
@@ -170,16 +168,22 @@ impl<'a> Form<'a> {
         sink.flag(false);
         sink.flag(self.divergence);
         if self.divergence {
-            for record in self.records.iter().filter(|r| extends(r)) {
+            for record in self.extended_records() {
                 put::obj_div_block(sink, record);
             }
         }
         sink.flag(self.precise);
         if self.precise {
-            for record in self.records.iter().filter(|r| extends(r)) {
+            for record in self.extended_records() {
                 put::ext_prec_pos_block(sink, record);
             }
         }
+    }
+
+    /// The records that carry extended data.
+    fn extended_records(&self) -> impl Iterator<Item = &Record> {
+        let records = self.entries.iter().map(|entry| parts(entry).0);
+        records.filter(|record| extends(record))
     }
 
     /// The discard flag and trim_element (5.5.12).
@@ -187,6 +191,21 @@ impl<'a> Form<'a> {
         sink.flag(false);
         put::trim_element(sink, self.trim);
     }
+}
+
+/// The index of the first record that is bad by its own bytes or by its time.
+fn first_bad(
+    programme: &Programme,
+    timing: &Timing,
+    frame: u32,
+    entries: &[Entry],
+) -> Option<usize> {
+    let (counts, times) = (Counts::of(programme), times(frame, timing));
+    let blocks = usize::from(timing.blocks);
+    entries.iter().enumerate().position(|(index, entry)| {
+        let (record, time) = parts(entry);
+        !valid::record(record, counts.class(index / blocks)) || *time != times[index % blocks]
+    })
 }
 
 /// A field that grows by a further one when all its bits are 1.

@@ -9,6 +9,7 @@ extern "C" {
     fn skriemelt_read(
         payload: *const u8,
         payload_bytes: usize,
+        frame: u32,
         records: *mut u8,
         records_bytes: usize,
         trim: *mut u8,
@@ -21,6 +22,8 @@ extern "C" {
         starts_count: usize,
         lengths: *const u64,
         lengths_count: usize,
+        frames: *const u32,
+        frames_count: usize,
         record_slot: usize,
         trim_slot: usize,
         records: *mut u8,
@@ -33,6 +36,7 @@ extern "C" {
     fn skriemelt_write(
         programme: Programme,
         timing: Timing,
+        frame: u32,
         records: *const u8,
         records_bytes: usize,
         trim: *const u8,
@@ -50,12 +54,13 @@ pub fn version() -> u32 {
 
 /// Reads one payload with the proved library.
 #[inline]
-pub fn read(payload: &[u8], records: &mut [u8], trim: &mut [u8]) -> ReadAnswer {
+pub fn read(payload: &[u8], frame: u32, records: &mut [u8], trim: &mut [u8]) -> ReadAnswer {
     // SAFETY: the slices are valid for their lengths and do not overlap.
     unsafe {
         skriemelt_read(
             payload.as_ptr(),
             payload.len(),
+            frame,
             records.as_mut_ptr(),
             records.len(),
             trim.as_mut_ptr(),
@@ -81,6 +86,8 @@ pub fn read_batch(
             shelf.starts.len(),
             shelf.lengths.as_ptr(),
             shelf.lengths.len(),
+            shelf.frames.as_ptr(),
+            shelf.frames.len(),
             shelf.record_slot,
             shelf.trim_slot,
             records.as_mut_ptr(),
@@ -98,6 +105,7 @@ pub fn read_batch(
 pub fn write(
     programme: Programme,
     timing: Timing,
+    frame: u32,
     records: &[u8],
     trim: &[u8],
     payload: &mut [u8],
@@ -107,6 +115,7 @@ pub fn write(
         skriemelt_write(
             programme,
             timing,
+            frame,
             records.as_ptr(),
             records.len(),
             trim.as_ptr(),

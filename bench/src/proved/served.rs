@@ -142,9 +142,10 @@ pub fn version() -> u32 {
 }
 
 /// Reads one payload with the proved library.
-pub fn read(payload: &[u8], records: &mut [u8], trim: &mut [u8]) -> ReadAnswer {
+pub fn read(payload: &[u8], frame: u32, records: &mut [u8], trim: &mut [u8]) -> ReadAnswer {
     let mut request = b"r".to_vec();
     add_given(&mut request, payload);
+    request.extend(frame.to_le_bytes());
     add_lent(&mut request, records);
     add_lent(&mut request, trim);
     let mut answer = ask(&request, READ_ANSWER_BYTES, &mut [records, trim]);
@@ -175,6 +176,8 @@ pub fn read_batch(
     add_given(&mut request, shelf.store);
     add_list(&mut request, shelf.starts);
     add_list(&mut request, shelf.lengths);
+    add_number(&mut request, shelf.frames.len());
+    request.extend(shelf.frames.iter().flat_map(|frame| frame.to_le_bytes()));
     request.extend((shelf.record_slot as u64).to_le_bytes());
     request.extend((shelf.trim_slot as u64).to_le_bytes());
     add_lent(&mut request, records);
@@ -192,6 +195,7 @@ pub fn read_batch(
 pub fn write(
     p: Programme,
     t: Timing,
+    frame: u32,
     records: &[u8],
     trim: &[u8],
     payload: &mut [u8],
@@ -208,6 +212,7 @@ pub fn write(
         request.extend(update.start.to_le_bytes());
         request.extend(update.ramp.to_le_bytes());
     }
+    request.extend(frame.to_le_bytes());
     add_given(&mut request, records);
     add_given(&mut request, trim);
     add_lent(&mut request, payload);

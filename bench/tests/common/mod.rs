@@ -30,10 +30,11 @@ pub fn element(id: u32, content: &str) -> String {
     format!("{id:04b} {size} {bits} ")
 }
 
-/// Reads with room for every payload: the answer, the records and trim.
+/// Reads in frame 0 with room for every payload: the answer, the records and
+/// trim.
 pub fn read_both(payload: &[u8]) -> (Answer, Vec<u8>, Vec<u8>) {
-    let (mut records, mut trim) = (vec![0xEE; 30_720], vec![0xEE; 253]);
-    let answer = read(payload, &mut records, &mut trim);
+    let (mut records, mut trim) = (vec![0xEE; 40_960], vec![0xEE; 253]);
+    let answer = read(payload, 0, &mut records, &mut trim);
     (answer, records, trim)
 }
 

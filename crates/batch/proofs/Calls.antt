@@ -18,16 +18,18 @@ halves : (a b : Bool) → both a b ≡ true → (a ≡ true) × (b ≡ true)
 halves true b h = (refl, h)
 halves false b h = absurd (false≢true h)
 
-pub room-for : (starts lengths recordslot trimslot : ℕ) (records trims answers : List ℕ)
-    → roomy starts lengths recordslot trimslot (length records) (length trims) (length answers) ≡ true
-    → Roomy starts lengths recordslot trimslot records trims answers
+pub room-for : (starts lengths frames recordslot trimslot : ℕ) (records trims answers : List ℕ)
+    → roomy starts lengths frames recordslot trimslot (length records) (length trims) (length answers) ≡ true
+    → Roomy starts lengths frames recordslot trimslot records trims answers
 unfolding roomy
-room-for starts lengths recordslot trimslot records trims answers h =
-    let a = halves (eqb lengths starts) _ h in
+room-for starts lengths frames recordslot trimslot records trims answers h =
+    let a = halves (both (eqb lengths starts) (eqb frames starts)) _ h in
+    let lists = halves (eqb lengths starts) _ (a .0) in
     let b = halves (leb (starts * recordslot) (length records)) _ (a .1) in
     let c = halves (leb (starts * trimslot) (length trims)) _ (b .1) in
     record {
-      lists = eqb-true lengths starts (a .0);
+      lists = eqb-true lengths starts (lists .0);
+      numbered = eqb-true frames starts (lists .1);
       record-slots = leb-true (starts * recordslot) (length records) (b .0);
       trim-slots = leb-true (starts * trimslot) (length trims) (c .0);
       places = leb-true (starts * answerBytes) (length answers) (c .1);
@@ -36,16 +38,16 @@ room-for starts lengths recordslot trimslot records trims answers h =
 abbrev called : BatchAnswer → Shelf → Batched
 called answer x = record { answer = answer; shelf = x }
 
-module _ (store starts lengths : List ℕ) (recordslot trimslot : ℕ) (x : Shelf) where
+module _ (store starts lengths frames : List ℕ) (recordslot trimslot : ℕ) (x : Shelf) where
   abbrev rooms : Bool
-  rooms = roomy (length starts) (length lengths) recordslot trimslot (length (x .records)) (length (x .trims)) (length (x .answers))
+  rooms = roomy (length starts) (length lengths) (length frames) recordslot trimslot (length (x .records)) (length (x .trims)) (length (x .answers))
 
   pub no-room : {r : BatchAnswer} {number : ℕ} → r ≡ batchedWith number (length starts) → number ≡ numberOf Lists → rooms ≡ false
-      → called r x ≡ batching store starts lengths recordslot trimslot x
+      → called r x ≡ batching store starts lengths frames recordslot trimslot x
   unfolding batching
   no-room e f h = rw h ((λ i. called (e i) x) ∙ (λ i. called (batchedWith (f i) (length starts)) x))
 
-  pub shelf-read : {r : BatchAnswer} {y : Shelf} → r ≡ batchedWith 0 0 → rooms ≡ true → y ≡ shelved store starts lengths recordslot trimslot x
-      → called r y ≡ batching store starts lengths recordslot trimslot x
+  pub shelf-read : {r : BatchAnswer} {y : Shelf} → r ≡ batchedWith 0 0 → rooms ≡ true → y ≡ shelved store starts lengths frames recordslot trimslot x
+      → called r y ≡ batching store starts lengths frames recordslot trimslot x
   unfolding batching
   shelf-read e h f = rw h (λ i. called (e i) (f i))

@@ -14,11 +14,11 @@ use Rattle.oamd.specs.Batch.{entry}
 abbrev pub outcome : ReadAnswer → List ℕ → List ℕ → Outcome
 outcome answer records trim = record { answer = answer; buffer = records; trim = trim }
 
-module _ (store : List ℕ) (start len : ℕ) (records trim : List ℕ) where
-  pub leaves : length store < start + len → entry store start len records trim ≡ refused records trim (numberOf Outside) start 0
+module _ (frame : ℕ) (store : List ℕ) (start len : ℕ) (records trim : List ℕ) where
+  pub leaves : length store < start + len → entry frame store start len records trim ≡ refused records trim (numberOf Outside) start 0
   unfolding entry
   leaves h = rw (lt-leb (start + len) (length store) h) refl
 
-  pub inside : (n : ℕ) → n ≡ len → start + len ≤ length store → entry store start len records trim ≡ reading (take n (drop start store)) records trim
+  pub inside : (n : ℕ) → n ≡ len → start + len ≤ length store → entry frame store start len records trim ≡ reading frame (take n (drop start store)) records trim
   unfolding entry
   inside n e h = rw (e, le-leb (start + len) (length store) h) refl

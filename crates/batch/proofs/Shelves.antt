@@ -59,10 +59,10 @@ module _ (s y : List ℕ) (at size : ℕ) (fits : at + size ≤ length s) (long 
         length-drop at s,
       )
 
-module _ (store starts lengths : List ℕ) (recordslot trimslot : ℕ) (x₀ : Shelf) where
+module _ (store starts lengths frames : List ℕ) (recordslot trimslot : ℕ) (x₀ : Shelf) where
   -- what is left from entry i on
   abbrev left : ℕ → Shelf → Shelf
-  left i x = shelved store (drop i starts) (drop i lengths) recordslot trimslot x
+  left i x = shelved store (drop i starts) (drop i lengths) (drop i frames) recordslot trimslot x
 
   -- before entry i: its slots and its place begin at these bytes, and what is done with what is left makes the whole
   pub record Done (x : Shelf) (slot trim place i : ℕ) : Type 0 where
@@ -76,7 +76,7 @@ module _ (store starts lengths : List ℕ) (recordslot trimslot : ℕ) (x₀ : S
     pub all :
         before (take slot (x .records)) (take trim (x .trims)) (take place (x .answers))
         (left i (shelf (drop slot (x .records)) (drop trim (x .trims)) (drop place (x .answers))))
-        ≡ shelved store starts lengths recordslot trimslot x₀
+        ≡ shelved store starts lengths frames recordslot trimslot x₀
 
   pub begun : Done x₀ 0 0 0 0
   begun = record {
@@ -91,26 +91,29 @@ module _ (store starts lengths : List ℕ) (recordslot trimslot : ℕ) (x₀ : S
   }
 
   module _ {records trims answers : List ℕ} {slot trim place i : ℕ} (d : Done (shelf records trims answers) slot trim place i)
-      (lists : length lengths ≡ length starts) (h : i < length starts) where
+      (lists : length lengths ≡ length starts) (numbered : length frames ≡ length starts) (h : i < length starts) where
     step : (x : Shelf) → left i x
-        ≡ inFront (entry store (getD starts i 0) (getD lengths i 0) (take recordslot (x .records)) (take trimslot (x .trims)))
+        ≡ inFront (entry (getD frames i 0) store (getD starts i 0) (getD lengths i 0) (take recordslot (x .records)) (take trimslot (x .trims)))
         (left (i + 1) (shelf (drop recordslot (x .records)) (drop trimslot (x .trims)) (drop answerBytes (x .answers))))
     unfolding shelved
-    step x = let g : i < length lengths = omega arith in rw (add-one, drop-cons starts i 0, drop-cons lengths i 0)
+    step x =
+        let g : i < length lengths = omega arith in
+        let k : i < length frames = omega arith in
+        rw (add-one, drop-cons starts i 0, drop-cons lengths i 0, drop-cons frames i 0)
 
     -- the next entry has been read into its slots, and its answer laid into its place
     pub turn : {a : ReadAnswer} {r t p : List ℕ} {k m n : ℕ} → slot + recordslot ≤ length records → trim + trimslot ≤ length trims
         → place + answerBytes ≤ length answers → k ≡ recordslot → m ≡ trimslot → n ≡ answerBytes
         → length r ≡ length (take k (drop slot records)) → length t ≡ length (take m (drop trim trims)) → length p ≡ answerBytes
-        → outcome a r t ≡ entry store (getD starts i 0) (getD lengths i 0) (take k (drop slot records)) (take m (drop trim trims)) → p ≡ answerBytesOf a
+        → outcome a r t ≡ entry (getD frames i 0) store (getD starts i 0) (getD lengths i 0) (take k (drop slot records)) (take m (drop trim trims)) → p ≡ answerBytesOf a
         → Done (shelf (pasted records slot k r) (pasted trims trim m t) (pasted answers place n p)) (slot + recordslot) (trim + trimslot) (place + answerBytes) (i + 1)
     turn {a} {r} {t} {p} {k} {m} {n} fit-r fit-t fit-p ek em en lr lt lp o page =
         let r-long : length r ≡ recordslot =
         lr ∙ ap (λ (z : ℕ). length (take z (drop slot records))) ek ∙ length-take-le recordslot (drop slot records) (omega (arith, length-drop slot records)) in
         let t-long : length t ≡ trimslot =
         lt ∙ ap (λ (z : ℕ). length (take z (drop trim trims))) em ∙ length-take-le trimslot (drop trim trims) (omega (arith, length-drop trim trims)) in
-        let read : outcome a r t ≡ entry store (getD starts i 0) (getD lengths i 0) (take recordslot (drop slot records)) (take trimslot (drop trim trims)) =
-        o ∙ (λ j. entry store (getD starts i 0) (getD lengths i 0) (take (ek j) (drop slot records)) (take (em j) (drop trim trims))) in
+        let read : outcome a r t ≡ entry (getD frames i 0) store (getD starts i 0) (getD lengths i 0) (take recordslot (drop slot records)) (take trimslot (drop trim trims)) =
+        o ∙ (λ j. entry (getD frames i 0) store (getD starts i 0) (getD lengths i 0) (take (ek j) (drop slot records)) (take (em j) (drop trim trims))) in
         let is-r : pasted records slot k r ≡ pasted records slot recordslot r = ap (λ (z : ℕ). pasted records slot z r) ek in
         let is-t : pasted trims trim m t ≡ pasted trims trim trimslot t = ap (λ (z : ℕ). pasted trims trim z t) em in
         let is-p : pasted answers place n p ≡ pasted answers place answerBytes p = ap (λ (z : ℕ). pasted answers place z p) en in
@@ -140,12 +143,12 @@ module _ (store starts lengths : List ℕ) (recordslot trimslot : ℕ) (x₀ : S
               ∙ d .all;
         }
 
-  pub ended : {x : Shelf} {slot trim place i : ℕ} → Done x slot trim place i → length starts ≤ i → x ≡ shelved store starts lengths recordslot trimslot x₀
+  pub ended : {x : Shelf} {slot trim place i : ℕ} → Done x slot trim place i → length starts ≤ i → x ≡ shelved store starts lengths frames recordslot trimslot x₀
   unfolding shelved
   ended {x} {slot} {trim} {place} {i} d h =
       let none : i ≡ length starts = omega (arith, d .within) in
       let nil : drop i starts ≡ [] = ap (λ (n : ℕ). drop n starts) none ∙ drop-length starts in
       (λ j. shelf (sym (take-append-drop slot (x .records)) j) (sym (take-append-drop trim (x .trims)) j) (sym (take-append-drop place (x .answers)) j))
       ∙ sym (ap (λ (l : List ℕ). before (take slot (x .records)) (take trim (x .trims)) (take place (x .answers))
-      (shelved store l (drop i lengths) recordslot trimslot (shelf (drop slot (x .records)) (drop trim (x .trims)) (drop place (x .answers))))) nil)
+      (shelved store l (drop i lengths) (drop i frames) recordslot trimslot (shelf (drop slot (x .records)) (drop trim (x .trims)) (drop place (x .answers))))) nil)
       ∙ d .all

@@ -34,9 +34,10 @@ pub record StoredEach {A : Type 0} (f : A → List ℕ) (n many : ℕ) (xs : Lis
 
 -- ---- the shelf
 
--- room for n entries: a length for each, the slots, and the places
-pub record Roomy (starts lengths recordslot trimslot : ℕ) (records trims answers : List ℕ) : Type 0 where
+-- room for n entries: a length and a frame for each, the slots, and the places
+pub record Roomy (starts lengths frames recordslot trimslot : ℕ) (records trims answers : List ℕ) : Type 0 where
   pub lists : lengths ≡ starts
+  pub numbered : frames ≡ starts
   pub record-slots : starts * recordslot ≤ length records
   pub trim-slots : starts * trimslot ≤ length trims
   pub places : starts * answerBytes ≤ length answers

@@ -17,18 +17,19 @@ fn outside(start: u64, records: &mut [u8], trim: &mut [u8]) -> ReadAnswer
     reader::refused_with(Refusal::Outside, start)
 }
 
-// Reads the part of a store that begins at a start, as a payload by itself; one that leaves the store is refused before it is looked at. No sum is made that could
+// Reads the part of a store that begins at a start, as the payload of a frame by itself; one that leaves the store is refused before it is looked at. No sum is made that could
 // pass 64 bits.
 pub fn read_entry(
     store: &[u8],
     start: u64,
     len: u64,
+    frame: u32,
     records: &mut [u8],
     trim: &mut [u8],
 ) -> ReadAnswer
     ensures { λ r. ⌜
         (record { answer = r; buffer = now (records .exit); trim = now (trim .exit) })
-        ≡ entry (now (store .entry)) start len (now (records .entry)) (now (trim .entry))
+        ≡ entry frame (now (store .entry)) start len (now (records .entry)) (now (trim .entry))
         ⌝ }
 {
     let all = store.len() as u64;
@@ -40,5 +41,5 @@ pub fn read_entry(
     }
     let from = start as usize;
     let to = (start + len) as usize;
-    reader::read(&store[from..to], records, trim)
+    reader::read(&store[from..to], frame, records, trim)
 }

@@ -25,22 +25,24 @@ fn fits(n: usize, size: usize, room: usize) -> bool
     n <= room / size
 }
 
-// A length for each start, and room for the slots and places of all of them.
+// A length and a frame for each start, and room for the slots and places of all of them.
 fn is_roomy(
     starts: usize,
     lengths: usize,
+    frames: usize,
     recordslot: usize,
     trimslot: usize,
     records: usize,
     trims: usize,
     answers: usize,
 ) -> bool
-    ensures { λ r. ⌜ r ≡ roomy starts lengths recordslot trimslot records trims answers ⌝ }
+    ensures { λ r. ⌜ r ≡ roomy starts lengths frames recordslot trimslot records trims answers ⌝ }
 {
     let slots = fits(starts, recordslot, records);
     let trim_slots = fits(starts, trimslot, trims);
     let places = fits(starts, ANSWER_BYTES, answers);
-    both(lengths == starts, both(slots, both(trim_slots, places)))
+    let lists = both(lengths == starts, frames == starts);
+    both(lists, both(slots, both(trim_slots, places)))
 }
 
 fn batched(refusal: u8, place: u64) -> BatchAnswer
@@ -54,16 +56,17 @@ fn read_entries(
     store: &[u8],
     starts: &[u64],
     lengths: &[u64],
+    frames: &[u32],
     recordslot: usize,
     trimslot: usize,
     records: &mut [u8],
     trims: &mut [u8],
     answers: &mut [u8],
 )
-    requires { ⌜ Roomy (length (now starts)) (length (now lengths)) recordslot trimslot (now records) (now trims) (now answers) ⌝ }
+    requires { ⌜ Roomy (length (now starts)) (length (now lengths)) (length (now frames)) recordslot trimslot (now records) (now trims) (now answers) ⌝ }
     ensures { λ _. ⌜
         (record { records = now (records .exit); trims = now (trims .exit); answers = now (answers .exit) })
-        ≡ shelved (now (store .entry)) (now (starts .entry)) (now (lengths .entry)) recordslot trimslot
+        ≡ shelved (now (store .entry)) (now (starts .entry)) (now (lengths .entry)) (now (frames .entry)) recordslot trimslot
         (record { records = now (records .entry); trims = now (trims .entry); answers = now (answers .entry) })
         ⌝ }
 {
@@ -79,6 +82,7 @@ fn read_entries(
             store,
             starts[i],
             lengths[i],
+            frames[i],
             &mut records[slot..slot_end],
             &mut trims[trim..trim_end],
         );
@@ -91,12 +95,13 @@ fn read_entries(
     }
 }
 
-// Reads each payload of a shelf as a part of the store. Where the lists are of unequal length, or slots or places lack room, the whole call is refused with 13 and nothing
-// is read or written. Else each entry's place holds its answer; its slots hold what a read of it alone would lay there; bytes behind the last slots and places stay.
+// Reads each payload of a shelf as a part of the store, each with the number of its frame. Where the lists are of unequal length, or slots or places lack room, the whole call is refused with 13
+// and nothing is read or written. Else each entry's place holds its answer; its slots hold what a read of it alone would lay there; bytes behind the last slots and places stay.
 pub fn read_batch(
     store: &[u8],
     starts: &[u64],
     lengths: &[u64],
+    frames: &[u32],
     recordslot: usize,
     trimslot: usize,
     records: &mut [u8],
@@ -105,7 +110,7 @@ pub fn read_batch(
 ) -> BatchAnswer
     ensures { λ r. ⌜
         (record { answer = r; shelf = record { records = now (records .exit); trims = now (trims .exit); answers = now (answers .exit) } })
-        ≡ batching (now (store .entry)) (now (starts .entry)) (now (lengths .entry)) recordslot trimslot
+        ≡ batching (now (store .entry)) (now (starts .entry)) (now (lengths .entry)) (now (frames .entry)) recordslot trimslot
         (record { records = now (records .entry); trims = now (trims .entry); answers = now (answers .entry) })
         ⌝ }
 {
@@ -113,6 +118,7 @@ pub fn read_batch(
     if !is_roomy(
         n,
         lengths.len(),
+        frames.len(),
         recordslot,
         trimslot,
         records.len(),
@@ -125,6 +131,7 @@ pub fn read_batch(
         store,
         starts,
         lengths,
+        frames,
         recordslot,
         trimslot,
         records,

@@ -12,11 +12,12 @@ use Rattle.bits.specs.Language.{ok, no, bit, pastPayload}
 use Rattle.bits.specs.Steps.{value}
 use Rattle.bits.specs.Laws.{placed}
 use Rattle.oamd.specs.Tables.{mostBytes, recordStride}
-use Rattle.oamd.specs.Record.{bytesOf, onto}
+use Rattle.oamd.specs.Record.{onto}
+use Rattle.oamd.specs.Time.{timeOf}
 use Rattle.oamd.specs.Trim.{trimBytesOf, trimNeeded}
-use Rattle.oamd.specs.Lengths.{length-bytes, length-trim}
+use Rattle.oamd.specs.Lengths.{length-timed, length-trim}
 use Rattle.oamd.specs.Payload.{Payload, object-audio-metadata-payload, tables}
-use Rattle.oamd.specs.Answer.{Outcome, missingOf, refused, accepted, needed, reading}
+use Rattle.oamd.specs.Answer.{Outcome, missingOf, refused, laidRecords, accepted, needed, reading}
 use Rattle.demands.specs.Terms.{parsed, tablesOf}
 use Rattle.demands.specs.Conditions.{OtherVersion, CountsDisagree, SecondKnown, EarlyExtended, bytesNeeded, trimBytesNeeded, Short, Lacks}
 use Rattle.demands.specs.Lemmas.Reading.{Case, long, stopped, full, read, case, read-of, reading-ok, reading-no, reading-long, trimRoom, housed-fits, housed-lacks, refusal-of}
@@ -37,14 +38,14 @@ fronts n these buffer l f =
       rest = drop-at these behind n l ∙ ap (λ (k : ℕ). drop k buffer) l;
     }
 
-accepts : (s buffer trim : List ℕ) (q : Payload) (to : ℕ) → parsed s ≡ ok q to → needed (tablesOf q) ≤ length buffer → trimRoom (tablesOf q) ≤ length trim
-    → Accepts buffer trim (accepted buffer trim (tablesOf q) (q .unknown))
+accepts : (frame : ℕ) (s buffer trim : List ℕ) (q : Payload) (to : ℕ) → parsed s ≡ ok q to → needed (tablesOf q) ≤ length buffer → trimRoom (tablesOf q) ≤ length trim
+    → Accepts frame buffer trim (accepted frame buffer trim (tablesOf q) (q .unknown))
 unfolding tables
-accepts s buffer trim q to h f g =
+accepts frame s buffer trim q to h f g =
     let rs = tablesOf q .records in
     let table = tablesOf q .trim in
-    let n = length-needed (bit s) 0 (8 * length s) pastPayload h in
-    let l = length-bytes rs in
+    let n = length-needed frame (bit s) 0 (8 * length s) pastPayload h in
+    let l = length-timed (timeOf frame (tablesOf q .timing)) 0 rs in
     let sized = trim-sized (bit s) 0 (8 * length s) pastPayload h in
     record {
       refusal = refl;
@@ -52,7 +53,7 @@ accepts s buffer trim q to h f g =
       missing = refl;
       records = rs;
       many = omega arith;
-      recorded = fronts (recordStride * length rs) (bytesOf rs) buffer l (omega arith);
+      recorded = fronts (recordStride * length rs) (laidRecords frame (tablesOf q)) buffer l (omega arith);
       table = table;
       configs = sized .0;
       flags = sized .1;
@@ -60,10 +61,10 @@ accepts s buffer trim q to h f g =
     }
 
 -- Every read is the one or the other.
-pub answers : (s buffer trim : List ℕ) → Accepts buffer trim (reading s buffer trim) ⊎ Refuses buffer trim (reading s buffer trim)
-answers s buffer trim = go (case s buffer trim)
+pub answers : (frame : ℕ) (s buffer trim : List ℕ) → Accepts frame buffer trim (reading frame s buffer trim) ⊎ Refuses buffer trim (reading frame s buffer trim)
+answers frame s buffer trim = go (case frame s buffer trim)
   where
-    go : Case s buffer trim → Accepts buffer trim (reading s buffer trim) ⊎ Refuses buffer trim (reading s buffer trim)
+    go : Case frame s buffer trim → Accepts frame buffer trim (reading frame s buffer trim) ⊎ Refuses buffer trim (reading frame s buffer trim)
     go (long l e) = inr (record { number = 1; low = omega arith; high = omega arith; place = length s; missing = 0; some = λ z. omega arith; none = λ z. refl; outcome = e })
     go (stopped r pl m l h two eight e) = inr (record {
       number = r;
@@ -76,7 +77,7 @@ answers s buffer trim = go (case s buffer trim)
       outcome = e;
     })
     go (full q to pl l h x e) = inr (record { number = 9; low = omega arith; high = omega arith; place = pl; missing = 0; some = λ z. omega arith; none = λ z. refl; outcome = e })
-    go (read q to l h f g e) = inl (subst (Accepts buffer trim) (sym e) (accepts s buffer trim q to h f g))
+    go (read q to l h f g e) = inl (subst (Accepts frame buffer trim) (sym e) (accepts frame s buffer trim q to h f g))
 
 -- ---- when each is given
 
@@ -85,31 +86,31 @@ same-refusal h =
     (ap (λ (o : Outcome). o .answer .refusal) h, ap (λ (o : Outcome). o .answer .place) h, ap (λ (o : Outcome). o .answer .missing) h)
 
 -- 0: the payload is not too long, its reader meets no refusal, its records fit into the buffer, and its trim table into the trim buffer.
-pub accepted-when : (s buffer trim : List ℕ) → (reading s buffer trim .answer .refusal ≡ 0)
+pub accepted-when : (frame : ℕ) (s buffer trim : List ℕ) → (reading frame s buffer trim .answer .refusal ≡ 0)
     ↔ ((length s ≤ mostBytes) × (q : Payload) × (to : ℕ) × (parsed s ≡ ok q to) × (needed (tablesOf q) ≤ length buffer)
     × (trimNeeded (q .programme .objects) ≤ length trim))
 unfolding tables
-accepted-when s buffer trim = (
-  (λ z. let r = read-of s buffer trim z in (r .short, r .payload, r .to, r .ran, r .fits, r .trim-fits)),
+accepted-when frame s buffer trim = (
+  (λ z. let r = read-of frame s buffer trim z in (r .short, r .payload, r .to, r .ran, r .fits, r .trim-fits)),
   (λ h.
       ap (λ (o : Outcome). o .answer .refusal)
-      (reading-ok s buffer trim (h .0) (h .3) ∙ housed-fits buffer trim (tablesOf (h .1)) (h .1 .unknown) (h .4) (h .5))),
+      (reading-ok frame s buffer trim (h .0) (h .3) ∙ housed-fits frame buffer trim (tablesOf (h .1)) (h .1 .unknown) (h .4) (h .5))),
 )
 
 -- Its answer and buffers are then those of the tables that its reader gives.
-pub accepted-is : (s buffer trim : List ℕ) (q : Payload) (to : ℕ) → reading s buffer trim .answer .refusal ≡ 0 → parsed s ≡ ok q to
-    → reading s buffer trim ≡ accepted buffer trim (tablesOf q) (q .unknown)
-accepted-is s buffer trim q to z h =
-    let r = read-of s buffer trim z in
-    r .is ∙ ap (λ (x : Payload). accepted buffer trim (tablesOf x) (x .unknown)) (value (sym (r .ran) ∙ h))
+pub accepted-is : (frame : ℕ) (s buffer trim : List ℕ) (q : Payload) (to : ℕ) → reading frame s buffer trim .answer .refusal ≡ 0 → parsed s ≡ ok q to
+    → reading frame s buffer trim ≡ accepted frame buffer trim (tablesOf q) (q .unknown)
+accepted-is frame s buffer trim q to z h =
+    let r = read-of frame s buffer trim z in
+    r .is ∙ ap (λ (x : Payload). accepted frame buffer trim (tablesOf x) (x .unknown)) (value (sym (r .ran) ∙ h))
 
 -- 1: the payload is longer than 4,096 bytes. The place is its length in bytes.
-pub too-long-when : (s buffer trim : List ℕ) (place : ℕ)
-    → (reading s buffer trim ≡ refused buffer trim (numberOf TooLong) place 0) ↔ ((mostBytes < length s) × (place ≡ length s))
-too-long-when s buffer trim place =
-    (go (case s buffer trim), λ h. reading-long s buffer trim (h .0) ∙ ap (λ (pl : ℕ). refused buffer trim (numberOf TooLong) pl 0) (sym (h .1)))
+pub too-long-when : (frame : ℕ) (s buffer trim : List ℕ) (place : ℕ)
+    → (reading frame s buffer trim ≡ refused buffer trim (numberOf TooLong) place 0) ↔ ((mostBytes < length s) × (place ≡ length s))
+too-long-when frame s buffer trim place =
+    (go (case frame s buffer trim), λ h. reading-long frame s buffer trim (h .0) ∙ ap (λ (pl : ℕ). refused buffer trim (numberOf TooLong) pl 0) (sym (h .1)))
   where
-    go : Case s buffer trim → reading s buffer trim ≡ refused buffer trim (numberOf TooLong) place 0 → (mostBytes < length s) × (place ≡ length s)
+    go : Case frame s buffer trim → reading frame s buffer trim ≡ refused buffer trim (numberOf TooLong) place 0 → (mostBytes < length s) × (place ≡ length s)
     go (long l e) h = (l, sym (same-refusal (sym e ∙ h) .1))
     go (stopped r pl m l x two eight e) h = absurd (omega (arith, refusal-of e, refusal-of h))
     go (full q to pl l x y e) h = absurd (omega (arith, refusal-of e, refusal-of h))
@@ -117,13 +118,13 @@ too-long-when s buffer trim place =
 
 -- 2 to 8: the payload is not too long, and that is the first refusal that its reader meets, in the order of reading. The place is the reader's, and
 -- so are the missing bits, with 2.
-pub refused-when : (s buffer trim : List ℕ) (r place missing : ℕ) → numberOf EndsEarly ≤ r → r ≤ numberOf PastElement
-    → (reading s buffer trim ≡ refused buffer trim r place missing)
+pub refused-when : (frame : ℕ) (s buffer trim : List ℕ) (r place missing : ℕ) → numberOf EndsEarly ≤ r → r ≤ numberOf PastElement
+    → (reading frame s buffer trim ≡ refused buffer trim r place missing)
     ↔ ((length s ≤ mostBytes) × (lacked : ℕ) × (parsed s ≡ no r place lacked) × (missing ≡ missingOf r lacked))
-refused-when s buffer trim r place missing low high =
-    (go (case s buffer trim), λ h. reading-no s buffer trim (h .0) (h .2) ∙ ap (refused buffer trim r place) (sym (h .3)))
+refused-when frame s buffer trim r place missing low high =
+    (go (case frame s buffer trim), λ h. reading-no frame s buffer trim (h .0) (h .2) ∙ ap (refused buffer trim r place) (sym (h .3)))
   where
-    go : Case s buffer trim → reading s buffer trim ≡ refused buffer trim r place missing
+    go : Case frame s buffer trim → reading frame s buffer trim ≡ refused buffer trim r place missing
         → (length s ≤ mostBytes) × (lacked : ℕ) × (parsed s ≡ no r place lacked) × (missing ≡ missingOf r lacked)
     go (long l e) h = absurd (omega (arith, refusal-of e, refusal-of h))
     go (stopped r' pl m l x two eight e) h =
@@ -133,74 +134,74 @@ refused-when s buffer trim r place missing low high =
     go (read q to l x f g e) h = absurd (omega (arith, ap (λ (o : Outcome). o .answer .refusal) e, refusal-of h))
 
 -- It lies within the payload, or at its end.
-pub place-within : (s buffer trim : List ℕ) (r place missing : ℕ) → numberOf EndsEarly ≤ r → r ≤ numberOf PastElement
-    → reading s buffer trim ≡ refused buffer trim r place missing
+pub place-within : (frame : ℕ) (s buffer trim : List ℕ) (r place missing : ℕ) → numberOf EndsEarly ≤ r → r ≤ numberOf PastElement
+    → reading frame s buffer trim ≡ refused buffer trim r place missing
     → place ≤ 8 * length s
-place-within s buffer trim r place missing low high h =
-    let x = refused-when s buffer trim r place missing low high .0 h in
+place-within frame s buffer trim r place missing low high h =
+    let x = refused-when frame s buffer trim r place missing low high .0 h in
     let end = placed object-audio-metadata-payload (bit s) 0 (8 * length s) pastPayload (x .2) (omega arith) in
     omega arith
 
 -- 3: the version, with its extension, is there and is not 0. The place is 0.
-pub version-when : (s buffer trim : List ℕ) (place : ℕ)
-    → (reading s buffer trim ≡ refused buffer trim (numberOf Version) place 0) ↔ ((length s ≤ mostBytes) × OtherVersion s × (place ≡ 0))
+pub version-when : (frame : ℕ) (s buffer trim : List ℕ) (place : ℕ)
+    → (reading frame s buffer trim ≡ refused buffer trim (numberOf Version) place 0) ↔ ((length s ≤ mostBytes) × OtherVersion s × (place ≡ 0))
 unfolding missingOf
-version-when s buffer trim place = (
+version-when frame s buffer trim place = (
   (λ h.
-      let x = refused-when s buffer trim 3 place 0 (omega arith) (omega arith) .0 h in
+      let x = refused-when frame s buffer trim 3 place 0 (omega arith) (omega arith) .0 h in
       let v = version-of s (in-version s (in-header s (x .2) (inl refl))) in
       (x .0, v .0, v .1)),
   (λ h.
       let x = payload-stops s (header-stops s (version-is s (h .1))) in
-      reading-no s buffer trim (h .0) x ∙ ap (λ (pl : ℕ). refused buffer trim 3 pl 0) (sym (h .2))),
+      reading-no frame s buffer trim (h .0) x ∙ ap (λ (pl : ℕ). refused buffer trim 3 pl 0) (sym (h .2))),
 )
 
 -- 4: the object counts disagree. The place is the first bit after the program assignment.
-pub counts-when : (s buffer trim : List ℕ) (place : ℕ)
-    → (reading s buffer trim ≡ refused buffer trim (numberOf Counts) place 0) ↔ ((length s ≤ mostBytes) × CountsDisagree s place)
+pub counts-when : (frame : ℕ) (s buffer trim : List ℕ) (place : ℕ)
+    → (reading frame s buffer trim ≡ refused buffer trim (numberOf Counts) place 0) ↔ ((length s ≤ mostBytes) × CountsDisagree s place)
 unfolding missingOf
-counts-when s buffer trim place = (
+counts-when frame s buffer trim place = (
   (λ h.
-      let x = refused-when s buffer trim 4 place 0 (omega arith) (omega arith) .0 h in
+      let x = refused-when frame s buffer trim 4 place 0 (omega arith) (omega arith) .0 h in
       (x .0, counts-of s (in-header s (x .2) (inr refl)))),
-  (λ h. reading-no s buffer trim (h .0) (payload-stops s (counts-is s (h .1)))),
+  (λ h. reading-no frame s buffer trim (h .0) (payload-stops s (counts-is s (h .1)))),
 )
 
 -- 6: a second known element of the same kind. The place is the first bit of its id.
-pub second-when : (s buffer trim : List ℕ) (place : ℕ)
-    → (reading s buffer trim ≡ refused buffer trim (numberOf Second) place 0) ↔ ((length s ≤ mostBytes) × SecondKnown s place)
+pub second-when : (frame : ℕ) (s buffer trim : List ℕ) (place : ℕ)
+    → (reading frame s buffer trim ≡ refused buffer trim (numberOf Second) place 0) ↔ ((length s ≤ mostBytes) × SecondKnown s place)
 unfolding missingOf
-second-when s buffer trim place = (
+second-when frame s buffer trim place = (
   (λ h.
-      let x = refused-when s buffer trim 6 place 0 (omega arith) (omega arith) .0 h in
+      let x = refused-when frame s buffer trim 6 place 0 (omega arith) (omega arith) .0 h in
       (x .0, second-of s (x .2))),
-  (λ h. reading-no s buffer trim (h .0) (second-is s (h .1))),
+  (λ h. reading-no frame s buffer trim (h .0) (second-is s (h .1))),
 )
 
 -- 7: an extended object element before any object element. The place is the first bit of its id.
-pub early-when : (s buffer trim : List ℕ) (place : ℕ)
-    → (reading s buffer trim ≡ refused buffer trim (numberOf Early) place 0) ↔ ((length s ≤ mostBytes) × EarlyExtended s place)
+pub early-when : (frame : ℕ) (s buffer trim : List ℕ) (place : ℕ)
+    → (reading frame s buffer trim ≡ refused buffer trim (numberOf Early) place 0) ↔ ((length s ≤ mostBytes) × EarlyExtended s place)
 unfolding missingOf
-early-when s buffer trim place = (
+early-when frame s buffer trim place = (
   (λ h.
-      let x = refused-when s buffer trim 7 place 0 (omega arith) (omega arith) .0 h in
+      let x = refused-when frame s buffer trim 7 place 0 (omega arith) (omega arith) .0 h in
       (x .0, early-of s (x .2))),
-  (λ h. reading-no s buffer trim (h .0) (early-is s (h .1))),
+  (λ h. reading-no frame s buffer trim (h .0) (early-is s (h .1))),
 )
 
 -- 9: with some other buffers the payload is accepted, and one of the two lent is too short: the buffer for the records, or, where that is long enough,
 -- the trim buffer. The place is the bytes that it would need.
-pub room-when : (s buffer trim : List ℕ) (place : ℕ) → (reading s buffer trim ≡ refused buffer trim (numberOf Room) place 0) ↔ Lacks s buffer trim place
-room-when s buffer trim place = (go (case s buffer trim), back)
+pub room-when : (frame : ℕ) (s buffer trim : List ℕ) (place : ℕ) → (reading frame s buffer trim ≡ refused buffer trim (numberOf Room) place 0) ↔ Lacks frame s buffer trim place
+room-when frame s buffer trim place = (go (case frame s buffer trim), back)
   where
-    back : Lacks s buffer trim place → reading s buffer trim ≡ refused buffer trim (numberOf Room) place 0
+    back : Lacks frame s buffer trim place → reading frame s buffer trim ≡ refused buffer trim (numberOf Room) place 0
     back h =
-        let r = read-of s (h .other) (h .other-trim) (h .accepted) in
+        let r = read-of frame s (h .other) (h .other-trim) (h .accepted) in
         let t = tablesOf (r .payload) in
         let short = subst₂ (λ (m n : ℕ). Short buffer trim m n place) (ap bytesNeeded (r .is)) (ap trimBytesNeeded (r .is)) (h .short) in
-        reading-ok s buffer trim (r .short) (r .ran) ∙ housed-lacks buffer trim t (r .payload .unknown) place short
+        reading-ok frame s buffer trim (r .short) (r .ran) ∙ housed-lacks frame buffer trim t (r .payload .unknown) place short
 
-    go : Case s buffer trim → reading s buffer trim ≡ refused buffer trim (numberOf Room) place 0 → Lacks s buffer trim place
+    go : Case frame s buffer trim → reading frame s buffer trim ≡ refused buffer trim (numberOf Room) place 0 → Lacks frame s buffer trim place
     go (long l e) h = absurd (omega (arith, refusal-of e, refusal-of h))
     go (stopped r pl m l x two eight e) h = absurd (omega (arith, refusal-of e, refusal-of h))
     go (read q to l x f g e) h = absurd (omega (arith, ap (λ (o : Outcome). o .answer .refusal) e, refusal-of h))
@@ -210,8 +211,8 @@ room-when s buffer trim place = (go (case s buffer trim), back)
         let room' : List ℕ = replicate (trimRoom t) 0 in
         let fits : needed t ≤ length room = omega (arith, length-replicate {A = ℕ} (needed t) 0) in
         let fits' : trimRoom t ≤ length room' = omega (arith, length-replicate {A = ℕ} (trimRoom t) 0) in
-        let is : reading s room room' ≡ accepted room room' t (q .unknown) =
-        reading-ok s room room' l x ∙ housed-fits room room' t (q .unknown) fits fits' in
+        let is : reading frame s room room' ≡ accepted frame room room' t (q .unknown) =
+        reading-ok frame s room room' l x ∙ housed-fits frame room room' t (q .unknown) fits fits' in
         let same : pl ≡ place = same-refusal (sym e ∙ h) .1 in
         record {
           other = room;

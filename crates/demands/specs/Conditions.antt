@@ -69,7 +69,7 @@ pub record EarlyExtended (s : List ℕ) (place : ℕ) : Type 0 where
   pub first : isSecond kind known ≡ false
   pub early : isEarly kind known ≡ true
 
--- the bytes that the records of an accepted answer take, 24 for each object and block
+-- the bytes that the records of an accepted answer take, 32 for each object and block
 abbrev pub bytesNeeded : Outcome → ℕ
 bytesNeeded o = recordStride * (o .answer .programme .objects * o .answer .timing .blocks)
 
@@ -84,8 +84,8 @@ pub data Short (buffer trim : List ℕ) (records table place : ℕ) : Type 0 whe
   trim-short : records ≤ length buffer → length trim < table → place ≡ table → Short buffer trim records table place
 
 -- 9: with some other buffers the payload is accepted, and one of the two lent is too short: that for the records is looked at first
-pub record Lacks (s buffer trim : List ℕ) (place : ℕ) : Type 0 where
+pub record Lacks (frame : ℕ) (s buffer trim : List ℕ) (place : ℕ) : Type 0 where
   pub other : List ℕ
   pub other-trim : List ℕ
-  pub accepted : reading s other other-trim .answer .refusal ≡ 0
-  pub short : Short buffer trim (bytesNeeded (reading s other other-trim)) (trimBytesNeeded (reading s other other-trim)) place
+  pub accepted : reading frame s other other-trim .answer .refusal ≡ 0
+  pub short : Short buffer trim (bytesNeeded (reading frame s other other-trim)) (trimBytesNeeded (reading frame s other other-trim)) place

@@ -24,62 +24,62 @@ use Rattle.demands.specs.Lemmas.Assembled.{outline-is, outline-together,
 use Rattle.demands.specs.Promises.{Carries, Change, append, cut, add, remove, alter, After, same, ends-early, too-long}
 
 -- up to the length limit, or beyond it
-up-to-limit : (s s' buffer trim : List ℕ) → (length s' ≤ mostBytes → SameTables (reading s' buffer trim) (reading s buffer trim)) → After s s' buffer trim
-up-to-limit s s' buffer trim f = by-order (length s') mostBytes (λ short. same (f short)) (λ long. too-long long (reading-long s' buffer trim long))
+up-to-limit : (frame : ℕ) (s s' buffer trim : List ℕ) → (length s' ≤ mostBytes → SameTables (reading frame s' buffer trim) (reading frame s buffer trim)) → After frame s s' buffer trim
+up-to-limit frame s s' buffer trim f = by-order (length s') mostBytes (λ short. same (f short)) (λ long. too-long long (reading-long frame s' buffer trim long))
 
-same-known : (s s' buffer trim : List ℕ) (h : Header) (xs ys : List Body) → reading s buffer trim .answer .refusal ≡ 0 → Carries s h xs → Carries s' h ys
-    → known ys ≡ known xs → After s s' buffer trim
+same-known : (frame : ℕ) (s s' buffer trim : List ℕ) (h : Header) (xs ys : List Body) → reading frame s buffer trim .answer .refusal ≡ 0 → Carries s h xs → Carries s' h ys
+    → known ys ≡ known xs → After frame s s' buffer trim
 unfolding skeleton
-same-known s s' buffer trim h xs ys accepted c c' e =
+same-known frame s s' buffer trim h xs ys accepted c c' e =
     let bones : skeleton s' ≡ skeleton s =
     ap takenOut c' ∙ ap (λ (l : List Body). some (record { header = h; elements = l })) e ∙ sym (ap takenOut c) in
-    up-to-limit s s' buffer trim (unknown-elements s s' buffer trim accepted bones)
+    up-to-limit frame s s' buffer trim (unknown-elements frame s s' buffer trim accepted bones)
 
 -- Whatever is changed of an accepted payload, nothing else comes of it.
-pub demand-3 : (s s' buffer trim : List ℕ) → reading s buffer trim .answer .refusal ≡ 0 → Change s s' → After s s' buffer trim
-demand-3 s s' buffer trim accepted change = go change
+pub demand-3 : (frame : ℕ) (s s' buffer trim : List ℕ) → reading frame s buffer trim .answer .refusal ≡ 0 → Change s s' → After frame s s' buffer trim
+demand-3 frame s s' buffer trim accepted change = go change
   where
-    is : {t : List ℕ} → s' ≡ t → reading s' buffer trim ≡ reading t buffer trim
-    is e = ap (λ (x : List ℕ). reading x buffer trim) e
+    is : {t : List ℕ} → s' ≡ t → reading frame s' buffer trim ≡ reading frame t buffer trim
+    is e = ap (λ (x : List ℕ). reading frame x buffer trim) e
 
     by-cut : (n : ℕ) → s' ≡ take n s
-        → (reading (take n s) buffer trim ≡ reading s buffer trim)
-        ⊎ ((place missing : ℕ) × (1 ≤ missing) × (reading (take n s) buffer trim ≡ refused buffer trim (numberOf EndsEarly) place missing))
-        → After s s' buffer trim
+        → (reading frame (take n s) buffer trim ≡ reading frame s buffer trim)
+        ⊎ ((place missing : ℕ) × (1 ≤ missing) × (reading frame (take n s) buffer trim ≡ refused buffer trim (numberOf EndsEarly) place missing))
+        → After frame s s' buffer trim
     by-cut n e (inl x) = same (ap tablesIn (is e ∙ x))
     by-cut n e (inr x) = ends-early n (x .0) (x .1) e (x .2) (is e ∙ x .3)
 
-    go : Change s s' → After s s' buffer trim
-    go (append t e) = up-to-limit s s' buffer trim λ short.
-        ap tablesIn (is e ∙ appended s t buffer trim accepted (subst (λ (x : List ℕ). length x ≤ mostBytes) e short))
-    go (cut n e) = by-cut n e (cut-short s buffer trim n accepted)
-    go (add h before behind u unknown c c') = same-known s s' buffer trim h _ _ accepted c c' (known-without before behind u unknown)
-    go (remove h before behind u unknown c c') = same-known s s' buffer trim h _ _ accepted c c' (sym (known-without before behind u unknown))
+    go : Change s s' → After frame s s' buffer trim
+    go (append t e) = up-to-limit frame s s' buffer trim λ short.
+        ap tablesIn (is e ∙ appended frame s t buffer trim accepted (subst (λ (x : List ℕ). length x ≤ mostBytes) e short))
+    go (cut n e) = by-cut n e (cut-short frame s buffer trim n accepted)
+    go (add h before behind u unknown c c') = same-known frame s s' buffer trim h _ _ accepted c c' (known-without before behind u unknown)
+    go (remove h before behind u unknown c c') = same-known frame s s' buffer trim h _ _ accepted c c' (sym (known-without before behind u unknown))
     go (alter h before behind u u' unknown unknown' c c') =
-        same-known s s' buffer trim h _ _ accepted c c' (known-without before behind u' unknown' ∙ sym (known-without before behind u unknown))
+        same-known frame s s' buffer trim h _ _ accepted c c' (known-without before behind u' unknown' ∙ sym (known-without before behind u unknown))
 
 -- So where both are accepted, before the change and behind it, their tables and buffers are the same.
-pub never-another : (s s' buffer trim : List ℕ) → reading s buffer trim .answer .refusal ≡ 0 → Change s s' → reading s' buffer trim .answer .refusal ≡ 0
-    → SameTables (reading s' buffer trim) (reading s buffer trim)
-never-another s s' buffer trim accepted change accepted' = go (demand-3 s s' buffer trim accepted change)
+pub never-another : (frame : ℕ) (s s' buffer trim : List ℕ) → reading frame s buffer trim .answer .refusal ≡ 0 → Change s s' → reading frame s' buffer trim .answer .refusal ≡ 0
+    → SameTables (reading frame s' buffer trim) (reading frame s buffer trim)
+never-another frame s s' buffer trim accepted change accepted' = go (demand-3 frame s s' buffer trim accepted change)
   where
-    go : After s s' buffer trim → SameTables (reading s' buffer trim) (reading s buffer trim)
+    go : After frame s s' buffer trim → SameTables (reading frame s' buffer trim) (reading frame s buffer trim)
     go (same x) = x
     go (ends-early n place missing e least x) = absurd (omega (arith, refusal-of x))
     go (too-long l x) = absurd (omega (arith, refusal-of x))
 
 -- Any number of changes, one behind the other, what comes of each accepted
-pub data Changes (buffer trim s : List ℕ) : List ℕ → Type 0 where
-  none : Changes buffer trim s s
-  another : {m s' : List ℕ} → Changes buffer trim s m → Change m s' → reading s' buffer trim .answer .refusal ≡ 0 → Changes buffer trim s s'
+pub data Changes (frame : ℕ) (buffer trim s : List ℕ) : List ℕ → Type 0 where
+  none : Changes frame buffer trim s s
+  another : {m s' : List ℕ} → Changes frame buffer trim s m → Change m s' → reading frame s' buffer trim .answer .refusal ≡ 0 → Changes frame buffer trim s s'
 
 -- turn no tables into others.
-pub however-many : (s s' buffer trim : List ℕ) → reading s buffer trim .answer .refusal ≡ 0 → Changes buffer trim s s'
-    → SameTables (reading s' buffer trim) (reading s buffer trim)
-however-many s s' buffer trim accepted none = refl
-however-many s s' buffer trim accepted (another {m} before change accepted') =
-    let tables = however-many s m buffer trim accepted before in
-    never-another m s' buffer trim (ap (λ (o : Outcome). o .answer .refusal) tables ∙ accepted) change accepted' ∙ tables
+pub however-many : (frame : ℕ) (s s' buffer trim : List ℕ) → reading frame s buffer trim .answer .refusal ≡ 0 → Changes frame buffer trim s s'
+    → SameTables (reading frame s' buffer trim) (reading frame s buffer trim)
+however-many frame s s' buffer trim accepted none = refl
+however-many frame s s' buffer trim accepted (another {m} before change accepted') =
+    let tables = however-many frame s m buffer trim accepted before in
+    never-another frame m s' buffer trim (ap (λ (o : Outcome). o .answer .refusal) tables ∙ accepted) change accepted' ∙ tables
 
 -- There are such changes: an unknown element can be put anywhere among the elements of a payload that is put together, as every accepted one is
 -- (`put-together`), where there are fewer than 46.

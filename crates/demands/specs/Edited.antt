@@ -28,9 +28,9 @@ unfolding skeleton
 skeleton-is h es padding few bin = ap takenOut (outline-is h es padding few bin)
 
 -- It is so whenever the known ones of both are the same in the same order: any unknown elements may come, go, and have other bits and other sizes.
-pub edited : (h : Head) (es es' : List (Element (h .is .alternate))) → known (allBodies es') ≡ known (allBodies es) → Keeps h es es'
-edited h es es' same padding padding' buffer trim bin bin' few few' short accepted =
-    unknown-elements (payloadOf h es padding) (payloadOf h es' padding') buffer trim accepted
+pub edited : (frame : ℕ) (h : Head) (es es' : List (Element (h .is .alternate))) → known (allBodies es') ≡ known (allBodies es) → Keeps frame h es es'
+edited frame h es es' same padding padding' buffer trim bin bin' few few' short accepted =
+    unknown-elements frame (payloadOf h es padding) (payloadOf h es' padding') buffer trim accepted
     (skeleton-is h es' padding' (omega arith) bin' ∙ ap (λ (xs : List Body). some (record { header = h .is; elements = xs })) same
     ∙ sym (skeleton-is h es padding few bin))
     (omega arith)
@@ -42,20 +42,20 @@ without before behind u unknown =
     ∙ ap known (sym (bodies-append before behind))
 
 -- An unknown element is added, anywhere.
-pub added : (h : Head) (before behind : List (Element (h .is .alternate))) (u : Element (h .is .alternate)) → u .is .kind ≡ Unknown
-    → Keeps h (before ++ behind) (before ++ (u ∷ behind))
-added h before behind u unknown = edited h (before ++ behind) (before ++ (u ∷ behind)) (without before behind u unknown)
+pub added : (frame : ℕ) (h : Head) (before behind : List (Element (h .is .alternate))) (u : Element (h .is .alternate)) → u .is .kind ≡ Unknown
+    → Keeps frame h (before ++ behind) (before ++ (u ∷ behind))
+added frame h before behind u unknown = edited frame h (before ++ behind) (before ++ (u ∷ behind)) (without before behind u unknown)
 
 -- One is taken away.
-pub taken-away : (h : Head) (before behind : List (Element (h .is .alternate))) (u : Element (h .is .alternate)) → u .is .kind ≡ Unknown
-    → Keeps h (before ++ (u ∷ behind)) (before ++ behind)
-taken-away h before behind u unknown = edited h (before ++ (u ∷ behind)) (before ++ behind) (sym (without before behind u unknown))
+pub taken-away : (frame : ℕ) (h : Head) (before behind : List (Element (h .is .alternate))) (u : Element (h .is .alternate)) → u .is .kind ≡ Unknown
+    → Keeps frame h (before ++ (u ∷ behind)) (before ++ behind)
+taken-away frame h before behind u unknown = edited frame h (before ++ (u ∷ behind)) (before ++ behind) (sym (without before behind u unknown))
 
 -- One is given other bits, of the same or another size.
-pub changed : (h : Head) (before behind : List (Element (h .is .alternate))) (u u' : Element (h .is .alternate)) → u .is .kind ≡ Unknown
-    → u' .is .kind ≡ Unknown → Keeps h (before ++ (u ∷ behind)) (before ++ (u' ∷ behind))
-changed h before behind u u' unknown unknown' =
-    edited h (before ++ (u ∷ behind)) (before ++ (u' ∷ behind)) (without before behind u' unknown' ∙ sym (without before behind u unknown))
+pub changed : (frame : ℕ) (h : Head) (before behind : List (Element (h .is .alternate))) (u u' : Element (h .is .alternate)) → u .is .kind ≡ Unknown
+    → u' .is .kind ≡ Unknown → Keeps frame h (before ++ (u ∷ behind)) (before ++ (u' ∷ behind))
+changed frame h before behind u u' unknown unknown' =
+    edited frame h (before ++ (u ∷ behind)) (before ++ (u' ∷ behind)) (without before behind u' unknown' ∙ sym (without before behind u unknown))
 
 -- There are such elements: the shortest, with the id 0 and eight bits behind its size.
 pub shortest : (u : Element 0) × (u .is .kind ≡ Unknown)
@@ -66,8 +66,8 @@ shortest = (
 )
 
 -- Every accepted payload is put together so: the bits of its bytes are those of a header, the count, whole elements and padding.
-pub put-together : (s buffer trim : List ℕ) → reading s buffer trim .answer .refusal ≡ 0 → PutTogether s
-put-together s buffer trim accepted = together-of s (outlined s (read-of s buffer trim accepted .ran) .ran)
+pub put-together : (frame : ℕ) (s buffer trim : List ℕ) → reading frame s buffer trim .answer .refusal ≡ 0 → PutTogether s
+put-together frame s buffer trim accepted = together-of s (outlined s (read-of frame s buffer trim accepted .ran) .ran)
 
 -- So bytes, numbers below 256, that are put together are the payload of their parts.
 pub together-bytes : (s : List ℕ) → ((i : ℕ) → getD s i 0 < 256) → (x : PutTogether s) → payloadOf (x .head) (x .elements) (x .padding) ≡ s

@@ -17,3 +17,4 @@ pub mod Carried
 pub mod Arrays
 pub mod Shelves
 pub mod AnswerBytes
+pub mod Timed

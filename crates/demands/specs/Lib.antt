@@ -17,3 +17,4 @@ pub mod Numbers
 pub mod ExactlyWhen
 pub mod Missing
 pub mod Batch
+pub mod Time

@@ -44,11 +44,11 @@ pub blocks-read : (s : List ℕ) {q : Payload} {to : ℕ} → parsed s ≡ ok q 
 unfolding tables
 blocks-read s {q} h = blocks-by (q .known .object) (limits s h .object)
 
-pub numbers : (s buffer trim : List ℕ) → reading s buffer trim .answer .refusal ≡ 0
-    → (q : Payload) × (to : ℕ) × (parsed s ≡ ok q to) × Numbers q (reading s buffer trim)
+pub numbers : (frame : ℕ) (s buffer trim : List ℕ) → reading frame s buffer trim .answer .refusal ≡ 0
+    → (q : Payload) × (to : ℕ) × (parsed s ≡ ok q to) × Numbers q (reading frame s buffer trim)
 unfolding tables
-numbers s buffer trim accepted =
-    let r = read-of s buffer trim accepted in
+numbers frame s buffer trim accepted =
+    let r = read-of frame s buffer trim accepted in
     let l = limits s (r .ran) in
     let some = l .some in
     let few = l .few in
@@ -57,8 +57,8 @@ numbers s buffer trim accepted =
 
 -- ---- the room
 
--- the records of no payload need more than 30,528 bytes, and its trim table no more than 253
-pub room-most : (s : List ℕ) {q : Payload} {to : ℕ} → parsed s ≡ ok q to → (needed (tablesOf q) ≤ 30528) × (trimNeeded (q .programme .objects) ≤ 253)
+-- the records of no payload need more than 40,704 bytes, and its trim table no more than 253
+pub room-most : (s : List ℕ) {q : Payload} {to : ℕ} → parsed s ≡ ok q to → (needed (tablesOf q) ≤ 40704) × (trimNeeded (q .programme .objects) ≤ 253)
 unfolding tables
 room-most s {q} h =
     let l = limits s h in
@@ -68,16 +68,16 @@ room-most s {q} h =
     let m : objects * blocks ≤ 159 * 8 = mul-le-mul few (blocks-most (q .known .object) (l .object)) in
     (omega arith, omega arith)
 
--- A buffer of 30,720 bytes for the records and one of 253 for the trim table are never too short.
-pub roomy : (s buffer trim : List ℕ) → roomBytes ≤ length buffer → mostTrim ≤ length trim → reading s buffer trim .answer .refusal ≡ numberOf Room → ⊥
+-- A buffer of 40,960 bytes for the records and one of 253 for the trim table are never too short.
+pub roomy : (frame : ℕ) (s buffer trim : List ℕ) → roomBytes ≤ length buffer → mostTrim ≤ length trim → reading frame s buffer trim .answer .refusal ≡ numberOf Room → ⊥
 unfolding tables
-roomy s buffer trim room trim-room nine = go (case s buffer trim)
+roomy frame s buffer trim room trim-room nine = go (case frame s buffer trim)
   where
     lacks : (q : Payload) (to pl : ℕ) → parsed s ≡ ok q to → Short buffer trim (needed (tablesOf q)) (trimNeeded (q .programme .objects)) pl → ⊥
     lacks q to pl h (records-short l e) = let m = room-most s h in omega arith
     lacks q to pl h (trim-short f l e) = let m = room-most s h in omega arith
 
-    go : Case s buffer trim → ⊥
+    go : Case frame s buffer trim → ⊥
     go (long l e) = omega (arith, refusal-of e)
     go (stopped r pl m l h two eight e) = omega (arith, refusal-of e)
     go (full q to pl l h x e) = lacks q to pl h x

@@ -16,11 +16,11 @@ use Rattle.demands.specs.Lemmas.Skeletons.{Steps, outlined, from-outline
 
 -- Let a payload be accepted, and another have the same skeleton: the same header and the same known elements in the same order, whatever unknown ones
 -- stand before, between and behind them. Up to the length limit the other is accepted too, with the same tables and the same buffers.
-pub unknown-elements : (s s' buffer trim : List ℕ) → reading s buffer trim .answer .refusal ≡ 0 → skeleton s' ≡ skeleton s → length s' ≤ mostBytes
-    → SameTables (reading s' buffer trim) (reading s buffer trim)
+pub unknown-elements : (frame : ℕ) (s s' buffer trim : List ℕ) → reading frame s buffer trim .answer .refusal ≡ 0 → skeleton s' ≡ skeleton s → length s' ≤ mostBytes
+    → SameTables (reading frame s' buffer trim) (reading frame s buffer trim)
 unfolding skeleton outline
-unknown-elements s s' buffer trim z same short =
-    let r = read-of s buffer trim z in
+unknown-elements frame s s' buffer trim z same short =
+    let r = read-of frame s buffer trim z in
     let q = r .payload in
     let x = outlined s (r .ran) in
     let y = taken-some (outline s') (same ∙ ap takenOut (ap given (x .ran))) in
@@ -29,15 +29,15 @@ unknown-elements s s' buffer trim z same short =
     let ran = from-outline s' (y .0) (q .known) (g .1) steps in
     let p : y .0 .header .programme ≡ q .programme = ap (λ (o : Outline). o .header .programme) (y .2) ∙ x .programme in
     ap tablesIn
-    (reading-ok s' buffer trim short ran ∙ ap (λ (p : Programme). housed buffer trim (tables p (q .known)) (unknowns (y .0 .elements))) p
-    ∙ housed-fits buffer trim (tablesOf q) (unknowns (y .0 .elements)) (r .fits) (r .trim-fits))
+    (reading-ok frame s' buffer trim short ran ∙ ap (λ (p : Programme). housed frame buffer trim (tables p (q .known)) (unknowns (y .0 .elements))) p
+    ∙ housed-fits frame buffer trim (tablesOf q) (unknowns (y .0 .elements)) (r .fits) (r .trim-fits))
     ∙ sym (ap tablesIn (r .is))
 
 -- The count of unknown elements is just that: of the elements of an accepted payload, how many are of no known kind.
-pub unknown-count : (s buffer trim : List ℕ) → reading s buffer trim .answer .refusal ≡ 0
-    → (x : Outline) × (outline s ≡ some x) × (reading s buffer trim .answer .unknown ≡ unknowns (x .elements))
+pub unknown-count : (frame : ℕ) (s buffer trim : List ℕ) → reading frame s buffer trim .answer .refusal ≡ 0
+    → (x : Outline) × (outline s ≡ some x) × (reading frame s buffer trim .answer .unknown ≡ unknowns (x .elements))
 unfolding outline
-unknown-count s buffer trim z =
-    let r = read-of s buffer trim z in
+unknown-count frame s buffer trim z =
+    let r = read-of frame s buffer trim z in
     let x = outlined s (r .ran) in
     (x .is, ap given (x .ran), ap (λ (o : Outcome). o .answer .unknown) (r .is) ∙ x .counted)

@@ -1,7 +1,7 @@
--- What a write answers, and what the lent buffer holds afterwards, for all tables, all record bytes, all bytes of a trim table and all buffers.
+-- What a write answers, and what the lent buffer holds afterwards, for all tables, all frame numbers, all record bytes, all bytes of a trim table and all buffers.
 use mathlib.Core.Bool.{Bool}
 use mathlib.Core.List.{List, [], _∷_}
-use Prim.Native.Nat.{ℕ, zero, suc, _+_}
+use Prim.Native.Nat.{ℕ, zero, suc, _+_, min}
 use lib.Dec.{leb, ltb}
 use lib.ListN.{length, getD}
 use Rattle.bits.specs.declared.Refusal.the-variants.{NotValid, NoFit}
@@ -19,9 +19,10 @@ use Rattle.oamd.specs.Programme.{shares}
 use Rattle.oamd.specs.Trim.{TrimTable, trimNeeded}
 use Rattle.oamd.specs.Record.{Record, recordOf, onto}
 use Rattle.oamd.specs.Payload.{Tables}
+use Rattle.oamd.specs.Time.{timeOf}
 use Rattle.oamd.specs.Answer.{needed}
-use Rattle.record.specs.Bytes.{bytesAt, recordsAt}
-use Rattle.form.specs.Valid.{_and_, programmeValid, timingValid, firstBad, trimValid, recordCount}
+use Rattle.record.specs.Bytes.{bytesAt, recordsAt, timesAt}
+use Rattle.form.specs.Valid.{_and_, programmeValid, timingValid, firstBad, firstMistimed, trimValid, recordCount}
 use Rattle.form.specs.Form.{form}
 
 -- ---- the tables of a programme, a timing, record bytes and the bytes of a trim table
@@ -89,14 +90,19 @@ trimmed out t whole =
     pick (whole and trimValid (t .programme .objects) (t .trim)) (fitted out (form t))
     (refusedTo out (numberOf NotValid) (1 + recordCount (t .programme) (t .timing)))
 
+-- the first record that is bad by its class and its own bytes, or the first whose time is not that of its block in this frame, whichever comes first
+unfoldable pub firstRefused : ℕ → Programme → Timing → List ℕ → ℕ
+firstRefused frame p t s =
+    min (firstBad (shares p) (t .blocks) 0 (recordsAt s (recordCount p t) 0)) (firstMistimed (timeOf frame t) 0 (timesAt s (recordCount p t) 0))
+
 -- the records, before the trim table
 unfoldable pub judged : List ℕ → Tables → ℕ → Bool → Written
 judged out t bad whole =
     pick (ltb bad (recordCount (t .programme) (t .timing))) (refusedTo out (numberOf NotValid) (1 + bad)) (trimmed out t whole)
 
 -- programme, timing and how many record bytes there are, first of all; s are the record bytes, x those of the trim table
-unfoldable pub writing : Programme → Timing → List ℕ → List ℕ → List ℕ → Written
-writing p t s x out =
+unfoldable pub writing : ℕ → Programme → Timing → List ℕ → List ℕ → List ℕ → Written
+writing frame p t s x out =
     pick (programmeValid p and timingValid t and leb (needed (tablesOf p t s x)) (length s))
-    (judged out (tablesOf p t s x) (firstBad (shares p) (t .blocks) 0 (recordsAt s (recordCount p t) 0)) (leb (trimNeeded (p .objects)) (length x)))
+    (judged out (tablesOf p t s x) (firstRefused frame p t s) (leb (trimNeeded (p .objects)) (length x)))
     (refusedTo out (numberOf NotValid) 0)

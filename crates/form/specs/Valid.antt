@@ -27,7 +27,9 @@ use Rattle.oamd.specs.Meaning.{zeroDb, zeroZ, defaultLocation, defaultZone}
 use Rattle.oamd.specs.Extended.{hasX, hasY, hasZ}
 use Rattle.oamd.specs.Trim.{hasCentre, hasSurround, hasHeight, hasTb, hasLis, TrimTable}
 use Rattle.oamd.specs.Record.{Record, carries}
+use Rattle.oamd.specs.Time.{timeBytesOf}
 use Rattle.oamd.specs.Payload.{Tables}
+use Rattle.record.specs.Bytes.{sameBytes}
 
 -- both tests hold
 infixr 30 _and_
@@ -156,6 +158,13 @@ recordValid class r =
 unfoldable pub firstBad : Shares → ℕ → ℕ → List Record → ℕ
 firstBad s blocks i [] = i
 firstBad s blocks i (r ∷ rs) = pick (recordValid (classOf s (i / blocks)) r) (firstBad s blocks (suc i) rs) i
+
+-- ---- the times of the records, which no table holds
+
+-- the index of the first record whose time bytes are not those of its time, where the indices count from i; behind the last where there is none
+unfoldable pub firstMistimed : (ℕ → ℕ) → ℕ → List (List ℕ) → ℕ
+firstMistimed time i [] = i
+firstMistimed time i (x ∷ xs) = pick (sameBytes x (timeBytesOf (time i))) (firstMistimed time (suc i) xs) i
 
 -- ---- the trim table (5.5.12)
 

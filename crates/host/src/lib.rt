@@ -13,34 +13,40 @@ use oamd::WriteAnswer;
 use text::TextAnswer;
 
 // The version of this interface: a thousand times the major number, plus the minor.
-const VERSION: u32 = 2003;
+const VERSION: u32 = 3000;
 
 #[no_mangle]
 pub extern "C" fn skriemelt_version() -> u32
-    ensures { λ r. ⌜ r ≡ 2003 ⌝ }
+    ensures { λ r. ⌜ r ≡ 3000 ⌝ }
 {
     VERSION
 }
 
-// Reads a payload. Accepted: the records and the trim table are the first bytes of their lent buffers, and no other byte of these changes. Refused: none
-// changes.
+// Reads the payload of a frame, by the frame's number. Accepted: the records, each with its time, and the trim table are the first bytes of their lent buffers, and no other
+// byte of these changes. Refused: none changes.
 #[no_mangle]
-pub extern "C" fn skriemelt_read(payload: &[u8], records: &mut [u8], trim: &mut [u8]) -> ReadAnswer
+pub extern "C" fn skriemelt_read(
+    payload: &[u8],
+    frame: u32,
+    records: &mut [u8],
+    trim: &mut [u8],
+) -> ReadAnswer
     ensures { λ r. ⌜
         (record { answer = r; buffer = now (records .exit); trim = now (trim .exit) })
-        ≡ reading (now (payload .entry)) (now (records .entry)) (now (trim .entry))
+        ≡ reading frame (now (payload .entry)) (now (records .entry)) (now (trim .entry))
         ⌝ }
 {
-    reader::read(payload, records, trim)
+    reader::read(payload, frame, records, trim)
 }
 
-// Reads each payload of a shelf as a part of the store: each entry's slots and place as a read of it alone would give them. Refused with 13: nothing is read, and no byte of
-// the three lent buffers changes.
+// Reads each payload of a shelf as a part of the store, with the number of its frame: each entry's slots and place as a read of it alone would give them. Refused with 13: nothing is read, and no
+// byte of the three lent buffers changes.
 #[no_mangle]
 pub extern "C" fn skriemelt_read_batch(
     store: &[u8],
     starts: &[u64],
     lengths: &[u64],
+    frames: &[u32],
     recordslot: usize,
     trimslot: usize,
     records: &mut [u8],
@@ -49,7 +55,7 @@ pub extern "C" fn skriemelt_read_batch(
 ) -> BatchAnswer
     ensures { λ r. ⌜
         (record { answer = r; shelf = record { records = now (records .exit); trims = now (trims .exit); answers = now (answers .exit) } })
-        ≡ batching (now (store .entry)) (now (starts .entry)) (now (lengths .entry)) recordslot trimslot
+        ≡ batching (now (store .entry)) (now (starts .entry)) (now (lengths .entry)) (now (frames .entry)) recordslot trimslot
         (record { records = now (records .entry); trims = now (trims .entry); answers = now (answers .entry) })
         ⌝ }
 {
@@ -57,6 +63,7 @@ pub extern "C" fn skriemelt_read_batch(
         store,
         starts,
         lengths,
+        frames,
         recordslot,
         trimslot,
         records,
@@ -65,24 +72,25 @@ pub extern "C" fn skriemelt_read_batch(
     )
 }
 
-// Writes tables. Accepted: the payload is the first bytes of the lent buffer, and no other byte of it changes. Refused: none changes.
+// Writes the tables of a frame, whose records have its times. Accepted: the payload is the first bytes of the lent buffer, and no other byte of it changes. Refused: none changes.
 #[no_mangle]
 pub extern "C" fn skriemelt_write(
     programme: Programme,
     timing: Timing,
+    frame: u32,
     records: &[u8],
     trim: &[u8],
     payload: &mut [u8],
 ) -> WriteAnswer
     ensures { λ r. ⌜
         (record { answer = r; out = now (payload .exit) })
-        ≡ writing programme timing (now (records .entry)) (now (trim .entry)) (now (payload .entry))
+        ≡ writing frame programme timing (now (records .entry)) (now (trim .entry)) (now (payload .entry))
         ⌝ }
 {
-    writer::write(programme, timing, records, trim, payload)
+    writer::write(programme, timing, frame, records, trim, payload)
 }
 
-// Lists a payload. Accepted: the listing is the first bytes of the lent buffer, and no other byte of it changes. Refused: none changes.
+// Lists a payload, as that of frame 0. Accepted: the listing is the first bytes of the lent buffer, and no other byte of it changes. Refused: none changes.
 #[no_mangle]
 pub extern "C" fn skriemelt_list_text(payload: &[u8], text: &mut [u8]) -> TextAnswer
     ensures { λ r. ⌜ (record { answer = r; buffer = now (text .exit) }) ≡ texted (listing (now (payload .entry))) (now (text .entry)) ⌝ }

@@ -8,33 +8,37 @@ use Rattle.bits.specs.Language.{ok, slice, number, run, bit, each, from, pastPa
 use Rattle.bits.specs.Writes.{listed}
 use Rattle.bits.specs.Size.{sizeFrom, sizeOf, variable-bits-max}
 use Rattle.oamd.specs.declared.ReadAnswer.{ReadAnswer}
+use Rattle.oamd.specs.declared.Timing.{Timing}
 use Rattle.oamd.specs.declared.Update.{Update}
 use Rattle.oamd.specs.Tables.{mostTrim}
 use Rattle.oamd.specs.Programme.{bed-assignment, bed-instances, intermediate-spatial-format, num-dynamic-objects, reserved-data, program-assignment, labels, bedObjects}
 use Rattle.oamd.specs.Programme.{allBeds, named, agrees, shares, classOf}
-use Rattle.oamd.specs.Timing.{sample-offset, block-update-info, md-update-info, offsetOf, rampOf, startOf, timingOf}
+use Rattle.oamd.specs.Timing.{sample-offset, block-update-info, md-update-info, offsetOf, rampOf, startOf, noUpdate, timingOf}
 use Rattle.oamd.specs.Block.{status-idx, object-basic-info, differences, coordinates, position, distance, zone, extent, screen, object-render-info, additional-table-data, object-info-block}
 use Rattle.oamd.specs.ObjectElement.{object-data, object-element}
 use Rattle.oamd.specs.Extended.{obj-div-block, ext-prec-pos-block, extended-object-element}
 use Rattle.oamd.specs.Meaning.{gainOf, priorityOf, distanceOf, locationOf, volumeOf, resolve, scenesFrom, scenesOf, allScenes}
-use Rattle.oamd.specs.Record.{plainRecords, extendedRecords, recordBytesOf, bytesOf, onto}
+use Rattle.oamd.specs.Record.{plainRecords, extendedRecords, recordBytesOf, onto}
+use Rattle.oamd.specs.LeastFirst.{leastFirst}
+use Rattle.oamd.specs.Time.{blockTime, timeBytesOf, timedBytesOf}
 use Rattle.oamd.specs.Trim.{trim-config, trim-element, trimOf, configsBytesOf, trimBytesOf, trimNeeded}
 use Rattle.oamd.specs.Element.{kind, framed, scenes, fields, passOver, readKnown, oa-element, oa-element-md, elements}
 use Rattle.oamd.specs.Payload.{oa-md-version, object-count, oa-element-count, header, object-audio-metadata-payload, timing, records, tables}
 use Rattle.oamd.specs.Answer.{missingOf, refusedWith, housed, reading}
 
--- a size by its groups, each a hex digit and a flag; a gain by its bits, in dB plus 50; a start by sample offset and factor; a payload by its bytes,
--- with the numbers that its listing prints; a payload that is refused by its bytes, with the refusal, its place and the missing bits; a payload of one
--- object by its bytes, with its trim table; a payload by its bytes, with the numbers that its listing prints, the starts and ramps of its blocks, and the
--- bytes of its records
+-- a size by its groups, each a hex digit and a flag; a gain by its bits, in dB plus 50; a start by sample offset and factor; a time by frame and start, as
+-- bytes; a payload by its bytes, with the numbers that its listing prints; a payload that is refused by its bytes, with the refusal, its place and the missing bits; a
+-- payload of one object by its bytes, with its trim table; a payload by its frame and its bytes, with the numbers that its listing prints, the starts and ramps of its
+-- blocks, and the bytes of its records
 pub data Example : Type 0 where
   size : List ℕ → ℕ → Example
   gain : ℕ → ℕ → Example
   start : ℕ → ℕ → ℕ → Example
+  time : ℕ → ℕ → List ℕ → Example
   payload : List ℕ → List ℕ → Example
   stopped : List ℕ → ℕ → ℕ → ℕ → Example
   trim : List ℕ → List ℕ → Example
-  scene : List ℕ → List ℕ → List ℕ → List ℕ → Example
+  scene : ℕ → List ℕ → List ℕ → List ℕ → List ℕ → Example
 
 -- a group's digit and flag, in the five upper bits of a byte, are put one behind the other as bits
 unfoldable pub groups : List ℕ → List ℕ
@@ -50,6 +54,10 @@ abbrev pub printed : ReadAnswer → List ℕ
 printed a = a .refusal ∷ a .place ∷ a .programme .objects ∷ shares (a .programme) .bed ∷ shares (a .programme) .isf ∷ shares (a .programme) .dynamic
     ∷ a .timing .blocks ∷ a .unknown ∷ []
 
+-- one block, which starts at a sample
+abbrev pub oneBlock : ℕ → Timing
+oneBlock sample = record { blocks = 1; updates = record { start = record { 0 = sample }; ramp = record { 0 = 0 } } ∷ replicate 7 noUpdate }
+
 -- the start and the ramp of each entry of a timing
 abbrev pub timesOf : List Update → List ℕ
 timesOf [] = []
@@ -59,11 +67,12 @@ abbrev pub Holds : Example → Type 0
 Holds (size gs n) = run variable-bits-max (listed (groups gs)) 0 (length (groups gs)) pastPayload ≡ ok (sizeOf n (length gs)) (5 * length gs)
 Holds (gain bits db) = gainOf (record { index = 2; bits = bits }) 0 ≡ db
 Holds (start offset factor sample) = startOf offset factor ≡ sample
-Holds (payload s numbers) = printed (reading s [] room .answer) ≡ numbers
-Holds (stopped s number place missing) = reading s [] room .answer ≡ refusedWith number place missing
-Holds (trim s table) = reading s [] room .trim ≡ table ++ replicate (mostTrim - trimNeeded 1) 0
-Holds (scene s numbers times bytes) =
-    let o = reading s (replicate (length bytes) 0) room in
+Holds (time frame sample bytes) = timeBytesOf (blockTime frame (oneBlock sample) 0) ≡ bytes
+Holds (payload s numbers) = printed (reading 0 s [] room .answer) ≡ numbers
+Holds (stopped s number place missing) = reading 0 s [] room .answer ≡ refusedWith number place missing
+Holds (trim s table) = reading 0 s [] room .trim ≡ table ++ replicate (mostTrim - trimNeeded 1) 0
+Holds (scene frame s numbers times bytes) =
+    let o = reading frame s (replicate (length bytes) 0) room in
     (printed (o .answer) ≡ numbers) × (timesOf (o .answer .timing .updates) ≡ times) × (o .buffer ≡ bytes)
 
 abbrev pub All : List Example → Type 0
@@ -114,28 +123,40 @@ eachStatus =
 abbrev pub without : ℕ → ℕ → ℕ → ℕ → List ℕ
 without active class level priority = active ∷ class ∷ level ∷ priority ∷ 31 ∷ 31 ∷ 64 ∷ 0 ∷ 0 ∷ 0 ∷ 0 ∷ 0 ∷ 1 ∷ replicate 11 0
 
--- four of an object that is never active
+-- the times of its four blocks in frame 7, which begins at 10,752: behind that 18, 530, 1,554 and 2,034, so 0x2A12, 0x2C12, 0x3012 and 0x31F2, least byte first
+abbrev pub firstTime : List ℕ
+firstTime = 0x12 ∷ 0x2A ∷ replicate 6 0
+
+abbrev pub secondTime : List ℕ
+secondTime = 0x12 ∷ 0x2C ∷ replicate 6 0
+
+abbrev pub thirdTime : List ℕ
+thirdTime = 0x12 ∷ 0x30 ∷ replicate 6 0
+
+abbrev pub fourthTime : List ℕ
+fourthTime = 0xF2 ∷ 0x31 ∷ replicate 6 0
+
+-- the four records of an object, each with its time
+abbrev pub four : List ℕ → List ℕ → List ℕ → List ℕ → List ℕ
+four a b c d = (a ++ firstTime) ++ ((b ++ secondTime) ++ ((c ++ thirdTime) ++ (d ++ fourthTime)))
+
+-- those of an object that is never active
 abbrev pub quiet : ℕ → List ℕ
-quiet class = without 0 class 0 0 ++ (without 0 class 0 0 ++ (without 0 class 0 0 ++ without 0 class 0 0))
+quiet class = four (without 0 class 0 0) (without 0 class 0 0) (without 0 class 0 0) (without 0 class 0 0)
 
 -- what it gives, object by object and block by block
 abbrev pub eachStatusRecords : List ℕ
 eachStatusRecords =
-    without 1 0 50 32
-    ++ (without 1 0 50 32
-    ++ (without 1 0 49 32
-    ++ (without 0 0 0 0
-    ++ (without 1 1 50 10
-    ++ (without 1 1 0 0
-    ++ (without 1 1 0 32
-    ++ (without 1 1 0 32
+    four (without 1 0 50 32) (without 1 0 50 32) (without 1 0 49 32) (without 0 0 0 0)
+    ++ (four (without 1 1 50 10) (without 1 1 0 0) (without 1 1 0 32) (without 1 1 0 32)
     ++ (quiet 1
     ++ (quiet 1
     ++ (quiet 1
-    ++ ((1 ∷ 2 ∷ 0 ∷ 31 ∷ 62 ∷ 5 ∷ 57 ∷ 5 ∷ 1 ∷ 2 ∷ 31 ∷ 5 ∷ 0 ∷ 1 ∷ 5 ∷ 2 ∷ 1 ∷ 1 ∷ 0 ∷ 2 ∷ 5 ∷ 1 ∷ 0 ∷ 3 ∷ [])
-    ++ ((1 ∷ 2 ∷ 0 ∷ 31 ∷ 62 ∷ 1 ∷ 56 ∷ 0 ∷ 1 ∷ 2 ∷ 31 ∷ 5 ∷ 0 ∷ 1 ∷ 5 ∷ 2 ∷ 0 ∷ 0 ∷ 0 ∷ 0 ∷ 0 ∷ 0 ∷ 0 ∷ 0 ∷ [])
-    ++ ((1 ∷ 2 ∷ 0 ∷ 32 ∷ 62 ∷ 1 ∷ 56 ∷ 0 ∷ 1 ∷ 2 ∷ 31 ∷ 5 ∷ 0 ∷ 1 ∷ 5 ∷ 2 ∷ 0 ∷ 1 ∷ 2 ∷ 7 ∷ 0 ∷ 0 ∷ 0 ∷ 0 ∷ [])
-    ++ (1 ∷ 2 ∷ 65 ∷ 0 ∷ 31 ∷ 31 ∷ 64 ∷ 0 ∷ 0 ∷ 0 ∷ 0 ∷ 0 ∷ 1 ∷ 0 ∷ 0 ∷ 0 ∷ 0 ∷ 1 ∷ 1 ∷ 0 ∷ 0 ∷ 0 ∷ 0 ∷ 0 ∷ []))))))))))))))
+    ++ four
+    (1 ∷ 2 ∷ 0 ∷ 31 ∷ 62 ∷ 5 ∷ 57 ∷ 5 ∷ 1 ∷ 2 ∷ 31 ∷ 5 ∷ 0 ∷ 1 ∷ 5 ∷ 2 ∷ 1 ∷ 1 ∷ 0 ∷ 2 ∷ 5 ∷ 1 ∷ 0 ∷ 3 ∷ [])
+    (1 ∷ 2 ∷ 0 ∷ 31 ∷ 62 ∷ 1 ∷ 56 ∷ 0 ∷ 1 ∷ 2 ∷ 31 ∷ 5 ∷ 0 ∷ 1 ∷ 5 ∷ 2 ∷ 0 ∷ 0 ∷ 0 ∷ 0 ∷ 0 ∷ 0 ∷ 0 ∷ 0 ∷ [])
+    (1 ∷ 2 ∷ 0 ∷ 32 ∷ 62 ∷ 1 ∷ 56 ∷ 0 ∷ 1 ∷ 2 ∷ 31 ∷ 5 ∷ 0 ∷ 1 ∷ 5 ∷ 2 ∷ 0 ∷ 1 ∷ 2 ∷ 7 ∷ 0 ∷ 0 ∷ 0 ∷ 0 ∷ [])
+    (1 ∷ 2 ∷ 65 ∷ 0 ∷ 31 ∷ 31 ∷ 64 ∷ 0 ∷ 0 ∷ 0 ∷ 0 ∷ 0 ∷ 1 ∷ 0 ∷ 0 ∷ 0 ∷ 0 ∷ 1 ∷ 1 ∷ 0 ∷ 0 ∷ 0 ∷ 0 ∷ 0 ∷ [])))))
 
 abbrev pub examples : List Example
 examples =
@@ -151,6 +172,10 @@ examples =
     ∷ gain 63 1
     ∷ start 0 48 1536
     ∷ start 31 63 2047
+    ∷ time 0 32 (0x20 ∷ replicate 7 0)
+    ∷ time 7 32 (0x20 ∷ 0x2A ∷ replicate 6 0)
+    ∷ time 1 1536 (0 ∷ 0x0C ∷ replicate 6 0)
+    ∷ time 4294967295 2047 (0xFF ∷ 0x01 ∷ 0 ∷ 0 ∷ 0 ∷ 0x06 ∷ 0 ∷ 0 ∷ [])
     ∷ payload (0x01 ∷ 0x07 ∷ 0xC1 ∷ 0x00 ∷ []) (0 ∷ 0 ∷ 1 ∷ 0 ∷ 0 ∷ 1 ∷ 0 ∷ 1 ∷ [])
     ∷ stopped [] 2 0 2
     ∷ stopped (0x01 ∷ []) 2 8 1
@@ -161,12 +186,12 @@ examples =
     ∷ trim oneFlag (1 ∷ 1 ∷ 0 ∷ replicate 90 0 ++ (1 ∷ 1 ∷ []))
     ∷ trim nineConfigs
     (1 ∷ 0 ∷ 2 ∷ configured ++ (0 ∷ 0 ∷ []))
-    ∷ scene eachStatus (0 ∷ 0 ∷ 6 ∷ 1 ∷ 4 ∷ 1 ∷ 4 ∷ 1 ∷ []) (18 ∷ 0 ∷ 530 ∷ 512 ∷ 1554 ∷ 1536 ∷ 2034 ∷ 1000 ∷ replicate 8 0) eachStatusRecords
+    ∷ scene 7 eachStatus (0 ∷ 0 ∷ 6 ∷ 1 ∷ 4 ∷ 1 ∷ 4 ∷ 1 ∷ []) (18 ∷ 0 ∷ 530 ∷ 512 ∷ 1554 ∷ 1536 ∷ 2034 ∷ 1000 ∷ replicate 8 0) eachStatusRecords
     ∷ []
 
 pub worked : All examples
 unfolding sizeFrom slice number run bit each from groups gainOf startOf bed-assignment bed-instances intermediate-spatial-format num-dynamic-objects
-    reserved-data program-assignment labels bedObjects allBeds named agrees shares classOf plainRecords extendedRecords recordBytesOf bytesOf onto kind framed
+    reserved-data program-assignment labels bedObjects allBeds named agrees shares classOf plainRecords extendedRecords recordBytesOf onto leastFirst blockTime timedBytesOf kind framed
     scenes fields passOver readKnown oa-element oa-element-md elements oa-md-version object-count oa-element-count header object-audio-metadata-payload timing
     records tables trim-config trim-element trimOf configsBytesOf trimBytesOf missingOf housed reading sample-offset block-update-info md-update-info offsetOf
     rampOf timingOf status-idx object-basic-info differences coordinates position distance zone extent screen object-render-info additional-table-data
@@ -194,7 +219,7 @@ worked = (
                     refl,
                     (
                       refl,
-                      (refl, (refl, (refl, (refl, (refl, (refl, (refl, (refl, (refl, (refl, ((refl, refl, refl), tt))))))))))),
+                      (refl, (refl, (refl, (refl, (refl, (refl, (refl, (refl, (refl, (refl, (refl, (refl, (refl, (refl, ((refl, refl, refl), tt))))))))))))))),
                     ),
                   ),
                 ),

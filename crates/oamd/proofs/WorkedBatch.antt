@@ -18,7 +18,8 @@ use Rattle.oamd.specs.Block.{status-idx, object-basic-info, differences,
 use Rattle.oamd.specs.ObjectElement.{object-data, object-element}
 use Rattle.oamd.specs.Extended.{obj-div-block, ext-prec-pos-block, extended-object-element}
 use Rattle.oamd.specs.Meaning.{gainOf, priorityOf, distanceOf, locationOf, volumeOf, resolve, scenesFrom, scenesOf, allScenes}
-use Rattle.oamd.specs.Record.{plainRecords, extendedRecords, recordBytesOf, bytesOf, onto}
+use Rattle.oamd.specs.Record.{plainRecords, extendedRecords, recordBytesOf, onto}
+use Rattle.oamd.specs.Time.{timedBytesOf}
 use Rattle.oamd.specs.Trim.{trim-config, trim-element, trimOf, configsBytesOf, trimBytesOf, trimNeeded}
 use Rattle.oamd.specs.Element.{kind, framed, scenes, fields, passOver, readKnown, oa-element, oa-element-md, elements}
 use Rattle.oamd.specs.Payload.{oa-md-version, object-count, oa-element-count, header, object-audio-metadata-payload, timing, records, tables}
@@ -46,16 +47,19 @@ after = record {
   answers = place 0 0 1 1 1 0 ++ (place 18 2 0 0 0 7 ++ (place 3 12 0 0 0 0 ++ (place 0 2 0 0 0 2 ++ (7 ∷ []))));
 }
 
--- the lists of starts and lengths
+-- the lists of starts, lengths and frames
 abbrev starts : List ℕ
 starts = 0 ∷ 0 ∷ 3 ∷ 6 ∷ []
 
 abbrev lengths : List ℕ
 lengths = 4 ∷ 3 ∷ 4 ∷ 0 ∷ []
 
-shelf-worked : batching store starts lengths 0 95 came ≡ record { answer = batchedWith 0 0; shelf = after }
+abbrev frames : List ℕ
+frames = 7 ∷ 8 ∷ 9 ∷ 4294967295 ∷ []
+
+shelf-worked : batching store starts lengths frames 0 95 came ≡ record { answer = batchedWith 0 0; shelf = after }
 unfolding sizeFrom slice number run bit each from gainOf startOf bed-assignment bed-instances intermediate-spatial-format num-dynamic-objects
-    reserved-data program-assignment labels bedObjects allBeds named agrees shares classOf plainRecords extendedRecords recordBytesOf bytesOf
+    reserved-data program-assignment labels bedObjects allBeds named agrees shares classOf plainRecords extendedRecords recordBytesOf timedBytesOf
     onto kind framed scenes fields passOver readKnown oa-element oa-element-md elements oa-md-version object-count oa-element-count header
     object-audio-metadata-payload timing records tables trim-config trim-element trimOf configsBytesOf trimBytesOf missingOf housed reading
     sample-offset block-update-info md-update-info offsetOf rampOf timingOf status-idx object-basic-info differences coordinates position
@@ -65,10 +69,10 @@ unfolding sizeFrom slice number run bit each from gainOf startOf bed-assignment 
 shelf-worked = refl
 
 -- with slots of 94 bytes the whole trim table does not fit: refusal 9 with the 95 bytes needed
-short-worked : shelved store (0 ∷ []) (4 ∷ []) 0 94 (record { records = []; trims = replicate 94 7; answers = replicate 136 7 })
+short-worked : shelved store (0 ∷ []) (4 ∷ []) (7 ∷ []) 0 94 (record { records = []; trims = replicate 94 7; answers = replicate 136 7 })
     ≡ record { records = []; trims = replicate 94 7; answers = place 95 9 0 0 0 0 }
 unfolding sizeFrom slice number run bit each from gainOf startOf bed-assignment bed-instances intermediate-spatial-format num-dynamic-objects
-    reserved-data program-assignment labels bedObjects allBeds named agrees shares classOf plainRecords extendedRecords recordBytesOf bytesOf
+    reserved-data program-assignment labels bedObjects allBeds named agrees shares classOf plainRecords extendedRecords recordBytesOf timedBytesOf
     onto kind framed scenes fields passOver readKnown oa-element oa-element-md elements oa-md-version object-count oa-element-count header
     object-audio-metadata-payload timing records tables trim-config trim-element trimOf configsBytesOf trimBytesOf missingOf housed reading
     sample-offset block-update-info md-update-info offsetOf rampOf timingOf status-idx object-basic-info differences coordinates position
@@ -77,11 +81,15 @@ unfolding sizeFrom slice number run bit each from gainOf startOf bed-assignment 
     eachBytes bedBytesOf programmeBytesOf updateBytesOf timingBytesOf answerBytesOf entry shelved roomy batching
 short-worked = refl
 
--- 13: four starts and three lengths; and one byte too few for four slots
-lists-worked : batching store starts (4 ∷ 3 ∷ 4 ∷ []) 0 95 came ≡ record { answer = batchedWith 13 4; shelf = came }
+-- 13: four starts and three lengths; four starts and three frames; and one byte too few for four slots
+lists-worked : batching store starts (4 ∷ 3 ∷ 4 ∷ []) frames 0 95 came ≡ record { answer = batchedWith 13 4; shelf = came }
 unfolding roomy batching
 lists-worked = refl
 
-room-worked : batching store starts lengths 0 96 came ≡ record { answer = batchedWith 13 4; shelf = came }
+frames-worked : batching store starts lengths (7 ∷ 8 ∷ 9 ∷ []) 0 95 came ≡ record { answer = batchedWith 13 4; shelf = came }
+unfolding roomy batching
+frames-worked = refl
+
+room-worked : batching store starts lengths frames 0 96 came ≡ record { answer = batchedWith 13 4; shelf = came }
 unfolding roomy batching
 room-worked = refl

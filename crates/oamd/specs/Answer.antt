@@ -1,4 +1,4 @@
--- What a read answers, and what the lent buffers hold afterwards, for all bytes and all buffers.
+-- What a read answers, and what the lent buffers hold afterwards, for all bytes, all frame numbers and all buffers.
 use mathlib.Core.List.{List}
 use Prim.Native.Nat.{ℕ, _*_}
 use lib.Dec.{eqb, leb}
@@ -11,7 +11,8 @@ use Rattle.oamd.specs.declared.Timing.{Timing}
 use Rattle.oamd.specs.declared.ReadAnswer.{ReadAnswer}
 use Rattle.oamd.specs.Tables.{mostBytes, mostBeds, recordStride}
 use Rattle.oamd.specs.Programme.{noBed}
-use Rattle.oamd.specs.Record.{bytesOf, onto}
+use Rattle.oamd.specs.Record.{onto}
+use Rattle.oamd.specs.Time.{timeOf, timedBytesOf}
 use Rattle.oamd.specs.Trim.{trimBytesOf, trimNeeded}
 use Rattle.oamd.specs.Payload.{Payload, object-audio-metadata-payload, Tables, noTiming, tables}
 
@@ -52,11 +53,15 @@ acceptedWith programme timing unknown = record { place = 0; refusal = 0; unknown
 abbrev pub refused : List ℕ → List ℕ → ℕ → ℕ → ℕ → Outcome
 refused buffer trim number place missing = record { answer = refusedWith number place missing; buffer = buffer; trim = trim }
 
+-- the records of tables, each with its time behind it
+abbrev pub laidRecords : ℕ → Tables → List ℕ
+laidRecords frame t = timedBytesOf (timeOf frame (t .timing)) 0 (t .records)
+
 -- accepted, the records and the trim table are the first bytes of their buffers, and the others stay
-abbrev pub accepted : List ℕ → List ℕ → Tables → ℕ → Outcome
-accepted buffer trim t unknown = record {
+abbrev pub accepted : ℕ → List ℕ → List ℕ → Tables → ℕ → Outcome
+accepted frame buffer trim t unknown = record {
   answer = acceptedWith (t .programme) (t .timing) unknown;
-  buffer = onto (bytesOf (t .records)) buffer;
+  buffer = onto (laidRecords frame t) buffer;
   trim = onto (trimBytesOf (t .trim)) trim;
 }
 
@@ -65,20 +70,20 @@ abbrev pub needed : Tables → ℕ
 needed t = recordStride * (t .programme .objects * t .timing .blocks)
 
 -- the room is looked at last of all: that for the records, then that for the trim table
-unfoldable pub housed : List ℕ → List ℕ → Tables → ℕ → Outcome
-housed buffer trim t unknown =
+unfoldable pub housed : ℕ → List ℕ → List ℕ → Tables → ℕ → Outcome
+housed frame buffer trim t unknown =
     pick (leb (needed t) (length buffer))
-    (pick (leb (trimNeeded (t .programme .objects)) (length trim)) (accepted buffer trim t unknown)
+    (pick (leb (trimNeeded (t .programme .objects)) (length trim)) (accepted frame buffer trim t unknown)
     (refused buffer trim (numberOf Room) (trimNeeded (t .programme .objects)) 0))
     (refused buffer trim (numberOf Room) (needed t) 0)
 
-abbrev pub answered : List ℕ → List ℕ → Res Payload → Outcome
-answered buffer trim (ok q to) = housed buffer trim (tables (q .programme) (q .known)) (q .unknown)
-answered buffer trim (no number place missing) = refused buffer trim number place (missingOf number missing)
+abbrev pub answered : ℕ → List ℕ → List ℕ → Res Payload → Outcome
+answered frame buffer trim (ok q to) = housed frame buffer trim (tables (q .programme) (q .known)) (q .unknown)
+answered frame buffer trim (no number place missing) = refused buffer trim number place (missingOf number missing)
 
 -- the length is looked at first of all
-unfoldable pub reading : List ℕ → List ℕ → List ℕ → Outcome
-reading s buffer trim =
+unfoldable pub reading : ℕ → List ℕ → List ℕ → List ℕ → Outcome
+reading frame s buffer trim =
     pick (leb (length s) mostBytes)
-    (answered buffer trim (run object-audio-metadata-payload (bit s) 0 (8 * length s) pastPayload))
+    (answered frame buffer trim (run object-audio-metadata-payload (bit s) 0 (8 * length s) pastPayload))
     (refused buffer trim (numberOf TooLong) (length s) 0)

@@ -88,9 +88,9 @@ answerAt s at = record {
 -- ---- an entry
 
 -- a part of the store, read as a payload by itself; one that leaves the store is refused before it is looked at
-unfoldable pub entry : List ℕ → ℕ → ℕ → List ℕ → List ℕ → Outcome
-entry store start len records trim =
-    pick (leb (start + len) (length store)) (reading (take len (drop start store)) records trim) (refused records trim (numberOf Outside) start 0)
+unfoldable pub entry : ℕ → List ℕ → ℕ → ℕ → List ℕ → List ℕ → Outcome
+entry frame store start len records trim =
+    pick (leb (start + len) (length store)) (reading frame (take len (drop start store)) records trim) (refused records trim (numberOf Outside) start 0)
 
 -- ---- the shelf
 
@@ -108,21 +108,22 @@ inFront o rest = record {
   answers = answerBytesOf (o .answer) ++ rest .answers;
 }
 
--- the entries in list order, each with the next slot of so many bytes of records, the next of the trims and the next place
-unfoldable pub shelved : List ℕ → List ℕ → List ℕ → ℕ → ℕ → Shelf → Shelf
-shelved store [] lengths recordslot trimslot x = x
-shelved store (start ∷ starts) [] recordslot trimslot x = x
-shelved store (start ∷ starts) (len ∷ lengths) recordslot trimslot x =
-    inFront (entry store start len (take recordslot (x .records)) (take trimslot (x .trims)))
-    (shelved store starts lengths recordslot trimslot
+-- the entries in list order, each with its frame, the next slot of so many bytes of records, the next of the trims and the next place
+unfoldable pub shelved : List ℕ → List ℕ → List ℕ → List ℕ → ℕ → ℕ → Shelf → Shelf
+shelved store [] lengths frames recordslot trimslot x = x
+shelved store (start ∷ starts) [] frames recordslot trimslot x = x
+shelved store (start ∷ starts) (len ∷ lengths) [] recordslot trimslot x = x
+shelved store (start ∷ starts) (len ∷ lengths) (frame ∷ frames) recordslot trimslot x =
+    inFront (entry frame store start len (take recordslot (x .records)) (take trimslot (x .trims)))
+    (shelved store starts lengths frames recordslot trimslot
     (record { records = drop recordslot (x .records); trims = drop trimslot (x .trims); answers = drop answerBytes (x .answers) }))
 
 -- ---- the call
 
--- a length for each start, and room for the slots and places of all of them
-unfoldable pub roomy : ℕ → ℕ → ℕ → ℕ → ℕ → ℕ → ℕ → Bool
-roomy starts lengths recordslot trimslot records trims answers =
-    both (eqb lengths starts)
+-- a length and a frame for each start, and room for the slots and places of all of them
+unfoldable pub roomy : ℕ → ℕ → ℕ → ℕ → ℕ → ℕ → ℕ → ℕ → Bool
+roomy starts lengths frames recordslot trimslot records trims answers =
+    both (both (eqb lengths starts) (eqb frames starts))
     (both (leb (starts * recordslot) records) (both (leb (starts * trimslot) trims) (leb (starts * answerBytes) answers)))
 
 -- the answer of the whole call, and the three lent buffers afterwards
@@ -133,8 +134,8 @@ pub record Batched : Type 0 where
 abbrev pub batchedWith : ℕ → ℕ → BatchAnswer
 batchedWith number place = record { place = place; refusal = number }
 
-unfoldable pub batching : List ℕ → List ℕ → List ℕ → ℕ → ℕ → Shelf → Batched
-batching store starts lengths recordslot trimslot x =
-    pick (roomy (length starts) (length lengths) recordslot trimslot (length (x .records)) (length (x .trims)) (length (x .answers)))
-    (record { answer = batchedWith 0 0; shelf = shelved store starts lengths recordslot trimslot x })
+unfoldable pub batching : List ℕ → List ℕ → List ℕ → List ℕ → ℕ → ℕ → Shelf → Batched
+batching store starts lengths frames recordslot trimslot x =
+    pick (roomy (length starts) (length lengths) (length frames) recordslot trimslot (length (x .records)) (length (x .trims)) (length (x .answers)))
+    (record { answer = batchedWith 0 0; shelf = shelved store starts lengths frames recordslot trimslot x })
     (record { answer = batchedWith (numberOf Lists) (length starts); shelf = x })

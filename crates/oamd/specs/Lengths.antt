@@ -1,7 +1,7 @@
 -- How many bytes records, a trim table and an answer take.
 use mathlib.Core.Path.{_≡_, refl, sym, ap, ap₂, _∙_}
 use mathlib.Core.List.{List, [], _∷_, _++_}
-use Prim.Native.Nat.{ℕ, _+_, _*_}
+use Prim.Native.Nat.{ℕ, suc, _+_, _*_}
 use native.Mathlib.Nat.{zero-mul, suc-mul, add-comm}
 use native.Mathlib.Omega.{arith}
 use lib.ListN.{length, length-append}
@@ -9,9 +9,10 @@ use Rattle.oamd.specs.declared.Bed.{Bed}
 use Rattle.oamd.specs.declared.Update.{Update}
 use Rattle.oamd.specs.declared.TrimConfig.{TrimConfig}
 use Rattle.oamd.specs.declared.ReadAnswer.{ReadAnswer}
-use Rattle.oamd.specs.Tables.{mostBeds, mostBlocks, recordBytes, trimConfigs, configBytes, answerBytes}
+use Rattle.oamd.specs.Tables.{mostBeds, mostBlocks, recordBytes, recordStride, trimConfigs, configBytes, answerBytes}
 use Rattle.oamd.specs.Record.{Record, recordBytesOf, bytesOf}
 use Rattle.oamd.specs.LeastFirst.{leastFirst}
+use Rattle.oamd.specs.Time.{timeBytesOf, timedBytesOf}
 use Rattle.oamd.specs.Batch.{eachBytes, bedBytesOf, updateBytesOf, programmeBytesOf, timingBytesOf, answerBytesOf}
 use Rattle.oamd.specs.Trim.{TrimTable, configBytesOf, configsBytesOf, trimBytesOf, trimNeeded}
 
@@ -23,6 +24,14 @@ pub length-bytes : (rs : List Record) → length (bytesOf rs) ≡ recordBytes * 
 unfolding bytesOf
 length-bytes [] = refl
 length-bytes (r ∷ rs) = length-append (recordBytesOf r) (bytesOf rs) ∙ omega (arith, length-bytes rs, length-record r)
+
+pub length-timed : (time : ℕ → ℕ) (i : ℕ) (rs : List Record) → length (timedBytesOf time i rs) ≡ recordStride * length rs
+unfolding timedBytesOf leastFirst
+length-timed time i [] = refl
+length-timed time i (r ∷ rs) =
+    let one : List ℕ = recordBytesOf r ++ timeBytesOf (time i) in
+    length-append one (timedBytesOf time (suc i) rs)
+    ∙ omega (arith, length-timed time (suc i) rs, length-record r, length-append (recordBytesOf r) (timeBytesOf (time i)))
 
 pub length-configs : (cs : List TrimConfig) → length (configsBytesOf cs) ≡ configBytes * length cs
 unfolding configsBytesOf

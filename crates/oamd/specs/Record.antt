@@ -1,4 +1,4 @@
--- A record, and its bytes.
+-- A record, and the bytes of it that the payload gives.
 use mathlib.Core.Bool.{Bool}
 use mathlib.Core.List.{List, [], _∷_, _++_}
 use Prim.Native.Nat.{ℕ}
@@ -55,7 +55,7 @@ preciseBytes p = p .presence ∷ p .x ∷ p .y ∷ p .z ∷ []
 unfoldable pub recordBytesOf : Record → List ℕ
 recordBytesOf r = sceneBytes (r .scene) ++ (divergenceBytes (r .divergence) ++ preciseBytes (r .precise))
 
--- the bytes of records, one after the other
+-- the bytes of records, one after the other, without their times (Time.antt)
 unfoldable pub bytesOf : List Record → List ℕ
 bytesOf [] = []
 bytesOf (r ∷ rs) = recordBytesOf r ++ bytesOf rs

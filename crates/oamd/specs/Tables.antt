@@ -22,19 +22,27 @@ mostBlocks = 8
 abbrev pub mostBeds : ℕ
 mostBeds = 9
 
--- the bytes of a record that have a meaning
+-- the bytes of a record that the payload gives
 abbrev pub recordBytes : ℕ
 recordBytes = 24
 
--- from one record to the next
+-- the bytes of its time, behind them
+abbrev pub timeBytes : ℕ
+timeBytes = 8
+
+-- from one record to the next in a lent buffer: both
 abbrev pub recordStride : ℕ
-recordStride = 24
+recordStride = 32
+
+-- the samples of a frame
+abbrev pub frameSamples : ℕ
+frameSamples = 1536
 
 -- room for the records of every payload, and to spare
 abbrev pub roomBytes : ℕ
-roomBytes = 30720
+roomBytes = 40960
 
--- the same where the records stand without a gap, as a reader keeps them until a payload is accepted
+-- the same without their times, as a reader keeps them until a payload is accepted
 abbrev pub scratchBytes : ℕ
 scratchBytes = 30720
 

@@ -10,6 +10,7 @@ mod presence; // presence.rt: which fields are there
 pub use kinds::kind_of;
 pub use limits::ANSWER_BYTES;
 pub use limits::CONFIG_BYTES;
+pub use limits::FRAME_SAMPLES;
 pub use limits::MOST_BEDS;
 pub use limits::MOST_BLOCKS;
 pub use limits::MOST_BYTES;

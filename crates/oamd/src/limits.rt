@@ -9,19 +9,22 @@ pub const MOST_BLOCKS: usize = 8;
 // The bed instances, at the most.
 pub const MOST_BEDS: usize = 9;
 
-// The bytes of a record that have a meaning.
+// The bytes of a record that the payload gives.
 pub const RECORD_BYTES: usize = 24;
 
-// From one record to the next.
-pub const RECORD_STRIDE: usize = 24;
+// From one record to the next in a lent buffer: its time stands behind these bytes.
+pub const RECORD_STRIDE: usize = 32;
+
+// The samples of a frame.
+pub const FRAME_SAMPLES: u16 = 1536;
 
 // The bytes of an answer in a batch.
 pub const ANSWER_BYTES: usize = 136;
 
 // Room for the records of every payload.
-pub const ROOM_BYTES: usize = 30720;
+pub const ROOM_BYTES: usize = 40960;
 
-// The same where the records stand without a gap.
+// The same without their times.
 pub const SCRATCH_BYTES: usize = 30720;
 
 // The configurations of the trim element.

@@ -10,7 +10,7 @@ fn show(text: &[u8], n: usize) {
 
 // The listing of a payload; there is room for every one.
 pub fn list(payload: &[u8]) {
-    let mut page = [0u8; 80000];
+    let mut page = [0u8; 100000];
     let a = text::list_text(payload, &mut page);
     let length = a.length;
     show(&page, length.raw() as usize);

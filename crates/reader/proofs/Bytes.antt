@@ -3,7 +3,7 @@ use mathlib.Core.Path.{_≡_, refl, sym, ap, _∙_}
 use mathlib.Core.List.{List, [], _∷_, _++_, append-assoc, append-nil}
 use Prim.Native.Nat.{ℕ, zero, suc, _+_, _-_, _*_, _≤_}
 use native.Mathlib.Omega.{arith}
-use lib.ListN.{length, getD, drop}
+use lib.ListN.{length, getD, drop, length-append}
 use lib.Dec.{leb}
 use borrow.Author.Tests.{le-leb, lt-leb}
 use Rattle.bits.specs.Language.{pick}
@@ -27,6 +27,16 @@ bytes-append (x ∷ xs) ys = ap (λ (t : List ℕ). recordBytesOf x ++ t) (bytes
 pub one-record : (r : Record) → bytesOf (r ∷ []) ≡ recordBytesOf r
 unfolding bytesOf
 one-record r = append-nil (recordBytesOf r)
+
+-- the bytes around one record
+pub around : (front rest : List Record) (r : Record) (t : List ℕ)
+    → onto (bytesOf (front ++ (r ∷ rest))) t ≡ bytesOf front ++ (recordBytesOf r ++ (bytesOf rest ++ drop (recordBytes * (length front + suc (length rest))) t))
+unfolding onto bytesOf
+around front rest r t =
+    let n : length (bytesOf (front ++ (r ∷ rest))) ≡ recordBytes * (length front + suc (length rest)) =
+    length-bytes (front ++ (r ∷ rest)) ∙ ap (λ (k : ℕ). recordBytes * k) (length-append front (r ∷ rest)) in
+    ap (λ (k : ℕ). bytesOf (front ++ (r ∷ rest)) ++ drop k t) n
+    ∙ rw (bytes-append front (r ∷ rest), append-assoc (bytesOf front), append-assoc (recordBytesOf r))
 
 pub length-plain : (ss : List Scene) → length (plainRecords ss) ≡ length ss
 unfolding plainRecords

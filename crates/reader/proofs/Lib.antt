@@ -7,4 +7,5 @@ pub mod Extending
 pub mod Gates
 pub mod TrimLoop
 pub mod ElementLoop
+pub mod LendingLoop
 pub mod Whole

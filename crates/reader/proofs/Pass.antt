@@ -18,18 +18,8 @@ use Rattle.record.specs.Bytes.{setFrom, sceneAt}
 use Rattle.record.specs.Laws.{record-among}
 use Rattle.record.specs.Stored.{length-setFrom, setFrom-behind}
 use Rattle.reader.specs.Steps.{put, carriers, Went, Passed, PassedIf}
-use Rattle.reader.proofs.Bytes.{bytes-append}
+use Rattle.reader.proofs.Bytes.{around}
 use Rattle.reader.proofs.ObjectLoop.{unit}
-
--- the bytes around one record
-around : (front rest : List Record) (r : Record) (t : List ℕ)
-    → onto (bytesOf (front ++ (r ∷ rest))) t ≡ bytesOf front ++ (recordBytesOf r ++ (bytesOf rest ++ drop (recordBytes * (length front + suc (length rest))) t))
-unfolding onto bytesOf
-around front rest r t =
-    let n : length (bytesOf (front ++ (r ∷ rest))) ≡ recordBytes * (length front + suc (length rest)) =
-    length-bytes (front ++ (r ∷ rest)) ∙ ap (λ (k : ℕ). recordBytes * k) (length-append front (r ∷ rest)) in
-    ap (λ (k : ℕ). bytesOf (front ++ (r ∷ rest)) ++ drop k t) n
-    ∙ rw (bytes-append front (r ∷ rest), append-assoc (bytesOf front), append-assoc (recordBytesOf r))
 
 length-carriers : (rs : List Record) → length (carriers rs) ≡ length rs
 length-carriers [] = refl

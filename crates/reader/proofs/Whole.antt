@@ -5,7 +5,7 @@ use mathlib.Core.List.{List, _++_}
 use Prim.Native.Nat.{ℕ, _+_, _*_, _≤_, _<_}
 use native.Mathlib.Omega.{arith}
 use native.Mathlib.Nat.{mul-le-mul-right}
-use lib.ListN.{length, take, drop, length-append}
+use lib.ListN.{length, take, drop}
 use lib.Seq.{take-length, take-at}
 use borrow.Author.Tests.{le-leb, lt-leb, ne-eqb}
 use Rattle.bits.specs.declared.Cur.{Cur}
@@ -21,15 +21,15 @@ use Rattle.oamd.specs.declared.ReadAnswer.{ReadAnswer}
 use Rattle.oamd.specs.declared.Shares.{Shares}
 use Rattle.oamd.specs.Tables.{mostBytes, mostObjects, mostBlocks, recordStride}
 use Rattle.oamd.specs.Programme.{program-assignment, agrees, shares}
-use Rattle.oamd.specs.Record.{Record, bytesOf, onto}
+use Rattle.oamd.specs.Record.{Record, onto}
 use Rattle.oamd.specs.Trim.{trimOf, trimBytesOf, trimNeeded}
-use Rattle.oamd.specs.Lengths.{length-bytes}
 use Rattle.oamd.specs.Element.{scenes}
 use Rattle.oamd.specs.Payload.{Payload, oa-md-version, object-count, oa-element-count, header, object-audio-metadata-payload, timing, records, tables}
 use Rattle.oamd.specs.Answer.{Outcome, missingOf, refused, acceptedWith, housed, reading}
 use Rattle.reader.specs.declared.HeaderStep.{HeaderStep}
 use Rattle.reader.specs.declared.PayloadStep.{PayloadStep}
 use Rattle.reader.specs.declared.StateStep.{StateStep}
+use Rattle.reader.specs.Lending.{Lending, Lent}
 use Rattle.reader.specs.Steps.{Buffers, lent, HeaderRead, ElementsRead, PayloadRead, NoRoom, wholeOf, startCur}
 use Rattle.reader.proofs.Gates.{regiven}
 
@@ -77,9 +77,12 @@ copied : (front t out other last : List ℕ) (n : ℕ) → length front ≡ n �
 unfolding onto
 copied front t out other last n e h k = rw (ap (take n) h ∙ take-at front _ n e, take-length front) at k
 
--- the bytes that the records of a payload take
+-- the records of a payload, and the bytes that they take
+abbrev countOf : PayloadStep → ℕ
+countOf r = r .programme .objects * r .state .timing .blocks
+
 abbrev needOf : PayloadStep → ℕ
-needOf r = recordStride * (r .programme .objects * r .state .timing .blocks)
+needOf r = recordStride * countOf r
 
 module _ {s out : List ℕ} {r : PayloadStep} {held' : Buffers} (x : PayloadRead s out r held') where
   -- the trim table stands in its room
@@ -90,48 +93,53 @@ module _ {s out : List ℕ} {r : PayloadStep} {held' : Buffers} (x : PayloadRead
     abbrev rs : List Record
     rs = records (scenes (x .known .object)) (x .known .extended)
 
-    all-bytes : length (bytesOf rs) ≡ needOf r
-    all-bytes = length-bytes (records (scenes (x .known .object)) (x .known .extended)) ∙ omega (arith, x .holding z .records .full, x .holding z .records .many)
+    all-there : length rs ≡ countOf r
+    all-there = omega (arith, x .holding z .records .full, x .holding z .records .many)
 
-    -- the records stand in theirs
-    pub fits : needOf r ≤ length (held' .out)
-    unfolding onto
-    fits = omega (arith, all-bytes, ap length (x .holding z .records .stand) ∙ length-append (bytesOf rs) _)
+    -- the records can be laid into a buffer with room for them
+    pub lending : {buffer : List ℕ} → needOf r ≤ length buffer → Lending (countOf r) (r .state .timing) (held' .out) buffer
+    lending f = record {
+      stand = omega (arith, small _ _ (x .few) (x .little));
+      size = x .sized .out;
+      few = mul-le-mul-right (r .state .timing .blocks) (x .few);
+      little = x .little;
+      room = f;
+    }
 
 -- what is answered for want of room, both buffers as they came
 pub refusing : {needed : ℕ} {r : ReadAnswer} {records records' trim trim' : List ℕ} {o : Outcome} → NoRoom needed r records records' trim trim'
     → refused records trim (numberOf Room) needed 0 ≡ o → record { answer = r; buffer = records'; trim = trim' } ≡ o
 refusing e h = rw (e .answer, e .same-records, e .same-trim) h
 
-module _ (s buffer trim : List ℕ) where
-  pub too-long : mostBytes < length s → refused buffer trim (numberOf TooLong) (length s) 0 ≡ reading s buffer trim
+module _ (frame : ℕ) (s buffer trim : List ℕ) where
+  pub too-long : mostBytes < length s → refused buffer trim (numberOf TooLong) (length s) 0 ≡ reading frame s buffer trim
   unfolding reading
   too-long h = simp (lt-leb _ _ h)
 
   module _ {out : List ℕ} {r : PayloadStep} {held' : Buffers} (x : PayloadRead s out r held') where
-    pub stopped : (r .cur .no ≡ 0 → ⊥) → refused buffer trim (r .cur .no) (r .cur .at .0) (missingOf (r .cur .no) (r .cur .missing)) ≡ reading s buffer trim
+    pub stopped : (r .cur .no ≡ 0 → ⊥) → refused buffer trim (r .cur .no) (r .cur .at .0) (missingOf (r .cur .no) (r .cur .missing)) ≡ reading frame s buffer trim
     unfolding reading
     stopped z = rw (le-leb (length s) mostBytes (x .short), ← x .reads .same, ne-eqb (r .cur .no) 0 z)
 
     module _ (z : r .cur .no ≡ 0) where
-      pub no-room : length buffer < needOf r → refused buffer trim (numberOf Room) (needOf r) 0 ≡ reading s buffer trim
+      pub no-room : length buffer < needOf r → refused buffer trim (numberOf Room) (needOf r) 0 ≡ reading frame s buffer trim
       unfolding reading housed tables
       no-room f = rw (le-leb (length s) mostBytes (x .short), ← x .reads .same, z, ← x .holding z .records .timed, lt-leb _ _ f)
 
       module _ (f : needOf r ≤ length buffer) where
         pub no-trim-room : length trim < trimNeeded (r .programme .objects)
-            → refused buffer trim (numberOf Room) (trimNeeded (r .programme .objects)) 0 ≡ reading s buffer trim
+            → refused buffer trim (numberOf Room) (trimNeeded (r .programme .objects)) 0 ≡ reading frame s buffer trim
         unfolding reading housed tables
         no-trim-room g = rw (le-leb (length s) mostBytes (x .short), ← x .reads .same, z, ← x .holding z .records .timed, le-leb _ _ f, lt-leb _ _ g)
 
         pub stored : {first last : List ℕ} → trimNeeded (r .programme .objects) ≤ length trim
-            → (let bytes = take (needOf r) (held' .out) in first ≡ take (length bytes) bytes ++ drop (length bytes) buffer)
+            → Lent (countOf r) frame (r .state .timing) (held' .out) buffer first
             → (let bytes = take (trimNeeded (r .programme .objects)) (held' .table) in last ≡ take (length bytes) bytes ++ drop (length bytes) trim)
-            → record { answer = acceptedWith (r .programme) (r .state .timing) (r .state .unknown); buffer = first; trim = last } ≡ reading s buffer trim
+            → record { answer = acceptedWith (r .programme) (r .state .timing) (r .state .unknown); buffer = first; trim = last } ≡ reading frame s buffer trim
         unfolding reading housed tables
         stored {first} {last} g e k =
             let element = x .known .trim in
             let holds = x .holding z in
-            let records-copied = copied (bytesOf (rs x z)) _ (held' .out) buffer first _ (all-bytes x z) (holds .records .stand) e in
+            let records-lent = e .front (rs x z) out (all-there x z) (holds .records .stand) in
             let trim-copied = copied (trimBytesOf (trimOf (r .programme .objects) element)) _ (held' .table) trim last _ (holds .trim .long) (holds .trim .stand) k in
-            rw (le-leb (length s) mostBytes (x .short), ← x .reads .same, z, ← holds .records .timed, le-leb _ _ f, le-leb _ _ g, records-copied, trim-copied)
+            rw (le-leb (length s) mostBytes (x .short), ← x .reads .same, z, ← holds .records .timed, le-leb _ _ f, le-leb _ _ g, records-lent, trim-copied)

@@ -1,4 +1,5 @@
 pub mod Layout
+pub mod Lending
 pub mod Rooms
 pub mod Running
 pub mod Steps

@@ -1,4 +1,4 @@
-// `read`: a payload's bytes, and two lent buffers, to an answer, records and the trim table.
+// `read`: a payload's bytes, its frame's number, and two lent buffers, to an answer, records and the trim table.
 ghost use mathlib.Core.Path.{_≡_};
 ghost use Rattle.oamd.specs.Answer.{reading};
 use bits::Cur;
@@ -18,6 +18,7 @@ mod extended; // extended.rt: the extended object element
 mod trim; // trim.rt: the trim element
 mod element; // element.rt: one element after the other
 mod payload; // payload.rt: the whole payload
+mod lending; // lending.rt: the records with their times in the lent buffer
 mod answers; // answers.rt: what is answered
 
 pub use answers::refused_with;
@@ -60,9 +61,13 @@ pub struct PayloadStep {
     pub cur: Cur,
 }
 
-// Reads a payload. Accepted: the records and the trim table are the first bytes of the lent buffers, and no other byte of them changes. Refused: none changes.
-pub fn read(payload: &[u8], records: &mut [u8], trim: &mut [u8]) -> ReadAnswer
-    ensures { λ r. ⌜ (record { answer = r; buffer = now (records .exit); trim = now (trim .exit) }) ≡ reading (now (payload .entry)) (now (records .entry)) (now (trim .entry)) ⌝ }
+// Reads the payload of a frame, by the frame's number. Accepted: the records, each with its time, and the trim table are the first bytes of the lent buffers, and no other
+// byte of them changes. Refused: none changes.
+pub fn read(payload: &[u8], frame: u32, records: &mut [u8], trim: &mut [u8]) -> ReadAnswer
+    ensures { λ r. ⌜
+        (record { answer = r; buffer = now (records .exit); trim = now (trim .exit) })
+        ≡ reading frame (now (payload .entry)) (now (records .entry)) (now (trim .entry))
+        ⌝ }
 {
     let len = payload.len();
     if MOST_BYTES < len {
@@ -79,7 +84,8 @@ pub fn read(payload: &[u8], records: &mut [u8], trim: &mut [u8]) -> ReadAnswer
     let programme = step.programme;
     let state = step.state;
     let timing = state.timing;
-    let need = RECORD_STRIDE * (programme.objects as usize * timing.blocks as usize);
+    let count = programme.objects as usize * timing.blocks as usize;
+    let need = RECORD_STRIDE * count;
     if records.len() < need {
         return answers::no_room(need, records, trim);
     }
@@ -87,7 +93,7 @@ pub fn read(payload: &[u8], records: &mut [u8], trim: &mut [u8]) -> ReadAnswer
     if trim.len() < taken {
         return answers::no_room(taken, records, trim);
     }
-    bytes::copy(&scratch[..need], records);
+    lending::lend_records(&scratch, count, frame, timing, records);
     bytes::copy(&table[..taken], trim);
     answers::accepted(programme, timing, state.unknown)
 }

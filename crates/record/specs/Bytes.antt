@@ -1,11 +1,14 @@
 -- Bytes stored into a buffer, and a record out of its bytes; the bytes of a record are `recordBytesOf` (oamd/specs/Record.antt). Laws.antt has that one undoes the other.
+use mathlib.Core.Bool.{Bool, true, false}
 use mathlib.Core.List.{List, [], _∷_}
 use Prim.Native.Nat.{ℕ, zero, suc, _+_}
+use lib.Dec.{eqb}
 use lib.ListN.{set, getD}
+use Rattle.bits.specs.Language.{both}
 use Rattle.oamd.specs.declared.Scene.{Scene}
 use Rattle.oamd.specs.declared.Divergence.{Divergence}
 use Rattle.oamd.specs.declared.Precise.{Precise}
-use Rattle.oamd.specs.Tables.{recordStride}
+use Rattle.oamd.specs.Tables.{recordBytes, timeBytes, recordStride}
 use Rattle.oamd.specs.Record.{Record, recordOf}
 
 -- ---- into bytes
@@ -54,7 +57,23 @@ preciseAt s at = record { presence = getD s (at + 20) 0; x = getD s (at + 21) 0;
 abbrev pub recordAt : List ℕ → ℕ → Record
 recordAt s at = recordOf (sceneAt s at) (divergenceAt s at) (preciseAt s at)
 
+-- bytes 24 to 31
+abbrev pub timeAt : List ℕ → ℕ → List ℕ
+timeAt s at = bytesAt s timeBytes (at + recordBytes)
+
+-- whether two lists are the same bytes
+abbrev pub sameBytes : List ℕ → List ℕ → Bool
+sameBytes [] [] = true
+sameBytes [] (y ∷ ys) = false
+sameBytes (x ∷ xs) [] = false
+sameBytes (x ∷ xs) (y ∷ ys) = both (eqb x y) (sameBytes xs ys)
+
 -- n records, the first of which begins at a byte
 unfoldable pub recordsAt : List ℕ → ℕ → ℕ → List Record
 recordsAt s zero at = []
 recordsAt s (suc n) at = recordAt s at ∷ recordsAt s n (at + recordStride)
+
+-- the bytes of their times
+unfoldable pub timesAt : List ℕ → ℕ → ℕ → List (List ℕ)
+timesAt s zero at = []
+timesAt s (suc n) at = timeAt s at ∷ timesAt s n (at + recordStride)

@@ -50,27 +50,44 @@ module _ {A : Type 0} (stride : ℕ) (one : List ℕ → ℕ → A) (many : List
       let e : at + stride + stride * i ≡ at + stride * suc i = (let z = mul-suc stride i in omega arith) in
       ap (λ (xs : List A). getD xs (suc i) d) (more s n at) ∙ entry s n (at + stride) i d (omega arith) ∙ ap (one s) e
 
-  module _ (bytes : A → List ℕ) (all : List A → List ℕ) (all-none : all [] ≡ []) (all-more : (x : A) (xs : List A) → all (x ∷ xs) ≡ bytes x ++ all xs) where
-    -- the bytes of what was made of bytes are these
-    pub entries-bytes : ((s : List ℕ) (at : ℕ) → at + stride ≤ length s → bytes (one s at) ≡ take stride (drop at s))
-        → (s : List ℕ) (n at : ℕ) → at + stride * n ≤ length s → all (many s n at) ≡ take (stride * n) (drop at s)
-    entries-bytes f s zero at h = rw (none s at, all-none, mul-zero stride) (no-bytes (drop at s))
-    entries-bytes f s (suc n) at h =
+  -- the entries counted from i on, since their bytes may go by that
+  module _ (bytes : ℕ → A → List ℕ) (all : ℕ → List A → List ℕ) (all-none : (i : ℕ) → all i [] ≡ [])
+      (all-more : (i : ℕ) (x : A) (xs : List A) → all i (x ∷ xs) ≡ bytes i x ++ all (suc i) xs) where
+    -- the bytes of what was made of bytes are these, if they are for each entry
+    pub entries-bytes : (s : List ℕ) (n at i : ℕ)
+        → ((k : ℕ) → k < n → at + stride * k + stride ≤ length s → bytes (i + k) (one s (at + stride * k)) ≡ take stride (drop (at + stride * k) s))
+        → at + stride * n ≤ length s → all i (many s n at) ≡ take (stride * n) (drop at s)
+    entries-bytes s zero at i f h = rw (none s at, all-none i, mul-zero stride) (no-bytes (drop at s))
+    entries-bytes s (suc n) at i f h =
         let e : stride * suc n ≡ stride * n + stride = mul-suc stride n in
         let d : stride * n + stride ≡ stride + stride * n = omega arith in
-        rw (more s n at, all-more (one s at) (many s n (at + stride)), e, d)
-        (joined s at stride (stride * n) _ _ (f s at (omega arith)) (entries-bytes f s n (at + stride) (omega arith)))
+        let z = mul-zero stride in
+        let here : at + stride * 0 ≡ at = omega arith in
+        let first : i + 0 ≡ i = omega arith in
+        rw (more s n at, all-more i (one s at) (many s n (at + stride)), e, d)
+        (joined s at stride (stride * n) _ _ (rw (here, first) at (f 0 (omega arith) (omega arith)))
+        (entries-bytes s n (at + stride) (suc i) (λ k l m. later k l m) (omega arith)))
+      where
+        later : (k : ℕ) → k < n → at + stride + stride * k + stride ≤ length s
+            → bytes (suc i + k) (one s (at + stride + stride * k)) ≡ take stride (drop (at + stride + stride * k) s)
+        later k l m =
+            let z = mul-suc stride k in
+            let e : at + stride * suc k ≡ at + stride + stride * k = omega arith in
+            let j : i + suc k ≡ suc i + k = omega arith in
+            rw (e, j) at (f (suc k) (omega arith) (omega arith))
 
     -- and what is made of the bytes of entries, whatever stands behind them, is these
-    pub entries-again : ((s : List ℕ) (a at : ℕ) → one s (a + at) ≡ one (drop a s) at) → ((x : A) (tail : List ℕ) → one (bytes x ++ tail) 0 ≡ x)
-        → ((x : A) (tail : List ℕ) → drop stride (bytes x ++ tail) ≡ tail) → (xs : List A) (tail : List ℕ) → many (all xs ++ tail) (length xs) 0 ≡ xs
-    entries-again f g h [] tail = none (all [] ++ tail) 0
-    entries-again f g h (x ∷ xs) tail =
-        let s : List ℕ = bytes x ++ (all xs ++ tail) in
+    pub entries-again : ((s : List ℕ) (a at : ℕ) → one s (a + at) ≡ one (drop a s) at) → ((i : ℕ) (x : A) (tail : List ℕ) → one (bytes i x ++ tail) 0 ≡ x)
+        → ((i : ℕ) (x : A) (tail : List ℕ) → drop stride (bytes i x ++ tail) ≡ tail)
+        → (i : ℕ) (xs : List A) (tail : List ℕ) → many (all i xs ++ tail) (length xs) 0 ≡ xs
+    entries-again f g h i [] tail = none (all i [] ++ tail) 0
+    entries-again f g h i (x ∷ xs) tail =
+        let behind : List ℕ = all (suc i) xs ++ tail in
+        let s : List ℕ = bytes i x ++ behind in
         let e : 0 + stride ≡ stride + 0 = omega arith in
         let rest : many s (length xs) (0 + stride) ≡ xs =
-        ap (many s (length xs)) e ∙ shifted f s (length xs) stride 0 ∙ ap (λ (l : List ℕ). many l (length xs) 0) (h x (all xs ++ tail))
-        ∙ entries-again f g h xs tail in
-        ap (λ (l : List ℕ). many (l ++ tail) (suc (length xs)) 0) (all-more x xs)
-        ∙ ap (λ (l : List ℕ). many l (suc (length xs)) 0) (append-assoc (bytes x) (all xs) tail) ∙ more s (length xs) 0
-        ∙ ap₂ (λ (y : A) (ys : List A). y ∷ ys) (g x (all xs ++ tail)) rest
+        ap (many s (length xs)) e ∙ shifted f s (length xs) stride 0 ∙ ap (λ (l : List ℕ). many l (length xs) 0) (h i x behind)
+        ∙ entries-again f g h (suc i) xs tail in
+        ap (λ (l : List ℕ). many (l ++ tail) (suc (length xs)) 0) (all-more i x xs)
+        ∙ ap (λ (l : List ℕ). many l (suc (length xs)) 0) (append-assoc (bytes i x) (all (suc i) xs) tail) ∙ more s (length xs) 0
+        ∙ ap₂ (λ (y : A) (ys : List A). y ∷ ys) (g i x behind) rest

@@ -1,4 +1,5 @@
 pub mod Bytes
+pub mod Numbers
 pub mod Stored
 pub mod Entries
 pub mod Laws

@@ -2,6 +2,7 @@
 mod laying; // laying.rt: values into bytes
 mod taking; // taking.rt: values out of bytes
 mod carrying; // carrying.rt: whether a record can carry what the extended element has
+mod time; // time.rt: a record's time
 
 pub use carrying::carries;
 pub use carrying::carries_at;
@@ -13,3 +14,7 @@ pub use taking::gain_at;
 pub use taking::has_bytes;
 pub use taking::precise_at;
 pub use taking::scene_at;
+pub use time::has_time;
+pub use time::next_block;
+pub use time::store_time;
+pub use time::time_of;

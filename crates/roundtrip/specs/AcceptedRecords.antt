@@ -21,10 +21,11 @@ use Rattle.oamd.specs.Timing.{timingOf}
 use Rattle.oamd.specs.ObjectElement.{ObjectElement}
 use Rattle.oamd.specs.Extended.{Extension}
 use Rattle.oamd.specs.Trim.{trimBytesOf, trimOf}
-use Rattle.oamd.specs.Record.{Record, bytesOf, onto, plainRecords}
+use Rattle.oamd.specs.Record.{Record, onto, plainRecords}
+use Rattle.oamd.specs.Time.{timeOf}
 use Rattle.oamd.specs.Element.{scenes, nothing}
 use Rattle.oamd.specs.Payload.{Payload, object-audio-metadata-payload, Tables, timing, records, tables}
-use Rattle.oamd.specs.Answer.{Outcome, reading}
+use Rattle.oamd.specs.Answer.{Outcome, laidRecords, reading}
 use Rattle.demands.specs.Terms.{tablesOf}
 use Rattle.demands.specs.Lemmas.Reading.{read-of}
 use Rattle.form.specs.Valid.{recordValid, timingValid, trimValid, recordCount}
@@ -112,18 +113,19 @@ valid-at s blocks i b (suc n) at (suc k) h l =
     let f : at + recordStride * suc k ≡ at + recordStride + recordStride * k = omega arith in
     rw (e, f) (valid-at s blocks (suc i) b n (at + recordStride) k (h .1) (omega arith))
 
-module _ (t : Tables) where
+module _ (frame : ℕ) (t : Tables) where
   records-stand : (buffer : List ℕ)
       → RecordsValid (shares (t .programme)) (t .timing .blocks) 0 (recordCount (t .programme) (t .timing)) (t .records)
       → (i : ℕ) → i < recordCount (t .programme) (t .timing)
-      → recordValid (classOf (shares (t .programme)) (i / t .timing .blocks)) (recordAt (onto (bytesOf (t .records)) buffer) (recordStride * i)) ≡ true
+      → recordValid (classOf (shares (t .programme)) (i / t .timing .blocks)) (recordAt (onto (laidRecords frame t) buffer) (recordStride * i)) ≡ true
   unfolding onto
   records-stand buffer r i l =
       let rs : List Record = t .records in
-      let tail : List ℕ = drop (length (bytesOf rs)) buffer in
-      let again : recordsAt (bytesOf rs ++ tail) (recordCount (t .programme) (t .timing)) 0 ≡ rs =
-      ap (λ (n : ℕ). recordsAt (bytesOf rs ++ tail) n 0) (sym (r .long)) ∙ records-again rs tail in
-      let v = valid-at (shares (t .programme)) (t .timing .blocks) 0 (bytesOf rs ++ tail) _ 0 i (rw again (r .valid)) l in
+      let laid : List ℕ = laidRecords frame t in
+      let tail : List ℕ = drop (length laid) buffer in
+      let again : recordsAt (laid ++ tail) (recordCount (t .programme) (t .timing)) 0 ≡ rs =
+      ap (λ (n : ℕ). recordsAt (laid ++ tail) n 0) (sym (r .long)) ∙ records-again (timeOf frame (t .timing)) 0 rs tail in
+      let v = valid-at (shares (t .programme)) (t .timing .blocks) 0 (laid ++ tail) _ 0 i (rw again (r .valid)) l in
       let e : 0 + i ≡ i = omega arith in
       let f : 0 + recordStride * i ≡ recordStride * i = omega arith in
       rw (e, f) at v
@@ -135,14 +137,14 @@ module _ (t : Tables) where
       let f = trim-facts (t .programme .objects) (t .trim) v in
       rw (trim-again (t .programme .objects) (t .trim) (f .nine) (f .flags) (drop (length (trimBytesOf (t .trim))) trim)) v
 
-pub read-records : (s buffer trim : List ℕ) → reading s buffer trim .answer .refusal ≡ 0 → ValidRead (reading s buffer trim)
-read-records s buffer trim z =
-    let r = read-of s buffer trim z in
+pub read-records : (frame : ℕ) (s buffer trim : List ℕ) → reading frame s buffer trim .answer .refusal ≡ 0 → ValidRead (reading frame s buffer trim)
+read-records frame s buffer trim z =
+    let r = read-of frame s buffer trim z in
     let t = tablesOf (r .payload) in
     subst ValidRead (sym (r .is)) (record {
-      records = records-stand t buffer (accepted-records s (r .payload) (r .to) (r .ran));
+      records = records-stand frame t buffer (accepted-records s (r .payload) (r .to) (r .ran));
       timing = accepted-timing s (r .payload) (r .to) (r .ran);
-      trim = trim-stands t trim (accepted-trim s (r .payload) (r .to) (r .ran));
+      trim = trim-stands frame t trim (accepted-trim s (r .payload) (r .to) (r .ran));
     })
 
 -- the record of block k of object j

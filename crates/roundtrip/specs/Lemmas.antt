@@ -11,6 +11,7 @@ pub mod ObjectsBack
 pub mod ExtendedBack
 pub mod TrimBack
 pub mod TableBytes
+pub mod Times
 pub mod ElementBack
 pub mod AcceptedProgramme
 pub mod AcceptedTiming

@@ -15,3 +15,4 @@ pub mod AcceptedRecords
 pub mod Ranges
 pub mod Longest
 pub mod LongestReached
+pub mod Time

@@ -7,17 +7,18 @@ use lib.ListN.{length, getD, take}
 use Rattle.bits.specs.Language.{ok}
 use Rattle.oamd.specs.declared.Programme.{Programme}
 use Rattle.oamd.specs.declared.Timing.{Timing}
-use Rattle.oamd.specs.Tables.{mostBytes, recordStride}
+use Rattle.oamd.specs.Tables.{mostBytes, recordBytes, recordStride}
 use Rattle.oamd.specs.Programme.{shares, classOf}
 use Rattle.oamd.specs.Timing.{noUpdate}
 use Rattle.oamd.specs.Trim.{TrimTable, trimBytesOf, trimNeeded}
 use Rattle.oamd.specs.Record.{Record, divergenceBytes, preciseBytes}
+use Rattle.oamd.specs.Time.{timeOf, timeBytesOf}
 use Rattle.oamd.specs.Payload.{Payload, Tables, tables}
 use Rattle.oamd.specs.Answer.{Outcome, needed}
 use Rattle.demands.specs.Terms.{parsed}
 use Rattle.form.specs.Valid.{timingValid, recordValid, trimValid, recordCount, Valid}
 use Rattle.form.specs.Form.{form}
-use Rattle.record.specs.Bytes.{recordAt}
+use Rattle.record.specs.Bytes.{recordAt, timeAt}
 use Rattle.form.specs.Answer.{trimAt, tablesOf, writtenTo, writing}
 
 -- ---- what is read
@@ -44,7 +45,7 @@ pub record ValidRead (o : Outcome) : Type 0 where
 
 -- ---- ranges
 
--- what the bytes of a record are at the most, by their place in it
+-- what the bytes of a record that the payload gives are at the most, by their place in it
 abbrev pub mostByte : List ℕ
 mostByte = 1 ∷ 2 ∷ 65 ∷ 32 ∷ 62 ∷ 62 ∷ 79 ∷ 17 ∷ 31 ∷ 31 ∷ 31 ∷ 5 ∷ 1 ∷ 1 ∷ 7 ∷ 3 ∷ 1 ∷ 1 ∷ 2 ∷ 63 ∷ 7 ∷ 3 ∷ 3 ∷ 3 ∷ []
 
@@ -82,10 +83,10 @@ pub record UpdatesInRange (t : Timing) : Type 0 where
   pub ramps : (i : ℕ) → i < t .blocks → getD (t .updates) i noUpdate .ramp .0 ≤ 2048
   pub unused : (i : ℕ) → t .blocks ≤ i → i < 8 → getD (t .updates) i noUpdate ≡ noUpdate
 
--- byte k of record i, and all bytes that were laid
+-- byte k of record i, and all bytes that were laid, those of the times too
 pub record ReadInRange (o : Outcome) : Type 0 where
   pub records : (i : ℕ) → i < recordCount (o .answer .programme) (o .answer .timing) → InRange (recordAt (o .buffer) (recordStride * i))
-  pub bytes : (i k : ℕ) → i < recordCount (o .answer .programme) (o .answer .timing) → k < recordStride
+  pub bytes : (i k : ℕ) → i < recordCount (o .answer .programme) (o .answer .timing) → k < recordBytes
       → getD (o .buffer) (recordStride * i + k) 0 ≤ getD mostByte k 0
   pub updates : UpdatesInRange (o .answer .timing)
   pub laid : (n : ℕ) → n < recordStride * recordCount (o .answer .programme) (o .answer .timing) → getD (o .buffer) n 0 < 256
@@ -120,14 +121,29 @@ TrimBytesGivenBy p s = TrimGiven p (λ t. trimBytesOf t ≡ take (trimNeeded (p 
 
 -- ---- what is written
 
--- its tables are valid, there are bytes enough for them, and it has written their form
-pub record Accepts (p : Programme) (t : Timing) (s x out : List ℕ) : Type 0 where
+-- the time bytes of record k are those of its time, in this frame
+abbrev pub OnTime : ℕ → Timing → List ℕ → ℕ → Type 0
+OnTime frame t s k = timeAt s (recordStride * k) ≡ timeBytesOf (timeOf frame t k)
+
+-- those of all records are
+abbrev pub AllOnTime : ℕ → Programme → Timing → List ℕ → Type 0
+AllOnTime frame p t s = (k : ℕ) → k < recordCount p t → OnTime frame t s k
+
+-- record i is the first whose time bytes are not
+pub record Mistimed (frame : ℕ) (p : Programme) (t : Timing) (s : List ℕ) (i : ℕ) : Type 0 where
+  pub many : i < recordCount p t
+  pub before : (k : ℕ) → k < i → OnTime frame t s k
+  pub here : OnTime frame t s i → ⊥
+
+-- its tables are valid, there are bytes enough for them, its records are on time, and it has written their form
+pub record Accepts (frame : ℕ) (p : Programme) (t : Timing) (s x out : List ℕ) : Type 0 where
   pub valid : Valid (tablesOf p t s x)
+  pub timed : AllOnTime frame p t s
   pub enough : needed (tablesOf p t s x) ≤ length s
   pub trim-enough : trimNeeded (p .objects) ≤ length x
   pub room : length (form (tablesOf p t s x)) ≤ length out
   pub short : length (form (tablesOf p t s x)) ≤ mostBytes
-  pub written : writing p t s x out ≡ writtenTo out (form (tablesOf p t s x))
+  pub written : writing frame p t s x out ≡ writtenTo out (form (tablesOf p t s x))
 
 -- bytes 17 to 23
 abbrev pub carriedBytes : Record → List ℕ

@@ -3,13 +3,15 @@
 use mathlib.Core.Path.{_≡_, refl, sym, subst}
 use mathlib.Core.Bool.{true}
 use mathlib.Core.List.{List, [], _∷_}
-use Prim.Native.Nat.{ℕ, zero, suc, _+_, _*_, _/_, _%_, _≤_, _<_}
+use Prim.Native.Nat.{ℕ, zero, suc, _+_, _-_, _*_, _/_, _%_, _≤_, _<_}
 use native.Mathlib.Omega.{arith}
 use lib.ListN.{length, getD, drop, List·getD-append}
 use Rattle.bits.specs.Language.{ok, run, bit, pastPayload}
+use Rattle.bits.specs.Steps.{by-order}
 use Rattle.bits.specs.Terms.{Every}
 use Rattle.oamd.specs.declared.Timing.{Timing}
-use Rattle.oamd.specs.Tables.{recordStride}
+use Rattle.oamd.specs.Tables.{recordBytes, timeBytes, recordStride}
+use Rattle.oamd.specs.LeastFirst.{leastFirst}
 use Rattle.oamd.specs.Timing.{noUpdate}
 use Rattle.oamd.specs.declared.Shares.{Shares}
 use Rattle.oamd.specs.Programme.{shares, classOf}
@@ -20,6 +22,7 @@ use Rattle.oamd.specs.Payload.{Payload, object-audio-metadata-payload, tables}
 use Rattle.oamd.specs.Answer.{Outcome, reading}
 use Rattle.demands.specs.Terms.{tablesOf}
 use Rattle.demands.specs.Lemmas.Reading.{read-of}
+use Rattle.demands.specs.Time.{time-when}
 use Rattle.form.specs.Valid.{sampleOffset, updateValid, timingValid, sceneValid, mostDivergence, divergenceValid, recordValid, trimValid, recordCount}
 use Rattle.record.specs.Bytes.{sceneAt, divergenceAt, preciseAt, recordAt}
 use Rattle.form.specs.Lemmas.Tests.{halves}
@@ -82,7 +85,7 @@ up-to none k l = absurd (omega arith)
 up-to {i = i} (more h rest) zero l = let e : i + 0 ≡ i = omega arith in rw e h
 up-to {i = i} (more h rest) (suc k) l = let e : i + suc k ≡ suc i + k = omega arith in rw e (up-to rest k (omega arith))
 
-bytes-in-range : (b : List ℕ) (at : ℕ) → InRange (recordAt b at) → (k : ℕ) → k < recordStride → getD b (at + k) 0 ≤ getD mostByte k 0
+bytes-in-range : (b : List ℕ) (at : ℕ) → InRange (recordAt b at) → (k : ℕ) → k < recordBytes → getD b (at + k) 0 ≤ getD mostByte k 0
 unfolding sceneAt divergenceAt preciseAt
 bytes-in-range b at r k l =
     let e : at + 0 ≡ at = omega arith in
@@ -140,16 +143,24 @@ trim-bytes-small objects t trim v n l =
     let m = small-at (trim-small objects t v) n in
     rw (List·getD-append (trimBytesOf t) (drop (length (trimBytesOf t)) trim) 0 n (omega arith)) (omega arith)
 
+-- numbers as bytes
+least-small : (n v k : ℕ) → getD (leastFirst n v) k 0 < 256
+unfolding leastFirst
+least-small zero v k = omega arith
+least-small (suc n) v zero = omega arith
+least-small (suc n) v (suc k) = least-small n (v / 256) k
+
 -- every accepted read
-pub read-in-range : (s buffer trim : List ℕ) → reading s buffer trim .answer .refusal ≡ 0 → ReadInRange (reading s buffer trim)
-read-in-range s buffer trim z =
-    let o : Outcome = reading s buffer trim in
-    let v = read-records s buffer trim z in
-    let r = read-of s buffer trim z in
+pub read-in-range : (frame : ℕ) (s buffer trim : List ℕ) → reading frame s buffer trim .answer .refusal ≡ 0 → ReadInRange (reading frame s buffer trim)
+read-in-range frame s buffer trim z =
+    let o : Outcome = reading frame s buffer trim in
+    let v = read-records frame s buffer trim z in
+    let r = read-of frame s buffer trim z in
     let t = tablesOf (r .payload) in
+    let times = time-when frame s buffer trim z in
     let records : (i : ℕ) → i < recordCount (o .answer .programme) (o .answer .timing) → InRange (recordAt (o .buffer) (recordStride * i)) =
     λ i l. in-range _ _ (class-le (shares (o .answer .programme)) (i / o .answer .timing .blocks)) (v .records i l) in
-    let bytes : (i k : ℕ) → i < recordCount (o .answer .programme) (o .answer .timing) → k < recordStride
+    let bytes : (i k : ℕ) → i < recordCount (o .answer .programme) (o .answer .timing) → k < recordBytes
     → getD (o .buffer) (recordStride * i + k) 0 ≤ getD mostByte k 0 =
     λ i k l m. bytes-in-range (o .buffer) (recordStride * i) (records i l) k m in
     record {
@@ -158,9 +169,16 @@ read-in-range s buffer trim z =
       updates = updates-in-range (o .answer .timing) (v .timing);
       laid = λ n l.
           let e : recordStride * (n / recordStride) + n % recordStride ≡ n = omega arith in
-          let low = entry-le 79 mostByte (n % recordStride) refl in
-          let high = rw e at (bytes (n / recordStride) (n % recordStride) (omega arith) (omega arith)) in
-          omega arith;
+          let i : ℕ = n / recordStride in
+          let k : ℕ = n % recordStride in
+          by-order recordBytes k
+          (λ behind.
+          let f : recordStride * i + recordBytes + (k - recordBytes) ≡ n = omega arith in
+          subst (λ (m : ℕ). m < 256) (sym (rw f at (times .bytes i (k - recordBytes) (omega arith) (omega arith)))) (least-small timeBytes _ (k - recordBytes)))
+          (λ own.
+          let low = entry-le 79 mostByte k refl in
+          let high = rw e at (bytes i k (omega arith) (omega arith)) in
+          omega arith);
       trim-laid = subst (λ (o : Outcome). (n : ℕ) → n < trimNeeded (o .answer .programme .objects) → getD (o .trim) n 0 < 256) (sym (r .is))
           (trim-bytes-small (t .programme .objects) (t .trim) trim (accepted-trim s (r .payload) (r .to) (r .ran)));
     }

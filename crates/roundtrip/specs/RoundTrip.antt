@@ -257,8 +257,8 @@ round-trip t v =
     }
 
 -- and a read is accepted with these tables, where a payload can have that length and the buffers have the room for their records and their trim table
-pub reads-back : (t : Tables) (buffer trim : List ℕ) → Valid t → length (form t) ≤ mostBytes → needed t ≤ length buffer
-    → trimNeeded (t .programme .objects) ≤ length trim → reading (form t) buffer trim ≡ accepted buffer trim t 0
-reads-back t buffer trim v l room trim-room =
+pub reads-back : (frame : ℕ) (t : Tables) (buffer trim : List ℕ) → Valid t → length (form t) ≤ mostBytes → needed t ≤ length buffer
+    → trimNeeded (t .programme .objects) ≤ length trim → reading frame (form t) buffer trim ≡ accepted frame buffer trim t 0
+reads-back frame t buffer trim v l room trim-room =
     let r = round-trip t v in
-    reading-ok (form t) buffer trim l (r .reads) ∙ ap₂ (housed buffer trim) (r .same) (r .unknown) ∙ housed-fits buffer trim t 0 room trim-room
+    reading-ok frame (form t) buffer trim l (r .reads) ∙ ap₂ (housed frame buffer trim) (r .same) (r .unknown) ∙ housed-fits frame buffer trim t 0 room trim-room

@@ -13,7 +13,7 @@ use Rattle.bits.specs.Writes.{only}
 use Rattle.oamd.specs.declared.Programme.{Programme}
 use Rattle.oamd.specs.declared.Shares.{Shares}
 use Rattle.oamd.specs.declared.Update.{Update}
-use Rattle.oamd.specs.Tables.{recordBytes, recordStride}
+use Rattle.oamd.specs.Tables.{recordStride}
 use Rattle.oamd.specs.Programme.{shares}
 use Rattle.keys.specs.Names.{objectsKey, bedKey, isfKey, dynamicKey, blockKey, recordKey}
 use Rattle.text.specs.Numerals.{decimal}
@@ -51,12 +51,12 @@ block-laid blk start ramp x d e f g h i =
 
 pub record-laid : {s t u v w x : List ℕ} {at p q o n r : ℕ} (object blk : ℕ) (records : List ℕ) (place : ℕ) → Laid s t at p recordKey
     → Laid t u p q (decimal object ++ (comma ∷ [])) → Laid u v q o (decimal blk ++ (comma ∷ []))
-    → Laid v w o n (hex (take (place + recordBytes - place) (drop place records))) → Laid w x n r (newline ∷ [])
-    → Laid s x at r (recordLine object blk (take recordBytes (drop place records)))
+    → Laid v w o n (hex (take (place + recordStride - place) (drop place records))) → Laid w x n r (newline ∷ [])
+    → Laid s x at r (recordLine object blk (take recordStride (drop place records)))
 record-laid object blk records place f g h i j =
-    let long : place + recordBytes - place ≡ recordBytes = omega arith in
+    let long : place + recordStride - place ≡ recordStride = omega arith in
     laid-is (ap (λ (n : ℕ). recordLine object blk (take n (drop place records))) long)
-    (three-laid recordKey (decimal object) (decimal blk) (hex (take (place + recordBytes - place) (drop place records))) f g h (laid-bind i j))
+    (three-laid recordKey (decimal object) (decimal blk) (hex (take (place + recordStride - place) (drop place records))) f g h (laid-bind i j))
 
 -- the records of an object lie before the end of all
 pub object-within : (objects blocks object : ℕ) → object < objects → recordStride * (object * blocks) + recordStride * blocks ≤ recordStride * (objects * blocks)

@@ -51,9 +51,9 @@ unfolding zeros
 zeros-are n = (refl, zeros-long n)
 
 module _ (s records trim : List ℕ) (a : ReadAnswer) (b t : List ℕ) (e : records ≡ zeros roomBytes) (f : trim ≡ zeros mostTrim)
-    (h : _≡_ {A = Outcome} (record { answer = a; buffer = b; trim = t }) (reading s records trim)) where
+    (h : _≡_ {A = Outcome} (record { answer = a; buffer = b; trim = t }) (reading 0 s records trim)) where
   read-is : _≡_ {A = Outcome} (record { answer = a; buffer = b; trim = t }) (read s)
-  read-is = h ∙ ap₂ (λ (x y : List ℕ). reading s x y) e f
+  read-is = h ∙ ap₂ (λ (x y : List ℕ). reading 0 s x y) e f
 
   pub listed : listingOf a b ≡ listing s
   unfolding listing
@@ -65,5 +65,5 @@ module _ (s records trim : List ℕ) (a : ReadAnswer) (b t : List ℕ) (e : reco
   pub listed-holds : length b ≡ roomBytes → a .refusal ≡ 0 → Holds a b
   listed-holds room zero =
       let same : a ≡ read s .answer = ap (λ (o : Outcome). o .answer) read-is in
-      let small : Small a = subst Small (sym same) (accepted-small s (zeros roomBytes) (zeros mostTrim) (sym (ap (λ (x : ReadAnswer). x .refusal) same) ∙ zero)) in
+      let small : Small a = subst Small (sym same) (accepted-small 0 s (zeros roomBytes) (zeros mostTrim) (sym (ap (λ (x : ReadAnswer). x .refusal) same) ∙ zero)) in
       record { blocks = small .blocks; bytes = omega (arith, mul-le-mul (small .objects) (small .blocks)) }

@@ -7,12 +7,14 @@ use Rattle.bits.specs.Size.{sizeFrom}
 use Rattle.oamd.specs.Answer.{missingOf, housed, reading}
 use Rattle.oamd.specs.Block.{status-idx, object-basic-info, differences, coordinates, position, distance, zone, extent, screen, object-render-info, additional-table-data, object-info-block}
 use Rattle.oamd.specs.Element.{kind, framed, scenes, fields, passOver, readKnown, oa-element, oa-element-md, elements}
+use Rattle.oamd.specs.LeastFirst.{leastFirst}
 use Rattle.oamd.specs.Meaning.{gainOf, priorityOf, distanceOf, locationOf, volumeOf, resolve, scenesFrom, scenesOf, allScenes}
 use Rattle.oamd.specs.ObjectElement.{object-data, object-element}
 use Rattle.oamd.specs.Payload.{oa-md-version, object-count, oa-element-count, header, object-audio-metadata-payload, timing, records, tables}
 use Rattle.oamd.specs.Programme.{bed-assignment, bed-instances, intermediate-spatial-format, num-dynamic-objects, reserved-data, program-assignment, labels, bedObjects, allBeds}
 use Rattle.oamd.specs.Programme.{named, agrees, shares, classOf}
-use Rattle.oamd.specs.Record.{plainRecords, recordBytesOf, bytesOf, onto}
+use Rattle.oamd.specs.Record.{plainRecords, recordBytesOf, onto}
+use Rattle.oamd.specs.Time.{blockTime, timedBytesOf}
 use Rattle.oamd.specs.Timing.{sample-offset, block-update-info, md-update-info, offsetOf, rampOf, startOf, timingOf}
 use Rattle.oamd.specs.Trim.{trimOf, configsBytesOf, trimBytesOf}
 use Rattle.keys.specs.Names.{ascii}
@@ -31,12 +33,12 @@ abbrev pub printed : List ℕ
 printed =
     ascii "refusal=0\nplace=0\nobjects=3\nbed=1\nisf=0\ndynamic=2\nblocks=2\nunknown=0\n"
     ++ (ascii "block=0,0,0\nblock=1,32,0\n"
-    ++ (ascii "record=0,0,010032021f1f400000000000010000000000000000000000\n"
-    ++ (ascii "record=0,1,01003e041f1f400000000000010000000000000000000000\n"
-    ++ (ascii "record=1,0,010232200b0c4d0000000000010000000000000000000000\n"
-    ++ (ascii "record=1,1,010232200b0c4d0000000000010000000000000000000000\n"
-    ++ (ascii "record=2,0,000200001f1f400000000000010000000000000000000000\n"
-    ++ ascii "record=2,1,010200000908390000000000010000000000000000000000\n"))))))
+    ++ (ascii "record=0,0,010032021f1f4000000000000100000000000000000000000000000000000000\n"
+    ++ (ascii "record=0,1,01003e041f1f4000000000000100000000000000000000002000000000000000\n"
+    ++ (ascii "record=1,0,010232200b0c4d00000000000100000000000000000000000000000000000000\n"
+    ++ (ascii "record=1,1,010232200b0c4d00000000000100000000000000000000002000000000000000\n"
+    ++ (ascii "record=2,0,000200001f1f4000000000000100000000000000000000000000000000000000\n"
+    ++ ascii "record=2,1,0102000009083900000000000100000000000000000000002000000000000000\n"))))))
 
 -- an element that passes the payload's end
 abbrev pub cut : List ℕ
@@ -51,7 +53,7 @@ unfolding slice run number each from bit sizeFrom missingOf housed reading statu
     screen object-render-info additional-table-data object-info-block kind framed scenes fields passOver readKnown oa-element oa-element-md elements gainOf
     priorityOf distanceOf locationOf volumeOf resolve scenesFrom scenesOf allScenes object-data object-element oa-md-version object-count oa-element-count
     header object-audio-metadata-payload timing records tables bed-assignment bed-instances intermediate-spatial-format num-dynamic-objects reserved-data
-    program-assignment labels bedObjects allBeds named agrees shares classOf plainRecords recordBytesOf bytesOf onto sample-offset block-update-info
+    program-assignment labels bedObjects allBeds named agrees shares classOf plainRecords recordBytesOf onto leastFirst blockTime timedBytesOf sample-offset block-update-info
     md-update-info offsetOf rampOf startOf timingOf trimOf configsBytesOf trimBytesOf decimal texts line blockLines recordLines shareLines tableLines listingOf
     zeros listing
 worked = (refl, refl, refl)

@@ -10,7 +10,7 @@ use Rattle.oamd.specs.declared.Programme.{Programme}
 use Rattle.oamd.specs.declared.ReadAnswer.{ReadAnswer}
 use Rattle.oamd.specs.declared.Timing.{Timing}
 use Rattle.oamd.specs.declared.Update.{Update}
-use Rattle.oamd.specs.Tables.{recordBytes, recordStride, roomBytes, mostTrim}
+use Rattle.oamd.specs.Tables.{recordStride, roomBytes, mostTrim}
 use Rattle.oamd.specs.Programme.{shares}
 use Rattle.oamd.specs.Timing.{noUpdate}
 use Rattle.oamd.specs.Answer.{Outcome, reading}
@@ -27,9 +27,9 @@ blockLines t = textsFor (t .blocks) (λ blk. blockLine blk (getD (t .updates) bl
 
 -- the bytes of record i
 abbrev pub recordAt : List ℕ → ℕ → List ℕ
-recordAt records i = take recordBytes (drop (recordStride * i) records)
+recordAt records i = take recordStride (drop (recordStride * i) records)
 
--- the record of an object and a block: 24 bytes as hex digits
+-- the record of an object and a block: 32 bytes as hex digits: those of the payload, and the time of the block in frame 0
 abbrev pub recordLine : ℕ → ℕ → List ℕ → List ℕ
 recordLine object blk bytes = line recordKey (decimal object ∷ decimal blk ∷ hex bytes ∷ [])
 
@@ -68,9 +68,9 @@ listingOf a records =
 unfoldable pub zeros : ℕ → List ℕ
 zeros n = replicate n 0
 
--- the payload is read with room for the records and the trim table of every payload
+-- the payload is read as that of frame 0, with room for the records and the trim table of every payload
 abbrev pub read : List ℕ → Outcome
-read s = reading s (zeros roomBytes) (zeros mostTrim)
+read s = reading 0 s (zeros roomBytes) (zeros mostTrim)
 
 -- the listing of a payload
 unfoldable pub listing : List ℕ → List ℕ

@@ -12,7 +12,7 @@ use Rattle.bits.specs.Writes.{only}
 use Rattle.oamd.specs.declared.ReadAnswer.{ReadAnswer}
 use Rattle.oamd.specs.declared.Programme.{Programme}
 use Rattle.oamd.specs.declared.Update.{Update}
-use Rattle.oamd.specs.Tables.{recordBytes, mostObjects, mostBlocks, roomBytes, mostTrim, recordStride}
+use Rattle.oamd.specs.Tables.{mostObjects, mostBlocks, roomBytes, mostTrim, recordStride}
 use Rattle.oamd.specs.Programme.{shares}
 use Rattle.oamd.specs.Timing.{noUpdate}
 use Rattle.form.specs.Lemmas.Tests.{by-test}
@@ -25,7 +25,7 @@ use Rattle.text.specs.Ranges.{Small, accepted-small, answer-marked}
 
 -- room for the listing of every payload, and to spare
 abbrev pub mostText : ℕ
-mostText = 80000
+mostText = 100000
 
 -- ---- lines
 
@@ -65,12 +65,13 @@ block-most blk u h s r =
     let c = decimal-length 4 (u .ramp .0) (omega arith) r in
     omega (arith, three-long blockKey (decimal blk) (decimal (u .start .0)) (decimal (u .ramp .0)))
 
-record-most : (object blk : ℕ) (records : List ℕ) (i : ℕ) → object < 1000 → blk < 10 → length (recordLine object blk (recordAt records i)) ≤ 62
+-- a key of 7 bytes, a number of 3, one of 1, 64 digits, two commas and the line's end
+record-most : (object blk : ℕ) (records : List ℕ) (i : ℕ) → object < 1000 → blk < 10 → length (recordLine object blk (recordAt records i)) ≤ 78
 record-most object blk records i h l =
     let a = decimal-length 3 object (omega arith) (omega arith) in
     let b = decimal-length 1 blk (omega arith) (omega arith) in
     let bytes = recordAt records i in
-    let few = length-take recordBytes (drop (recordStride * i) records) in
+    let few = length-take recordStride (drop (recordStride * i) records) in
     omega (arith, three-long recordKey (decimal object) (decimal blk) (hex bytes), hex-long bytes)
 
 -- ---- the whole
@@ -86,11 +87,12 @@ blocks-most a h =
     block-most blk (getD (a .timing .updates) blk noUpdate) (omega arith) (omega arith) (omega arith)) in
     omega arith
 
-records-most : (objects blocks : ℕ) (records : List ℕ) → objects ≤ mostObjects → blocks ≤ mostBlocks → length (recordLines objects blocks records) ≤ 78864
+-- the eight records of an object take 624
+records-most : (objects blocks : ℕ) (records : List ℕ) → objects ≤ mostObjects → blocks ≤ mostBlocks → length (recordLines objects blocks records) ≤ 99216
 unfolding recordLines
 records-most objects blocks records h l =
-    let n = counted-most (objectLines blocks records) 496 0 objects (λ object i.
-    let m = counted-most (λ blk. recordLine object blk (recordAt records (object * blocks + blk))) 62 0 blocks
+    let n = counted-most (objectLines blocks records) 624 0 objects (λ object i.
+    let m = counted-most (λ blk. recordLine object blk (recordAt records (object * blocks + blk))) 78 0 blocks
     (λ blk k. record-most object blk records (object * blocks + blk) (omega arith) (omega arith)) in
     omega arith) in
     omega arith
@@ -112,7 +114,7 @@ shares-most a h =
     let z = number-most dynamicKey 3 (shares p .dynamic) (omega arith) (omega arith) in
     omega (arith, length-append (numberLine objectsKey (p .objects)) (b ++ (i ++ d)), length-append b (i ++ d), length-append i d)
 
-tables-most : (a : ReadAnswer) (records : List ℕ) → Small a → length (tableLines a records) ≤ 79068
+tables-most : (a : ReadAnswer) (records : List ℕ) → Small a → length (tableLines a records) ≤ 99420
 unfolding tableLines
 tables-most a records h =
     let few = h .blocks in
@@ -134,7 +136,7 @@ either-most true m n h = rw (append-nil m) h
 either-most false m n h = omega arith
 
 listing-most : (a : ReadAnswer) (records : List ℕ) → a .refusal ≤ 9 → a .place < 10 ^ 20 → a .missing < 10 ^ 7 → (a .refusal ≡ 0 → Small a)
-    → length (listingOf a records) ≤ 79105
+    → length (listingOf a records) ≤ 99457
 unfolding listingOf
 listing-most a records h l few small =
     let p : List ℕ = numberLine placeKey (a .place) in
@@ -143,12 +145,12 @@ listing-most a records h l few small =
     let x = number-most refusalKey 1 (a .refusal) (omega arith) (omega arith) in
     let y = number-most placeKey 20 (a .place) (omega arith) l in
     let w = number-most missingKey 7 (a .missing) (omega arith) few in
-    let z : length t ≤ 79068 =
+    let z : length t ≤ 99420 =
     by-test (eqb (a .refusal) 0)
     (λ e.
     let zero = eqb-true (a .refusal) 0 e in
     rw (e, ne-eqb (a .refusal) 2 (λ z. omega arith)) (tables-most a records (small zero)))
-    (λ e. rw e (either-most (eqb (a .refusal) 2) m 79068 (omega arith))) in
+    (λ e. rw e (either-most (eqb (a .refusal) 2) m 99420 (omega arith))) in
     omega (arith, length-append (numberLine refusalKey (a .refusal)) (p ++ t), length-append p t)
 
 pub zeros-long : (n : ℕ) → length (zeros n) ≡ n
@@ -161,6 +163,6 @@ unfolding listing
 most-text s h =
     let room = zeros-long roomBytes in
     let trim = zeros-long mostTrim in
-    let m = answer-marked s (zeros roomBytes) (zeros mostTrim) (omega arith) (omega arith) (omega arith) in
-    let n = listing-most (read s .answer) (read s .buffer) (m .refusal) (m .place) (m .missing) (accepted-small s (zeros roomBytes) (zeros mostTrim)) in
+    let m = answer-marked 0 s (zeros roomBytes) (zeros mostTrim) (omega arith) (omega arith) (omega arith) in
+    let n = listing-most (read s .answer) (read s .buffer) (m .refusal) (m .place) (m .missing) (accepted-small 0 s (zeros roomBytes) (zeros mostTrim)) in
     omega arith

@@ -55,22 +55,22 @@ pub record Small (a : ReadAnswer) : Type 0 where
   pub updates : UpdatesInRange (a .timing)
   pub unknown : a .unknown ≤ mostElements
 
-pub accepted-small : (s buffer trim : List ℕ) → reading s buffer trim .answer .refusal ≡ 0 → Small (reading s buffer trim .answer)
+pub accepted-small : (frame : ℕ) (s buffer trim : List ℕ) → reading frame s buffer trim .answer .refusal ≡ 0 → Small (reading frame s buffer trim .answer)
 unfolding shares tables
-accepted-small s buffer trim z =
-    let n = numbers s buffer trim z in
+accepted-small frame s buffer trim z =
+    let n = numbers frame s buffer trim z in
     let q = n .0 in
     let few = n .3 .objects .1 in
     let agree = ensured object-audio-metadata-payload _ payload-agrees (bit s) (bit-lt s) 0 (8 * length s) pastPayload (n .2) in
-    let p : Programme = reading s buffer trim .answer .programme in
-    let within : total (named p) ≤ p .objects = rw (accepted-is s buffer trim q (n .1) z (n .2)) (named-most (q .programme) agree) in
+    let p : Programme = reading frame s buffer trim .answer .programme in
+    let within : total (named p) ≤ p .objects = rw (accepted-is frame s buffer trim q (n .1) z (n .2)) (named-most (q .programme) agree) in
     record {
       objects = few;
       bed = omega arith;
       isf = omega arith;
       dynamic = omega arith;
       blocks = by-test (there (q .known .object)) (λ e. n .3 .blocks .with e .1) (λ e. omega (arith, n .3 .blocks .without e));
-      updates = read-in-range s buffer trim z .updates;
+      updates = read-in-range frame s buffer trim z .updates;
       unknown = n .3 .unknown;
     }
 
@@ -80,15 +80,15 @@ pub record Marked (a : ReadAnswer) : Type 0 where
   pub place : a .place < 10 ^ 20
   pub missing : a .missing < 10 ^ 7
 
-pub answer-marked : (s buffer trim : List ℕ) → length s < 10 ^ 20 → roomBytes ≤ length buffer → mostTrim ≤ length trim → Marked (reading s buffer trim .answer)
-answer-marked s buffer trim short room trim-room = go (case s buffer trim)
+pub answer-marked : (frame : ℕ) (s buffer trim : List ℕ) → length s < 10 ^ 20 → roomBytes ≤ length buffer → mostTrim ≤ length trim → Marked (reading frame s buffer trim .answer)
+answer-marked frame s buffer trim short room trim-room = go (case frame s buffer trim)
   where
-    go : Case s buffer trim → Marked (reading s buffer trim .answer)
+    go : Case frame s buffer trim → Marked (reading frame s buffer trim .answer)
     go (long l e) = rw e (record { refusal = omega arith; place = short; missing = omega arith })
     go (stopped r pl m l h two eight e) =
-        let within = place-within s buffer trim r pl (missingOf r m) two eight e in
-        let few = missing-most s buffer trim in
+        let within = place-within frame s buffer trim r pl (missingOf r m) two eight e in
+        let few = missing-most frame s buffer trim in
         let missing = subst (λ (o : Outcome). o .answer .missing ≤ 8947840) e few in
         rw e (record { refusal = omega arith; place = omega arith; missing = omega arith })
-    go (full q to pl l h x e) = absurd (roomy s buffer trim room trim-room (refusal-of e))
+    go (full q to pl l h x e) = absurd (roomy frame s buffer trim room trim-room (refusal-of e))
     go (read q to l h f g e) = rw e (record { refusal = omega arith; place = omega arith; missing = omega arith })

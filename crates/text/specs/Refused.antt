@@ -23,7 +23,7 @@ short-when text buffer = (
   (λ l. rw (lt-leb (length text) (length buffer) l)),
 )
 
--- a buffer of 80,000 bytes is never refused
+-- a buffer of 100,000 bytes is never refused
 pub never-short : (s buffer : List ℕ) → length s < 2 ^ 64 → mostText ≤ length buffer → texted (listing s) buffer .answer .refusal ≡ 0
 unfolding texted
 never-short s buffer h l = let n = most-text s h in rw (le-leb (length (listing s)) (length buffer) (omega arith))

@@ -66,12 +66,12 @@ fn list_answer(a: ReadAnswer, records: &[u8], text: &mut [u8]) -> TextAnswer
     answered(0, 0, needed as u32)
 }
 
-// Lists a payload. Accepted: the listing is the first bytes of the lent buffer, and no other byte of it changes. Refused: none changes.
+// Lists a payload, as that of frame 0. Accepted: the listing is the first bytes of the lent buffer, and no other byte of it changes. Refused: none changes.
 pub fn list_text(payload: &[u8], text: &mut [u8]) -> TextAnswer
     ensures { λ r. ⌜ (record { answer = r; buffer = now (text .exit) }) ≡ texted (listing (now (payload .entry))) (now (text .entry)) ⌝ }
 {
     let mut records = no_records();
     let mut trim = no_trim();
-    let a = reader::read(payload, &mut records, &mut trim);
+    let a = reader::read(payload, 0, &mut records, &mut trim);
     list_answer(a, &records, text)
 }

@@ -2,7 +2,7 @@
 ghost use mathlib.Core.Path.{_≡_};
 ghost use Prim.Native.Nat.{_+_, _*_, _≤_};
 ghost use lib.ListN.{length, take, drop};
-ghost use Rattle.oamd.specs.Tables.{recordBytes, recordStride, mostBlocks};
+ghost use Rattle.oamd.specs.Tables.{recordStride, mostBlocks};
 ghost use Rattle.text.specs.Listing.{blockLine, blockLines, recordLine, objectLines, recordLines, shareLines, tableLines, listingOf};
 ghost use Rattle.text.specs.Laying.{Laid, Holds};
 ghost use lib.Dec.{eqb};
@@ -15,7 +15,6 @@ use crate::laying::lay_line;
 use crate::laying::lay_number;
 use bits::Refusal;
 use oamd::Programme;
-use oamd::RECORD_BYTES;
 use oamd::RECORD_STRIDE;
 use oamd::ReadAnswer;
 use oamd::Timing;
@@ -57,10 +56,10 @@ fn lay_record(
     records: &[u8],
     from: usize,
 ) -> usize
-    requires { ⌜ from + recordBytes ≤ length (now records) ⌝ }
-    ensures { λ r. ⌜ Laid (now (text .entry)) (now (text .exit)) at r (recordLine object blk (take recordBytes (drop from (now (records .entry))))) ⌝ }
+    requires { ⌜ from + recordStride ≤ length (now records) ⌝ }
+    ensures { λ r. ⌜ Laid (now (text .entry)) (now (text .exit)) at r (recordLine object blk (take recordStride (drop from (now (records .entry))))) ⌝ }
 {
-    let end = from + RECORD_BYTES;
+    let end = from + RECORD_STRIDE;
     let to = lay_bytes(text, at, &keys::RECORD);
     let to = lay_number(text, to, object as u64, b',');
     let to = lay_number(text, to, blk as u64, b',');

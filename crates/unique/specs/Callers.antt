@@ -16,15 +16,15 @@ use Rattle.unique.specs.OneAnswer.{ClausesOf, SpecOf, OneAnswer, by-equa
 use Rattle.unique.specs.Sets.{outcome-set, written-set}
 use Rattle.unique.specs.Text.{OneText, one-list-text}
 
--- Two answers, each with the bytes that it leaves in the two lent buffers, are the same, buffers too, if the payload's bytes and the bytes that stood in the
--- buffers are.
+-- Two answers, each with the bytes that it leaves in the two lent buffers, are the same, buffers too, if the payload's bytes, the frame and the bytes that stood in
+-- the buffers are.
 abbrev pub OneReading : ClausesOf read.ended → SpecOf read.ended → Type 2
 OneReading clauses spec =
-    OneAnswer read.ended clauses spec (λ κs a. now (a .0) beside now (a .1 .0) beside now (a .1 .1 .0))
-    {O = Outcome} (λ κs a r z. record { answer = r; buffer = z .1 .0; trim = z .1 .1 .0 })
+    OneAnswer read.ended clauses spec (λ κs a. now (a .0) beside a .1 .0 beside now (a .1 .1 .0) beside now (a .1 .1 .1 .0))
+    {O = Outcome} (λ κs a r z. record { answer = r; buffer = z .1 .1 .0; trim = z .1 .1 .1 .0 })
 
 pub one-read : OneReading (λ M. read.clauses) (λ M. read.spec)
-one-read = by-equation (λ κs. outcome-set) (λ w. refl) (λ i. reading (i .0) (i .1 .0) (i .1 .1)) (λ w κs a r z p. said (λ h. h) (p .holds))
+one-read = by-equation (λ κs. outcome-set) (λ w. refl) (λ i. reading (i .1 .0) (i .0) (i .1 .1 .0) (i .1 .1 .1)) (λ w κs a r z p. said (λ h. h) (p .holds))
 
 -- The contract is that of `read`.
 pub one-skriemelt-read : OneReading (λ M. skriemelt-read.clauses) (λ M. skriemelt-read.spec)
@@ -34,16 +34,16 @@ one-skriemelt-read = one-read
 pub one-skriemelt-read-batch : OneBatch (λ M. skriemelt-read-batch.clauses) (λ M. skriemelt-read-batch.spec)
 one-skriemelt-read-batch = one-read-batch
 
--- Two answers, each with the bytes that it leaves in the payload's buffer, are the same, buffer too, if the programme, the timing, the record bytes, the bytes
--- of the trim table and those that stood in the payload's buffer are.
+-- Two answers, each with the bytes that it leaves in the payload's buffer, are the same, buffer too, if the programme, the timing, the frame, the record bytes, the
+-- bytes of the trim table and those that stood in the payload's buffer are.
 abbrev pub OneWriting : ClausesOf write.ended → SpecOf write.ended → Type 2
 OneWriting clauses spec =
-    OneAnswer write.ended clauses spec (λ κs a. a .0 beside a .1 .0 beside now (a .1 .1 .0) beside now (a .1 .1 .1 .0) beside now (a .1 .1 .1 .1 .0))
-    {O = Written} (λ κs a r z. record { answer = r; out = z .1 .1 .1 .1 .0 })
+    OneAnswer write.ended clauses spec (λ κs a. a .0 beside a .1 .0 beside a .1 .1 .0 beside now (a .1 .1 .1 .0) beside now (a .1 .1 .1 .1 .0) beside now (a .1 .1 .1 .1 .1 .0))
+    {O = Written} (λ κs a r z. record { answer = r; out = z .1 .1 .1 .1 .1 .0 })
 
 pub one-write : OneWriting (λ M. write.clauses) (λ M. write.spec)
 one-write =
-    by-equation (λ κs. written-set) (λ w. refl) (λ i. writing (i .0) (i .1 .0) (i .1 .1 .0) (i .1 .1 .1 .0) (i .1 .1 .1 .1))
+    by-equation (λ κs. written-set) (λ w. refl) (λ i. writing (i .1 .1 .0) (i .0) (i .1 .0) (i .1 .1 .1 .0) (i .1 .1 .1 .1 .0) (i .1 .1 .1 .1 .1))
     (λ w κs a r z p. said (λ h. h) (p .holds))
 
 -- The contract is that of `write`.
@@ -55,7 +55,7 @@ pub one-skriemelt-list-text : OneText (λ M. skriemelt-list-text.clauses) (λ M.
 one-skriemelt-list-text = one-list-text
 
 pub one-skriemelt-version : OneAnswer skriemelt-version.ended (λ M. skriemelt-version.clauses) (λ M. skriemelt-version.spec) (λ κs a. a) (λ κs a r z. r)
-one-skriemelt-version = by-equation (result-set skriemelt-version.ended) (λ w. refl) (λ a. 2003) (λ w κs a r z p. said (λ h. h) (p .holds))
+one-skriemelt-version = by-equation (result-set skriemelt-version.ended) (λ w. refl) (λ a. 3000) (λ w κs a r z p. said (λ h. h) (p .holds))
 
 pub one-refused-with : OneAnswer refused-with.ended (λ M. refused-with.clauses) (λ M. refused-with.spec) (λ κs a. a) (λ κs a r z. r)
 one-refused-with = by-equation (result-set refused-with.ended) (λ w. refl) _ (λ w κs a r z p. said (λ h. h) (p .holds))

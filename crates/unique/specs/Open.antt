@@ -32,17 +32,17 @@ abbrev answerAlone : ClausesOf read.ended
 answerAlone M 𝓤 H A mem run κs a = record {
   ghost = Unit {0};
   requires = λ g. emp 𝓤;
-  ensures = λ g r e. fact 𝓤 (r ≡ reading (now (a .0)) (now (a .1 .0)) (now (a .1 .1 .0)) .answer);
+  ensures = λ g r e. fact 𝓤 (r ≡ reading (a .1 .0) (now (a .0)) (now (a .1 .1 .0)) (now (a .1 .1 .1 .0)) .answer);
 }
 
 pub buffers-open : OneReading answerAlone (λ M 𝓤 H A mem run. closing 𝓤 H A read.ended (answerAlone M 𝓤 H A mem run)) → ⊥
 buffers-open one =
     let κs : Lfts 3 = ([], ([], ([], tt))) in
-    let a : Args read.signature κs = (empty, (empty, (empty, tt))) in
-    let left : List ℕ → Lasts read.ended κs a = λ l. (tt, (l, ([], tt))) in
-    let free : (l : List ℕ) → Ensured read.ended answerAlone w₀ κs a (reading [] [] [] .answer) (left l) =
+    let a : Args read.signature κs = (empty, (0, (empty, (empty, tt)))) in
+    let left : List ℕ → Lasts read.ended κs a = λ l. (tt, (tt, (l, ([], tt)))) in
+    let free : (l : List ℕ) → Ensured read.ended answerAlone w₀ κs a (reading 0 [] [] [] .answer) (left l) =
     λ l. record { ghost = tt; owned = w₀ .𝓤 .one; holds = ∣ (refl, tt) ∣₁ } in
-    let same = one .once w₀ w₀ κs κs a a (reading [] [] [] .answer) (reading [] [] [] .answer) (left []) (left (0 ∷ [])) refl (free []) (free (0 ∷ [])) in
+    let same = one .once w₀ w₀ κs κs a a (reading 0 [] [] [] .answer) (reading 0 [] [] [] .answer) (left []) (left (0 ∷ [])) refl (free []) (free (0 ∷ [])) in
     none-is-one (ap (λ (o : Outcome). length (o .buffer)) same)
 
 -- A cursor that carries refusal 1, with the value v.

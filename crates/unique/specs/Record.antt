@@ -1,8 +1,8 @@
 -- The public functions of record.
-use mathlib.Core.Path.{_≡_, refl}
+use mathlib.Core.Path.{_≡_, refl, ap}
 use mathlib.Core.Bool.{Bool, true, false}
 use mathlib.Core.List.{List}
-use Prim.Native.Nat.{ℕ, _+_, _<_, _≤_}
+use Prim.Native.Nat.{ℕ, _+_, _*_, _<_, _≤_}
 use base.Stored.{coded-set, codedℕ, codedList}
 use lib.Dec.{leb}
 use lib.ListN.{length}
@@ -19,11 +19,16 @@ use Rattle.record.proofs.scene_at as scene-at
 use Rattle.record.proofs.store_divergence as store-divergence
 use Rattle.record.proofs.store_precise as store-precise
 use Rattle.record.proofs.store_scene as store-scene
+use Rattle.record.proofs.has_time as has-time
+use Rattle.record.proofs.next_block as next-block
+use Rattle.record.proofs.store_time as store-time
+use Rattle.record.proofs.time_of as time-of
 use Rattle.oamd.specs.Extended.{noDivergence, noPrecise}
 use Rattle.oamd.specs.Meaning.{idle}
 use Rattle.oamd.specs.Record.{recordOf, recordBytesOf, divergenceBytes, preciseBytes}
-use Rattle.oamd.specs.Tables.{recordBytes}
-use Rattle.record.specs.Bytes.{divergenceByte, preciseByte, setFrom, sceneAt, divergenceAt, preciseAt}
+use Rattle.oamd.specs.Tables.{recordBytes, frameSamples}
+use Rattle.oamd.specs.Time.{timeBytesOf}
+use Rattle.record.specs.Bytes.{divergenceByte, preciseByte, setFrom, sceneAt, divergenceAt, preciseAt, timeAt, sameBytes}
 use Rattle.unique.specs.OneAnswer.{OneAnswer, by-equation, said, both-said, result-set, _beside_}
 
 -- One clause for enough bytes and one for fewer: these are all cases, and each has one answer.
@@ -64,6 +69,19 @@ one-precise-at =
     by-equation (result-set precise-at.ended) (λ w. refl) (λ i. pick (leb (i .1 .0 + recordBytes) (length (i .0))) (preciseAt (i .0) (i .1 .0)) noPrecise)
     (λ w κs a r z p. both-said (enough-or-fewer _ _ _ _) (p .holds))
 
+pub one-time-of : OneAnswer time-of.ended (λ M. time-of.clauses) (λ M. time-of.spec) (λ κs a. a) (λ κs a r z. r)
+one-time-of =
+    by-equation (result-set time-of.ended) (λ w. refl) (λ a. record { 0 = a .0 * frameSamples + a .1 .0 .0 })
+    (λ w κs a r z p. said (λ h. ap (λ (n : ℕ). record { 0 = n }) h) (p .holds))
+
+pub one-next-block : OneAnswer next-block.ended (λ M. next-block.clauses) (λ M. next-block.spec) (λ κs a. a) (λ κs a r z. r)
+one-next-block = by-equation (result-set next-block.ended) (λ w. refl) _ (λ w κs a r z p. said (λ h. h) (p .holds))
+
+pub one-has-time : OneAnswer has-time.ended (λ M. has-time.clauses) (λ M. has-time.spec) (λ κs a. now (a .0) beside a .1) (λ κs a r z. r)
+one-has-time =
+    by-equation (result-set has-time.ended) (λ w. refl) (λ i. sameBytes (timeAt (i .0) (i .1 .0)) (timeBytesOf (i .1 .1 .0 .0)))
+    (λ w κs a r z p. said (λ h. h) (p .holds))
+
 -- ---- what is stored: the bytes that are left in the lent buffer
 
 bytes-set : IsSet (List ℕ)
@@ -86,3 +104,7 @@ pub one-store-precise : OneAnswer store-precise.ended (λ M. store-precise.claus
 one-store-precise =
     by-equation (λ κs. bytes-set) (λ w. refl) (λ i. setFrom (i .1 .0) preciseByte (preciseBytes (i .1 .1 .0)) (i .0))
     (λ w κs a r z p. said (λ h. h) (p .holds))
+
+pub one-store-time : OneAnswer store-time.ended (λ M. store-time.clauses) (λ M. store-time.spec) (λ κs a. now (a .0) beside a .1) (λ κs a r z. z .0)
+one-store-time =
+    by-equation (λ κs. bytes-set) (λ w. refl) (λ i. setFrom (i .1 .0) recordBytes (timeBytesOf (i .1 .1 .0 .0)) (i .0)) (λ w κs a r z p. said (λ h. h) (p .holds))

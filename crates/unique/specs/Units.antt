@@ -17,6 +17,8 @@ use Rattle.units.proofs.ByteCount.raw as byte-count-raw
 use Rattle.units.proofs.SampleCount.new as sample-count-new
 use Rattle.units.proofs.SampleCount.plus as sample-count-plus
 use Rattle.units.proofs.SampleCount.raw as sample-count-raw
+use Rattle.units.proofs.SampleTime.in_frame as sample-time-in-frame
+use Rattle.units.proofs.SampleTime.raw as sample-time-raw
 use Rattle.unique.specs.OneAnswer.{OneAnswer, by-equation, said, result-set}
 
 pub one-bit-pos-new : OneAnswer bit-pos-new.ended (λ M. bit-pos-new.clauses) (λ M. bit-pos-new.spec) (λ κs a. a) (λ κs a r z. r)
@@ -88,3 +90,12 @@ pub one-sample-count-plus : OneAnswer sample-count-plus.ended (λ M. sample-coun
 one-sample-count-plus =
     by-equation (result-set sample-count-plus.ended) (λ w. refl) (λ a. record { 0 = (a .0 .0 + a .1 .0 .0) % 65536 })
     (λ w κs a r z p. said (λ h. ap (λ (n : ℕ). record { 0 = n }) h) (p .holds))
+
+pub one-sample-time-in-frame : OneAnswer sample-time-in-frame.ended (λ M. sample-time-in-frame.clauses) (λ M. sample-time-in-frame.spec)
+    (λ κs a. a) (λ κs a r z. r)
+one-sample-time-in-frame =
+    by-equation (result-set sample-time-in-frame.ended) (λ w. refl) (λ a. record { 0 = a .0 * a .1 .0 .0 + a .1 .1 .0 .0 })
+    (λ w κs a r z p. said (λ h. ap (λ (n : ℕ). record { 0 = n }) h) (p .holds))
+
+pub one-sample-time-raw : OneAnswer sample-time-raw.ended (λ M. sample-time-raw.clauses) (λ M. sample-time-raw.spec) (λ κs a. a) (λ κs a r z. r)
+one-sample-time-raw = by-equation (result-set sample-time-raw.ended) (λ w. refl) _ (λ w κs a r z p. said (λ h. h) (p .holds))

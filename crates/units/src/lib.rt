@@ -1,4 +1,4 @@
-// Four units that are never added to one another: a position in bits, and counts of bits, of bytes and of samples. Their numbers are private, so a
+// Five units that are never added to one another: a position in bits, a time in samples, and counts of bits, of bytes and of samples. Their numbers are private, so a
 // sum across them does not compile; what leads from one unit to another has a name here. Every step is total: a sum that its unit does not hold wraps.
 ghost use mathlib.Core.Path.{_≡_};
 ghost use Prim.Native.Nat.{_+_, _-_, _*_, _/_, _%_};
@@ -16,6 +16,9 @@ pub struct ByteCount(u32);
 // A number of audio samples.
 #[repr(C)]
 pub struct SampleCount(u16);
+
+// A time, in audio samples from the first sample of frame 0.
+pub struct SampleTime(u64);
 
 impl BitPos {
     pub fn new(at: u32) -> BitPos
@@ -124,6 +127,21 @@ impl SampleCount {
         ensures { λ r. ⌜ r .0 ≡ (self .0 + n .0) % 65536 ⌝ }
     {
         SampleCount(((self.0 as u32 + n.0 as u32) % 65536) as u16)
+    }
+}
+
+impl SampleTime {
+    // The sample that lies so far behind the first of a frame, where each frame has so many.
+    pub fn in_frame(frame: u32, samples: SampleCount, behind: SampleCount) -> SampleTime
+        ensures { λ r. ⌜ r .0 ≡ frame * (samples .0) + behind .0 ⌝ }
+    {
+        SampleTime(frame as u64 * samples.0 as u64 + behind.0 as u64)
+    }
+
+    pub fn raw(self) -> u64
+        ensures { λ r. ⌜ r ≡ self .0 ⌝ }
+    {
+        self.0
     }
 }
 

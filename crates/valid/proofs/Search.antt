@@ -1,26 +1,72 @@
--- The first bad record, as a loop finds it: what is left from here gives what the whole gives. Assumes nothing.
-use mathlib.Core.Path.{_≡_, sym, _∙_}
+-- The first record that a test refuses, as a loop finds it: what is left from here gives what the whole gives. Assumes nothing.
+use mathlib.Core.Path.{_≡_, refl, sym, _∙_}
 use mathlib.Core.Bool.{Bool, true, false}
-use mathlib.Core.List.{List, _∷_}
-use Prim.Native.Nat.{ℕ, suc, _+_, _-_, _*_, _/_, _<_, _≤_}
-use native.Mathlib.Nat.{sub-zero, mul-add-div-right, div-eq-of-lt}
+use mathlib.Core.List.{List}
+use Prim.Native.Nat.{ℕ, suc, _+_, _-_, _*_, _/_, _%_, _<_, _≤_}
+use native.Mathlib.Nat.{sub-zero, mul-add-div-right, div-eq-of-lt, mul-add-mod-self-right, mod-eq-of-lt}
 use native.Mathlib.Numerals.{add-one}
 use native.Mathlib.Omega.{arith}
+use lib.ListN.{getD}
+use Rattle.bits.specs.Language.{pick}
 use Rattle.oamd.specs.declared.Shares.{Shares}
-use Rattle.oamd.specs.Tables.{recordStride}
+use Rattle.oamd.specs.declared.Timing.{Timing}
+use Rattle.oamd.specs.Tables.{recordStride, frameSamples}
+use Rattle.oamd.specs.Timing.{noUpdate}
 use Rattle.oamd.specs.Programme.{classOf}
-use Rattle.form.specs.Valid.{recordValid, firstBad}
+use Rattle.oamd.specs.Time.{blockTime, timeOf, timeBytesOf}
+use Rattle.form.specs.Valid.{recordValid, firstBad, firstMistimed}
 use Rattle.valid.specs.Turns.{NextTurn}
-use Rattle.record.specs.Bytes.{recordAt, recordsAt}
+use Rattle.record.specs.Bytes.{recordAt, recordsAt, timeAt, timesAt, sameBytes}
+
+-- `first i n from` is the index of the first refused record of n, where they count from i and begin at a byte: a test of each record decides it, by index and byte
+pub record Search (good : ℕ → ℕ → Bool) (first : ℕ → ℕ → ℕ → ℕ) : Type 0 where
+  pub end : (i from : ℕ) → first i 0 from ≡ i
+  pub step : (i n from : ℕ) → first i (suc n) from ≡ pick (good i from) (first (suc i) n (from + recordStride)) i
 
 -- before record i of n, which begins at a byte and is a block of an object
-pub record SoFar (s : Shares) (blocks : ℕ) (bytes : List ℕ) (n object block from i : ℕ) : Type 0 where
+pub record SoFar (first : ℕ → ℕ → ℕ → ℕ) (blocks n object block from i : ℕ) : Type 0 where
   pub within : i ≤ n
   pub place : from ≡ recordStride * i
   pub objects : object ≤ i
   pub turn : object * blocks + block ≡ i
   pub below : block ≤ blocks - 1
-  pub rest : firstBad s blocks i (recordsAt bytes (n - i) from) ≡ firstBad s blocks 0 (recordsAt bytes n 0)
+  pub rest : first i (n - i) from ≡ first 0 n 0
+
+module _ {first : ℕ → ℕ → ℕ → ℕ} {blocks n : ℕ} where
+  pub none : SoFar first blocks n 0 0 0 0
+  none = record { within = omega arith; place = omega arith; objects = omega arith; turn = omega arith; below = omega arith; rest = rw (sub-zero n) }
+
+  module _ {good : ℕ → ℕ → Bool} (search-is : Search good first) {object block from i : ℕ} (before : SoFar first blocks n object block from i) where
+    module _ (h : i < n) {valid : Bool} (e : valid ≡ good i from) where
+      next : first i (n - i) from ≡ pick valid (first (i + 1) (n - (i + 1)) (from + recordStride)) i
+      next =
+          let m : n - i ≡ suc (n - (i + 1)) = omega arith in
+          rw (m, search-is .step i (n - (i + 1)) from, e, add-one i)
+
+      pub more : {o b : ℕ} → valid ≡ true → NextTurn blocks object block o b → SoFar first blocks n o b (from + recordStride) (i + 1)
+      more {o} {b} v t = record {
+        within = omega arith;
+        place = omega arith;
+        objects = omega arith;
+        turn = omega arith;
+        below = omega arith;
+        rest = sym (next ∙ rw v) ∙ before .rest;
+      }
+
+      pub stop : valid ≡ false → i ≡ first 0 n 0
+      stop v = sym (next ∙ rw v) ∙ before .rest
+
+    pub whole : n ≤ i → i ≡ first 0 n 0
+    whole h = let m : n - i ≡ 0 = omega arith in sym (search-is .end i from) ∙ rw m at (before .rest)
+
+-- ---- by class and bytes
+
+abbrev pub badFrom : Shares → ℕ → List ℕ → ℕ → ℕ → ℕ → ℕ
+badFrom s blocks bytes i n from = firstBad s blocks i (recordsAt bytes n from)
+
+pub bad-search : (s : Shares) (blocks : ℕ) (bytes : List ℕ) → Search (λ i from. recordValid (classOf s (i / blocks)) (recordAt bytes from)) (badFrom s blocks bytes)
+unfolding firstBad recordsAt
+bad-search s blocks bytes = record { end = λ i from. refl; step = λ i n from. refl }
 
 -- the object of record i
 object-of : (object block blocks i : ℕ) → object * blocks + block ≡ i → block < blocks → i / blocks ≡ object
@@ -28,37 +74,28 @@ object-of object block blocks i e h =
     let p : 0 < blocks = omega arith in
     rw (← e, mul-add-div-right p object block, div-eq-of-lt h) (omega arith)
 
-module _ {s : Shares} {blocks : ℕ} {bytes : List ℕ} {n : ℕ} where
-  pub none : SoFar s blocks bytes n 0 0 0 0
-  none = record { within = omega arith; place = omega arith; objects = omega arith; turn = omega arith; below = omega arith; rest = rw (sub-zero n) }
+module _ (s : Shares) (blocks : ℕ) (bytes : List ℕ) {n object block from i : ℕ} where
+  pub its-class : SoFar (badFrom s blocks bytes) blocks n object block from i → i < n → n ≤ 255 * blocks → {valid : Bool}
+      → valid ≡ recordValid (classOf s object) (recordAt bytes from) → valid ≡ recordValid (classOf s (i / blocks)) (recordAt bytes from)
+  its-class before h few e = rw (object-of object block blocks i (before .turn) (omega arith)) e
 
-  module _ {object block from i : ℕ} (before : SoFar s blocks bytes n object block from i) (h : i < n) (few : n ≤ 255 * blocks) {valid : Bool}
-      (e : valid ≡ recordValid (classOf s object) (recordAt bytes from)) where
-    first : firstBad s blocks i (recordsAt bytes (n - i) from) ≡ firstBad s blocks i (recordAt bytes from ∷ recordsAt bytes (n - (i + 1)) (from + recordStride))
-    unfolding recordsAt
-    first = let m : n - i ≡ suc (n - (i + 1)) = omega arith in rw m
+-- ---- by its time
 
-    same : recordValid (classOf s (i / blocks)) (recordAt bytes from) ≡ valid
-    same = rw (object-of object block blocks i (before .turn) (omega arith)) (sym e)
+abbrev pub mistimedFrom : ℕ → Timing → List ℕ → ℕ → ℕ → ℕ → ℕ
+mistimedFrom frame t bytes i n from = firstMistimed (timeOf frame t) i (timesAt bytes n from)
 
-    next : valid ≡ true → firstBad s blocks i (recordsAt bytes (n - i) from) ≡ firstBad s blocks (i + 1) (recordsAt bytes (n - (i + 1)) (from + recordStride))
-    unfolding firstBad
-    next v = first ∙ rw (same, v, add-one i)
+pub mistimed-search : (frame : ℕ) (t : Timing) (bytes : List ℕ)
+    → Search (λ i from. sameBytes (timeAt bytes from) (timeBytesOf (timeOf frame t i))) (mistimedFrom frame t bytes)
+unfolding firstMistimed timesAt
+mistimed-search frame t bytes = record { end = λ i from. refl; step = λ i n from. refl }
 
-    pub more : {o b : ℕ} → valid ≡ true → NextTurn blocks object block o b → SoFar s blocks bytes n o b (from + recordStride) (i + 1)
-    more {o} {b} v t = record {
-      within = omega arith;
-      place = omega arith;
-      objects = omega arith;
-      turn = omega arith;
-      below = omega arith;
-      rest = sym (next v) ∙ before .rest;
-    }
+-- the block of record i
+block-of : (object block blocks i : ℕ) → object * blocks + block ≡ i → block < blocks → i % blocks ≡ block
+block-of object block blocks i e h = rw (← e, mul-add-mod-self-right object blocks block) (mod-eq-of-lt h)
 
-    pub stop : valid ≡ false → i ≡ firstBad s blocks 0 (recordsAt bytes n 0)
-    unfolding firstBad
-    stop v = sym (first ∙ rw (same, v)) ∙ before .rest
-
-  pub whole : {object block from i : ℕ} → SoFar s blocks bytes n object block from i → n ≤ i → i ≡ firstBad s blocks 0 (recordsAt bytes n 0)
-  unfolding firstBad recordsAt
-  whole {object} {block} {from} {i} before h = let m : n - i ≡ 0 = omega arith in rw m at (before .rest)
+module _ (frame : ℕ) (t : Timing) (bytes : List ℕ) {n object block from i : ℕ} where
+  pub its-time : SoFar (mistimedFrom frame t bytes) (t .blocks) n object block from i → i < n → n ≤ 255 * t .blocks → {valid : Bool} {time : ℕ}
+      → time ≡ frame * frameSamples + getD (t .updates) block noUpdate .start .0 → valid ≡ sameBytes (timeAt bytes from) (timeBytesOf time)
+      → valid ≡ sameBytes (timeAt bytes from) (timeBytesOf (timeOf frame t i))
+  unfolding blockTime
+  its-time before h few e f = rw (block-of object block (t .blocks) i (before .turn) (omega arith), ← e) f

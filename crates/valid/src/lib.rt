@@ -9,6 +9,7 @@ mod trim; // trim.rt: the trim table, out of its bytes
 
 pub use programme::programme_valid;
 pub use records::first_bad;
+pub use records::first_mistimed;
 pub use records::record_count;
 pub use timing::sample_offset;
 pub use timing::timing_valid;

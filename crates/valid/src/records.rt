@@ -2,12 +2,14 @@
 ghost use mathlib.Core.Path.{_≡_};
 ghost use Prim.Native.Nat.{_+_, _*_, _<_, _≤_};
 ghost use lib.ListN.{length};
-ghost use Rattle.oamd.specs.Tables.{recordStride};
+ghost use Rattle.oamd.specs.Tables.{mostBlocks, recordStride};
 ghost use Rattle.oamd.specs.Programme.{shares};
-ghost use Rattle.form.specs.Valid.{recordValid, firstBad, recordCount};
-ghost use Rattle.valid.specs.Turns.{NextTurn};
-ghost use Rattle.record.specs.Bytes.{recordAt, recordsAt};
+ghost use Rattle.oamd.specs.Time.{timeOf};
+ghost use Rattle.form.specs.Valid.{recordValid, firstBad, firstMistimed, recordCount};
+ghost use Rattle.valid.specs.Turns.{NextTurn, Timeable};
+ghost use Rattle.record.specs.Bytes.{recordAt, recordsAt, timesAt};
 use crate::scenes::record_valid;
+use oamd::MOST_BLOCKS;
 use oamd::Programme;
 use oamd::RECORD_STRIDE;
 use oamd::Shares;
@@ -72,6 +74,32 @@ fn first_bad_of(shares: Shares, blocks: u32, records: &[u8], count: usize) -> us
     i
 }
 
+// The index of the first record of `count` whose time is not that of its block in this frame, or `count`.
+fn first_mistimed_of(t: Timing, frame: u32, records: &[u8], count: usize) -> usize
+    requires { ⌜ (recordStride * count ≤ length (now records)) × (count ≤ 255 * t .blocks) × (t .blocks ≤ mostBlocks) ⌝ }
+    ensures { λ r. ⌜ r ≡ firstMistimed (timeOf frame t) 0 (timesAt (now (records .entry)) count 0) ⌝ }
+{
+    let updates = t.updates;
+    let blocks = t.blocks as u32;
+    let mut turn = Turn {
+        object: 0,
+        block: 0,
+    };
+    let mut at: usize = 0;
+    let mut i: usize = 0;
+    while i < count {
+        let u = updates[turn.block as usize];
+        if record::has_time(records, at, record::time_of(frame, u.start)) {
+            turn = next(turn, blocks);
+            at = at + RECORD_STRIDE;
+            i = i + 1;
+        } else {
+            return i;
+        }
+    }
+    i
+}
+
 // How many records a programme and a timing ask for.
 pub fn record_count(objects: u8, blocks: u8) -> usize
     ensures { λ r. ⌜ (r ≡ objects * blocks) × (r ≤ 255 * blocks) ⌝ }
@@ -90,4 +118,20 @@ pub fn first_bad(p: Programme, t: Timing, records: &[u8]) -> usize
     }
     let shares = meaning::shares(p);
     first_bad_of(shares, t.blocks as u32, records, count)
+}
+
+// The index of the first record whose time is not that of its block in this frame, or their number where all are; 0 where there are not bytes enough for them, or more
+// blocks than a timing can have.
+pub fn first_mistimed(p: Programme, t: Timing, frame: u32, records: &[u8]) -> usize
+    ensures enough { λ r. ⌜ (Timeable p t (now (records .entry)) → r ≡ firstMistimed (timeOf frame t) 0 (timesAt (now (records .entry)) (recordCount p t) 0)) ⌝ }
+    ensures fewer { λ r. ⌜ ((Timeable p t (now (records .entry)) → ⊥) → r ≡ 0) ⌝ }
+{
+    let count = record_count(p.objects, t.blocks);
+    if MOST_BLOCKS < t.blocks as usize {
+        return 0;
+    }
+    if records.len() < RECORD_STRIDE * count {
+        return 0;
+    }
+    first_mistimed_of(t, frame, records, count)
 }

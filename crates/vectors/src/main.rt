@@ -1,5 +1,6 @@
 // Lists every payload of data/payloads: two bytes of length, the higher first, and the payload, one after the other. Of each that is accepted the trim
 // table follows, if it is not all 0; its tables are written, and what is written is read back; tables with the reserved content flag have no written form.
+// The frame is 0 throughout, as in the listing.
 ghost use mathlib.Core.Path.{_≡_};
 ghost use Prim.Native.Nat.{_<_};
 use oamd::MOST_BYTES;
@@ -23,7 +24,7 @@ fn wide(x: u8) -> usize
 fn reads_back(a: ReadAnswer, records: &[u8], trim: &[u8], payload: &[u8]) -> bool {
     let mut again = [0u8; ROOM_BYTES];
     let mut trim_again = [255u8; MOST_TRIM];
-    let b = reader::read(payload, &mut again, &mut trim_again);
+    let b = reader::read(payload, 0, &mut again, &mut trim_again);
     if b.refusal != 0 {
         return false;
     }
@@ -39,7 +40,7 @@ fn reads_back(a: ReadAnswer, records: &[u8], trim: &[u8], payload: &[u8]) -> boo
 // Writes the tables of an accepted payload over ones, and reads them back.
 fn write_back(a: ReadAnswer, records: &[u8], trim: &[u8]) {
     let mut payload = [255u8; MOST_BYTES];
-    let w = writer::write(a.programme, a.timing, records, trim, &mut payload);
+    let w = writer::write(a.programme, a.timing, 0, records, trim, &mut payload);
     if w.refusal != 0 {
         printing::not_written(w.refusal, w.place);
         return;
@@ -72,7 +73,7 @@ fn list_one(payload: &[u8]) {
     printing::list(payload);
     let mut records = [0u8; ROOM_BYTES];
     let mut trim = [255u8; MOST_TRIM];
-    let a = reader::read(payload, &mut records, &mut trim);
+    let a = reader::read(payload, 0, &mut records, &mut trim);
     let programme = a.programme;
     if a.refusal == 0 {
         list_trim(programme.objects, &trim);

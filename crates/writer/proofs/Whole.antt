@@ -17,14 +17,12 @@ use Rattle.oamd.specs.declared.Programme.{Programme}
 use Rattle.oamd.specs.declared.Timing.{Timing}
 use Rattle.oamd.specs.declared.WriteAnswer.{WriteAnswer}
 use Rattle.oamd.specs.Tables.{mostBytes, recordStride}
-use Rattle.oamd.specs.Programme.{shares}
 use Rattle.oamd.specs.Record.{onto}
 use Rattle.oamd.specs.Trim.{trimNeeded}
 use Rattle.oamd.specs.Payload.{Tables}
 use Rattle.form.specs.Form.{headerBits, objectElementBits, extendedElementBits, trimElementBits, sizeBits, sizeFor, framedBits, elementBits, hasObject, hasExtended, hasTrim, formBits, form}
-use Rattle.form.specs.Valid.{_and_, programmeValid, timingValid, firstBad, trimValid, recordCount}
-use Rattle.record.specs.Bytes.{recordsAt}
-use Rattle.form.specs.Answer.{Written, trimAt, tablesOf, refusedTo, fitted, trimmed, judged, writing}
+use Rattle.form.specs.Valid.{_and_, programmeValid, timingValid, trimValid, recordCount}
+use Rattle.form.specs.Answer.{Written, trimAt, tablesOf, refusedTo, fitted, trimmed, firstRefused, judged, writing}
 use Rattle.laying.specs.Laying.{Laid, Bytes}
 use Rattle.writer.specs.Parts.{objectBits, Inside, Framed, Wide, framed}
 use Rattle.writer.specs.Most.{mostHeader, mostForm, mostCounted, mostRecords, mostObjectElement, mostExtendedElement, mostTrimElement}
@@ -149,39 +147,39 @@ pub record Accepted (p : Programme) (t : Timing) (s : List ℕ) : Type 0 where
   pub timing : timingValid t ≡ true
   pub whole : recordStride * recordCount p t ≤ length s
 
-module _ (p : Programme) (t : Timing) (s x out : List ℕ) where
-  pub bad-programme : programmeValid p ≡ false → refusedTo out (numberOf NotValid) 0 ≡ writing p t s x out
+module _ (frame : ℕ) (p : Programme) (t : Timing) (s x out : List ℕ) where
+  pub bad-programme : programmeValid p ≡ false → refusedTo out (numberOf NotValid) 0 ≡ writing frame p t s x out
   unfolding writing
   bad-programme a = sym (rw a refl)
 
-  pub bad-timing : programmeValid p ≡ true → timingValid t ≡ false → refusedTo out (numberOf NotValid) 0 ≡ writing p t s x out
+  pub bad-timing : programmeValid p ≡ true → timingValid t ≡ false → refusedTo out (numberOf NotValid) 0 ≡ writing frame p t s x out
   unfolding writing
   bad-timing a b = sym (rw (a, b) refl)
 
-  pub few-bytes : programmeValid p ≡ true → timingValid t ≡ true → length s < recordStride * recordCount p t → refusedTo out (numberOf NotValid) 0 ≡ writing p t s x out
+  pub few-bytes : programmeValid p ≡ true → timingValid t ≡ true → length s < recordStride * recordCount p t → refusedTo out (numberOf NotValid) 0 ≡ writing frame p t s x out
   unfolding writing
   few-bytes a b c = sym (rw (a, b, lt-leb (recordStride * recordCount p t) (length s) c) refl)
 
-  module _ (a : Accepted p t s) {bad : ℕ} (d : bad ≡ firstBad (shares p) (t .blocks) 0 (recordsAt s (recordCount p t) 0)) where
-    judging : judged out (tablesOf p t s x) bad (leb (trimNeeded (p .objects)) (length x)) ≡ writing p t s x out
+  module _ (a : Accepted p t s) {bad : ℕ} (d : bad ≡ firstRefused frame p t s) where
+    judging : judged out (tablesOf p t s x) bad (leb (trimNeeded (p .objects)) (length x)) ≡ writing frame p t s x out
     unfolding writing
     judging = sym (rw (a .programme, a .timing, le-leb (recordStride * recordCount p t) (length s) (a .whole), ← d) refl)
 
-    pub bad-record : bad < recordCount p t → refusedTo out (numberOf NotValid) (1 + bad) ≡ writing p t s x out
+    pub bad-record : bad < recordCount p t → refusedTo out (numberOf NotValid) (1 + bad) ≡ writing frame p t s x out
     unfolding judged
     bad-record h = sym (rw (lt-ltb bad (recordCount p t) h) refl) ∙ judging
 
     module _ (h : recordCount p t ≤ bad) where
-      good-records : trimmed out (tablesOf p t s x) (leb (trimNeeded (p .objects)) (length x)) ≡ writing p t s x out
+      good-records : trimmed out (tablesOf p t s x) (leb (trimNeeded (p .objects)) (length x)) ≡ writing frame p t s x out
       unfolding judged
       good-records = sym (rw (le-ltb bad (recordCount p t) h) refl) ∙ judging
 
       pub bad-trim : (leb (trimNeeded (p .objects)) (length x) and trimValid (p .objects) (trimAt (p .objects) x)) ≡ false
-          → refusedTo out (numberOf NotValid) (1 + recordCount p t) ≡ writing p t s x out
+          → refusedTo out (numberOf NotValid) (1 + recordCount p t) ≡ writing frame p t s x out
       unfolding trimmed
       bad-trim e = sym (rw e refl) ∙ good-records
 
       pub good-trim : (leb (trimNeeded (p .objects)) (length x) and trimValid (p .objects) (trimAt (p .objects) x)) ≡ true
-          → fitted out (form (tablesOf p t s x)) ≡ writing p t s x out
+          → fitted out (form (tablesOf p t s x)) ≡ writing frame p t s x out
       unfolding trimmed
       good-trim e = sym (rw e refl) ∙ good-records

@@ -1,6 +1,7 @@
-// `write`: a programme, a timing, record bytes and a trim table to a payload in a lent buffer, in the one form of documents 01 and 02. The parts lay their
+// `write`: a programme, a timing, a frame number, record bytes and a trim table to a payload in a lent buffer, in the one form of documents 01 and 02. The parts lay their
 // fields clause by clause of the definition; what does not fit is not stored, so that a part laid over no room gives its length.
 ghost use mathlib.Core.Path.{_≡_};
+ghost use Prim.Native.Nat.{min};
 ghost use Rattle.bits.specs.Refusals.{numberOf};
 ghost use Rattle.form.specs.Form.{form};
 ghost use Rattle.form.specs.Answer.{tablesOf, refusedWrite, fitted, writing};
@@ -79,15 +80,26 @@ fn write_form(
     }
 }
 
-// Writes tables. Accepted: the payload is the first bytes of the lent buffer, and no other byte of it changes. Refused: none changes.
+fn lesser(a: usize, b: usize) -> usize
+    ensures { λ r. ⌜ r ≡ min a b ⌝ }
+{
+    if b < a {
+        return b;
+    }
+    a
+}
+
+// Writes tables. `frame` is the number of the frame, from 0: bytes 24 to 31 of each record must be its block's time in that frame. The payload is the same for every frame.
+// Accepted: the payload is the first bytes of the lent buffer, and no other byte of it changes. Refused: none changes.
 pub fn write(
     programme: Programme,
     timing: Timing,
+    frame: u32,
     records: &[u8],
     trim: &[u8],
     payload: &mut [u8],
 ) -> WriteAnswer
-    ensures { λ r. ⌜ (record { answer = r; out = now (payload .exit) }) ≡ writing programme timing (now (records .entry)) (now (trim .entry)) (now (payload .entry)) ⌝ }
+    ensures { λ r. ⌜ (record { answer = r; out = now (payload .exit) }) ≡ writing frame programme timing (now (records .entry)) (now (trim .entry)) (now (payload .entry)) ⌝ }
 {
     let count = valid::record_count(programme.objects, timing.blocks);
     if !valid::programme_valid(programme) {
@@ -100,6 +112,8 @@ pub fn write(
         return refused(Refusal::NotValid, 0);
     }
     let bad = valid::first_bad(programme, timing, records);
+    let mistimed = valid::first_mistimed(programme, timing, frame, records);
+    let bad = lesser(bad, mistimed);
     if bad < count {
         return refused(Refusal::NotValid, 1 + bad as u64);
     }

@@ -52,25 +52,48 @@ impl Tally {
     }
 }
 
-/// Reads with both into buffers of these rooms, of records and of trim, and compares all that both give; `Err` says what differs.
-fn both(rng: &mut Rng, payload: &[u8], rooms: (usize, usize)) -> Result<Read, String> {
-    let (records, trim) = (Lent::new(rng, rooms.0), Lent::new(rng, rooms.1));
-    let (mut a, mut a_trim) = (records.clone(), trim.clone());
-    let (mut b, mut b_trim) = (records.clone(), trim.clone());
-    let answer = proved::read(payload, a.lend(), a_trim.lend()).plain();
-    let other = plain::read(payload, b.lend(), b_trim.lend());
-    if answer != other {
-        return Err(format!("proved {answer:?}\nplain  {other:?}"));
-    }
-    a.same(&b).map_err(|why| format!("records: {why}"))?;
-    a_trim.same(&b_trim).map_err(|why| format!("trim: {why}"))?;
-    let (used, trim_used) = match answer.refusal {
+/// The bytes that a read changes, of records and of trim.
+fn used(answer: &plain::Answer) -> (usize, usize) {
+    match answer.refusal {
         0 => (
             plain::needed(&answer.programme, &answer.timing),
             plain::trim_needed(&answer.programme),
         ),
         _ => (0, 0),
-    };
+    }
+}
+
+/// A refusal with its place, and the missing bits of a payload that ends early.
+fn bare(answer: &plain::Answer) -> plain::Answer {
+    plain::Answer {
+        refusal: answer.refusal,
+        place: answer.place,
+        missing: match answer.refusal {
+            2 => answer.missing.max(1),
+            _ => 0,
+        },
+        ..plain::Answer::default()
+    }
+}
+
+/// Reads with both into buffers of the input's rooms and compares all that both give; `Err` says what differs.
+fn both(rng: &mut Rng, input: &Input) -> Result<Read, String> {
+    let Input {
+        payload,
+        frame,
+        rooms,
+    } = *input;
+    let (records, trim) = (Lent::new(rng, rooms.0), Lent::new(rng, rooms.1));
+    let (mut a, mut a_trim) = (records.clone(), trim.clone());
+    let (mut b, mut b_trim) = (records.clone(), trim.clone());
+    let answer = proved::read(payload, frame, a.lend(), a_trim.lend()).plain();
+    let other = plain::read(payload, frame, b.lend(), b_trim.lend());
+    if answer != other {
+        return Err(format!("proved {answer:?}\nplain  {other:?}"));
+    }
+    a.same(&b).map_err(|why| format!("records: {why}"))?;
+    a_trim.same(&b_trim).map_err(|why| format!("trim: {why}"))?;
+    let (used, trim_used) = used(&answer);
     if used > rooms.0 || trim_used > rooms.1 || answer.refusal > 9 {
         return Err(format!("{answer:?} with rooms {rooms:?}"));
     }
@@ -79,30 +102,27 @@ fn both(rng: &mut Rng, payload: &[u8], rooms: (usize, usize)) -> Result<Read, St
     a_trim
         .kept(&trim, trim_used)
         .map_err(|why| format!("trim: {why}"))?;
-    let bare = plain::Answer {
-        refusal: answer.refusal,
-        place: answer.place,
-        missing: match answer.refusal {
-            2 => answer.missing.max(1),
-            _ => 0,
-        },
-        ..plain::Answer::default()
-    };
-    if answer.refusal != 0 && answer != bare {
+    if answer.refusal != 0 && answer != bare(&answer) {
         return Err(format!("refused, yet more is given: {answer:?}"));
     }
     Ok(Read {
         answer,
+        frame,
         records: a.first(used).to_vec(),
         trim: a_trim.first(trim_used).to_vec(),
     })
 }
 
-/// A payload, with the rooms of its two buffers.
-type Input<'a> = (&'a [u8], (usize, usize));
+/// A payload, with its frame and the rooms of its two buffers, of records and of trim.
+struct Input<'a> {
+    payload: &'a [u8],
+    frame: u32,
+    rooms: (usize, usize),
+}
 
 /// Counts what was read, and writes the tables of an accepted payload.
-fn count(tally: &mut Tally, index: u64, (payload, rooms): Input, result: Result<Read, String>) {
+fn count(tally: &mut Tally, index: u64, input: &Input, result: Result<Read, String>) {
+    let payload = input.payload;
     let result = result.and_then(|read| {
         tally.refusals[read.answer.refusal as usize] += 1;
         match read.answer.refusal {
@@ -117,10 +137,9 @@ fn count(tally: &mut Tally, index: u64, (payload, rooms): Input, result: Result<
     });
     if let Err(message) = result {
         let hex: String = payload.iter().map(|b| format!("{b:02x}")).collect();
-        differ(
-            tally,
-            format!("payload {index}, rooms {rooms:?}: {message}\n{hex}"),
-        );
+        let (frame, rooms) = (input.frame, input.rooms);
+        let what = format!("payload {index}, frame {frame}, rooms {rooms:?}");
+        differ(tally, format!("{what}: {message}\n{hex}"));
     }
 }
 
@@ -145,8 +164,12 @@ fn generated(number: u64, seed: u64) -> Tally {
     let mut tally = Tally::new(seed);
     for index in 0..number {
         let case = gen.case();
-        let rooms = (case.room, case.trim_room);
-        let mut result = both(&mut rng, &case.payload, rooms);
+        let input = Input {
+            payload: &case.payload,
+            frame: case.frame,
+            rooms: (case.room, case.trim_room),
+        };
+        let mut result = both(&mut rng, &input);
         if let (Ok(read), Some(expect)) = (&result, case.expect) {
             let answer = &read.answer;
             let got = (answer.refusal, answer.place, answer.missing);
@@ -154,7 +177,7 @@ fn generated(number: u64, seed: u64) -> Tally {
                 result = Err(format!("{got:?}, the generator says {expect:?}"));
             }
         }
-        count(&mut tally, index, (&case.payload, rooms), result);
+        count(&mut tally, index, &input, result);
         if let Err(message) = tally.writer.generated() {
             differ(&mut tally, format!("generated tables {index}: {message}"));
         }
@@ -210,11 +233,15 @@ fn damaged(number: u64, seed: u64) -> Tally {
             }
             _ => damage(&mut rng, &mut payload),
         }
-        let most = rng.pick(&[1, 100, 3000, 30_721]);
+        let most = rng.pick(&[1, 100, 4000, plain::MAX_RECORD_BYTES + 1]);
         let trim = rng.pick(&[1, 96, 253, 253, 300, 300]);
-        let rooms = (rng.below(most), rng.below(trim) + trim / 2);
-        let result = both(&mut rng, &payload, rooms);
-        count(&mut tally, index, (&payload, rooms), result);
+        let input = Input {
+            payload: &payload,
+            frame: rng.word() as u32,
+            rooms: (rng.below(most), rng.below(trim) + trim / 2),
+        };
+        let result = both(&mut rng, &input);
+        count(&mut tally, index, &input, result);
     }
     finish(&mut tally);
     tally

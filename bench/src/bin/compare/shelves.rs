@@ -23,6 +23,7 @@ struct Draft {
     store: Vec<u8>,
     starts: Vec<u64>,
     lengths: Vec<u64>,
+    frames: Vec<u32>,
     slots: (usize, usize),
     rooms: [usize; 3],
     /// An index of `CAUSES`, if it is to be refused as a whole.
@@ -35,6 +36,7 @@ impl Draft {
             store: &self.store,
             starts: &self.starts,
             lengths: &self.lengths,
+            frames: &self.frames,
             record_slot: self.slots.0,
             trim_slot: self.slots.1,
         }
@@ -42,9 +44,9 @@ impl Draft {
 
     fn described(&self) -> String {
         let hex: String = self.store.iter().map(|b| format!("{b:02x}")).collect();
-        let (starts, lengths) = (&self.starts, &self.lengths);
+        let lists = (&self.starts, &self.lengths, &self.frames);
         let (slots, rooms) = (self.slots, self.rooms);
-        format!("starts {starts:?}, lengths {lengths:?}, slots {slots:?}, rooms {rooms:?}\n{hex}")
+        format!("starts, lengths, frames {lists:?}, slots {slots:?}, rooms {rooms:?}\n{hex}")
     }
 }
 
@@ -109,10 +111,12 @@ impl Shelves {
         let mut room = |slot: usize| count * slot + self.rng.pick(&[0, 0, 1, 200]);
         let rooms = [room(slots.0), room(slots.1), room(ANSWER_BYTES)];
         let (starts, lengths) = entries.into_iter().unzip();
+        let frames = (0..count).map(|_| self.frame()).collect();
         let mut draft = Draft {
             store,
             starts,
             lengths,
+            frames,
             slots,
             rooms,
             cause: None,
@@ -142,6 +146,12 @@ impl Shelves {
             _ => (start, length),
         };
         (start as u64, length as u64)
+    }
+
+    /// Any frame, the first and the last one more often.
+    fn frame(&mut self) -> u32 {
+        let any = self.rng.word() as u32;
+        self.rng.pick(&[0, 1, any % 100_000, any, u32::MAX])
     }
 
     /// Slot lengths: enough for all, for one of the payloads or not quite, anything.
@@ -181,8 +191,7 @@ impl Shelves {
         let slot = self.rng.pick(&slot);
         let less = [1, ANSWER_BYTES, self.rng.within(1, ANSWER_BYTES)];
         match cause {
-            0 if count == 0 || self.rng.chance(50) => draft.lengths.push(0),
-            0 => draft.lengths.truncate(self.rng.pick(&[0, count - 1])),
+            0 => self.spoil_list(draft),
             1 if count > 0 && slot > 0 => draft.slots.0 = slot,
             1 if records > 0 => draft.rooms[0] = records - 1,
             2 if count > 0 && slot > 0 => draft.slots.1 = slot,
@@ -191,6 +200,19 @@ impl Shelves {
             _ => return,
         }
         draft.cause = Some(cause);
+    }
+
+    /// Makes one of the lists behind the starts longer, or shorter if it is not empty.
+    fn spoil_list(&mut self, draft: &mut Draft) {
+        let count = draft.starts.len();
+        let longer = count == 0 || self.rng.chance(50);
+        let less = self.rng.pick(&[0, count.saturating_sub(1)]);
+        match (self.rng.chance(50), longer) {
+            (true, true) => draft.lengths.push(0),
+            (true, false) => draft.lengths.truncate(less),
+            (false, true) => draft.frames.push(0),
+            (false, false) => draft.frames.truncate(less),
+        }
     }
 
     /// Reads with both and compares all that both give.

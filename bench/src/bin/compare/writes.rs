@@ -9,6 +9,7 @@ use skriemelt_bench::proved;
 /// What both read of a payload: the answer, and the tables of an accepted one.
 pub struct Read {
     pub answer: plain::Answer,
+    pub frame: u32,
     pub records: Vec<u8>,
     pub trim: Vec<u8>,
 }
@@ -20,6 +21,7 @@ pub struct Writes {
     with_trim: u64,
     not_valid: u64,
     bad_record: u64,
+    bad_time: u64,
     bad_trim: u64,
     no_room: u64,
     past_limit: u64,
@@ -33,6 +35,7 @@ impl Writes {
             (0, _) => &mut self.accepted,
             (10, 0) => &mut self.not_valid,
             (10, place) if place > records => &mut self.bad_trim,
+            (10, _) if case.kind.starts_with("another ") => &mut self.bad_time,
             (10, _) => &mut self.bad_record,
             (_, place) if place <= MAX_PAYLOAD as u64 => &mut self.no_room,
             _ => &mut self.past_limit,
@@ -46,6 +49,8 @@ impl Writes {
         let text = "programme, timing or too few record bytes";
         println!("written, refusal 10, place 0 ({text}): {}", self.not_valid);
         println!("written, refusal 10 (a record): {}", self.bad_record);
+        let text = "another time or frame, nothing else";
+        println!("written, refusal 10 ({text}): {}", self.bad_time);
         println!("written, refusal 10 (trim table): {}", self.bad_trim);
         println!("written, refusal 11 (buffer too short): {}", self.no_room);
         println!("written, refusal 11 (above 4,096): {}", self.past_limit);
@@ -57,8 +62,10 @@ fn both(case: &TableCase, fresh: Lent) -> Result<(plain::WriteAnswer, Vec<u8>), 
     let (mut a, mut b) = (fresh.clone(), fresh.clone());
     let (programme, timing) = ((&case.programme).into(), (&case.timing).into());
     let (records, trim) = (&case.records, &case.trim);
-    let answer = proved::write(programme, timing, records, trim, a.lend()).plain();
-    let other = plain::write(&case.programme, &case.timing, records, trim, b.lend());
+    let frame = case.frame;
+    let answer = proved::write(programme, timing, frame, records, trim, a.lend()).plain();
+    let (programme, timing) = (&case.programme, &case.timing);
+    let other = plain::write(programme, timing, frame, records, trim, b.lend());
     if answer != other {
         return Err(format!("proved {answer:?}\nplain  {other:?}"));
     }
@@ -82,7 +89,7 @@ fn reads_back(case: &TableCase, payload: &[u8]) -> Result<(), String> {
     let bytes = needed(&case.programme, &case.timing);
     let trim_bytes = trim_needed(&case.programme);
     let (mut records, mut trim) = (vec![0xC3; bytes], vec![0xC3; trim_bytes]);
-    let answer = proved::read(payload, &mut records, &mut trim).plain();
+    let answer = proved::read(payload, case.frame, &mut records, &mut trim).plain();
     let expected = plain::Answer {
         programme: case.programme,
         timing: case.timing,
@@ -121,8 +128,8 @@ impl Writer {
         });
         let answer = answer.map_err(|message| {
             let (kind, programme, timing) = (case.kind, case.programme, case.timing);
-            let trim = &case.trim;
-            format!("writing {kind}, room {room}: {message}\n{programme:?}\n{timing:?}\n{trim:?}")
+            let (frame, trim) = (case.frame, &case.trim);
+            format!("writing {kind}, frame {frame}, room {room}: {message}\n{programme:?}\n{timing:?}\n{trim:?}")
         })?;
         self.writes.count(case, &answer);
         Ok(answer)
@@ -152,6 +159,7 @@ impl Writer {
             kind: "tables of a payload",
             programme: answer.programme,
             timing: answer.timing,
+            frame: read.frame,
             records: read.records.clone(),
             trim: read.trim.clone(),
             valid: None,

@@ -11,6 +11,7 @@ pub struct Lists<'a> {
     store: &'a [u8],
     starts: Vec<u64>,
     lengths: Vec<u64>,
+    frames: Vec<u32>,
 }
 
 impl<'a> Lists<'a> {
@@ -24,6 +25,7 @@ impl<'a> Lists<'a> {
                 store: &store.bytes,
                 starts: part.iter().map(start).collect(),
                 lengths: part.iter().map(length).collect(),
+                frames: (0..).take(part.len()).collect(),
             })
             .collect()
     }
@@ -33,6 +35,7 @@ impl<'a> Lists<'a> {
             store: self.store,
             starts: &self.starts,
             lengths: &self.lengths,
+            frames: &self.frames,
             record_slot: MAX_RECORD_BYTES,
             trim_slot: MAX_TRIM_BYTES,
         }
@@ -74,11 +77,12 @@ pub fn batching<'a>() -> Work<impl Fn(&Lists<'a>, &mut Slots), impl Fn(&Lists<'a
         second: |lists: &Lists, lent: &mut Slots| {
             let records = lent.records.chunks_exact_mut(MAX_RECORD_BYTES);
             let slots = records.zip(lent.trims.chunks_exact_mut(MAX_TRIM_BYTES));
-            let entries = lists.starts.iter().zip(&lists.lengths);
+            let entries = lists.starts.iter().zip(&lists.lengths).zip(&lists.frames);
             for ((entry, slot), answer) in entries.zip(slots).zip(&mut lent.answers) {
-                let (start, length) = (*entry.0 as usize, *entry.1 as usize);
-                let payload = &lists.store[start..start + length];
-                *answer = Some(proved::read(payload, slot.0, slot.1));
+                let ((start, length), frame) = entry;
+                let start = *start as usize;
+                let payload = &lists.store[start..start + *length as usize];
+                *answer = Some(proved::read(payload, *frame, slot.0, slot.1));
             }
             black_box(&lent.answers);
         },

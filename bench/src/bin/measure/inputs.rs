@@ -2,11 +2,15 @@
 
 use crate::times::{Buffers, Work, PART};
 use skriemelt_bench::gen::rng::Rng;
+use skriemelt_bench::gen::timed;
 use skriemelt_bench::plain::{
     self, needed, trim_needed, Programme, Record, Timing, Update, MAX_PAYLOAD, RECORD_BYTES,
 };
 use skriemelt_bench::proved;
 use std::hint::black_box;
+
+/// The frame that all is read and written in: its number has four bytes that are not 0.
+const FRAME: u32 = 0x0123_4567;
 
 /// The tables of an accepted payload, as both take them.
 pub struct Tables {
@@ -22,7 +26,7 @@ impl Tables {
     /// `None` if the payload is refused.
     pub fn of(payload: &[u8]) -> Option<Self> {
         let mut lent = Buffers::new();
-        let answer = plain::read(payload, &mut lent.bytes, &mut lent.trim);
+        let answer = plain::read(payload, FRAME, &mut lent.bytes, &mut lent.trim);
         (answer.refusal == 0).then(|| Self {
             programme: answer.programme,
             timing: answer.timing,
@@ -44,6 +48,7 @@ impl Tables {
         plain::write(
             &self.programme,
             &self.timing,
+            FRAME,
             &self.records,
             &self.trim,
             out,
@@ -56,10 +61,15 @@ pub fn reading() -> Work<impl Fn(&&[u8], &mut Buffers), impl Fn(&&[u8], &mut Buf
         names: ("proved", "plain"),
         part: PART,
         first: |payload: &&[u8], lent: &mut Buffers| {
-            black_box(proved::read(payload, &mut lent.bytes, &mut lent.trim));
+            black_box(proved::read(
+                payload,
+                FRAME,
+                &mut lent.bytes,
+                &mut lent.trim,
+            ));
         },
         second: |payload: &&[u8], lent: &mut Buffers| {
-            black_box(plain::read(payload, &mut lent.bytes, &mut lent.trim));
+            black_box(plain::read(payload, FRAME, &mut lent.bytes, &mut lent.trim));
         },
     }
 }
@@ -71,7 +81,8 @@ pub fn writing() -> Work<impl Fn(&&Tables, &mut Buffers), impl Fn(&&Tables, &mut
         first: |t: &&Tables, lent: &mut Buffers| {
             let (programme, timing) = (t.proved_programme, t.proved_timing);
             let out = &mut lent.bytes;
-            black_box(proved::write(programme, timing, &t.records, &t.trim, out));
+            let (records, trim) = (&t.records, &t.trim);
+            black_box(proved::write(programme, timing, FRAME, records, trim, out));
         },
         second: |t: &&Tables, lent: &mut Buffers| {
             black_box(t.write(&mut lent.bytes));
@@ -99,7 +110,8 @@ pub fn shaped(rng: &mut Rng, objects: usize, blocks: usize) -> Option<Vec<u8>> {
     let records: Vec<Record> = (0..objects * blocks).map(|_| active(rng)).collect();
     let trim = vec![0; trim_needed(&programme)];
     let mut out = vec![0; MAX_PAYLOAD];
-    let answer = plain::write(&programme, &timing, &records.concat(), &trim, &mut out);
+    let records = timed(&records, &timing, FRAME);
+    let answer = plain::write(&programme, &timing, FRAME, &records, &trim, &mut out);
     out.truncate(answer.length as usize);
     (answer.refusal == 0).then_some(out)
 }

@@ -10,7 +10,7 @@ mod times;
 use batch::{batching, Lists, Slots};
 use inputs::{reading, writing, Tables};
 use skriemelt_bench::gen::Gen;
-use skriemelt_bench::plain::RECORD_BYTES;
+use skriemelt_bench::plain::RECORD_STRIDE;
 use times::{Buffers, Times, PART};
 
 /// The payloads one behind the other, as in a file.
@@ -41,7 +41,7 @@ impl Store {
 
 /// Says what is measured; answers the bytes that are written.
 fn describe(store: &Store, tables: &[Tables], rounds: usize) -> usize {
-    let records: usize = tables.iter().map(|t| t.records.len() / RECORD_BYTES).sum();
+    let records: usize = tables.iter().map(|t| t.records.len() / RECORD_STRIDE).sum();
     let forms: Vec<usize> = tables.iter().map(Tables::form_bytes).collect();
     let (count, bytes) = (store.spans.len(), store.bytes.len());
     let written = forms.iter().filter(|bytes| **bytes > 0).count();

@@ -8,13 +8,23 @@ returns : tie.Need-returns
 unfolding roomy
 returns c =
     let inner = c .before .before in
-    let places = inner .before in
-    rw (c .both3 .ensures, c .before .both2 .ensures, inner .both .ensures, places .fits4 .ensures, places .before .fits3 .ensures, places .before .before .fits2 .ensures) refl
+    let lists = inner .before in
+    let places = lists .before in
+    rw (
+      c .both4 .ensures,
+      c .before .both3 .ensures,
+      inner .both2 .ensures,
+      lists .both .ensures,
+      places .fits4 .ensures,
+      places .before .fits3 .ensures,
+      places .before .before .fits2 .ensures,
+    ) refl
 
 pub is-roomy-spec : {M : Type 1} → statement M
 is-roomy-spec =
     tie.close
     (tie.spec
+    (λ c κs. search needs)
     (λ c κs. search needs)
     (λ c κs. search needs)
     (λ c κs. search needs)

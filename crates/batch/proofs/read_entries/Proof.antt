@@ -13,21 +13,21 @@ use Rattle.batch.proofs.read_entries.Statement.{statement}
 use Rattle.batch.proofs.read_entries.Tie as tie
 
 abbrev Inv-loop : tie.InvT-loop
-Inv-loop store starts lengths recordslot trimslot records₀ trims₀ answers₀ slot₀ trim₀ place₀ i₀ records trims answers slot trim place i =
-    Done store starts lengths recordslot trimslot (record { records = records₀; trims = trims₀; answers = answers₀ })
+Inv-loop store starts lengths frames recordslot trimslot records₀ trims₀ answers₀ slot₀ trim₀ place₀ i₀ records trims answers slot trim place i =
+    Done store starts lengths frames recordslot trimslot (record { records = records₀; trims = trims₀; answers = answers₀ })
     (record { records = records; trims = trims; answers = answers }) slot trim place i
 
 abbrev μ-loop : tie.MeasureT-loop
-μ-loop store starts lengths recordslot trimslot records₀ trims₀ answers₀ slot₀ trim₀ place₀ i₀ records trims answers slot trim place i = length starts - i
+μ-loop store starts lengths frames recordslot trimslot records₀ trims₀ answers₀ slot₀ trim₀ place₀ i₀ records trims answers slot trim place i = length starts - i
 
 -- ---- the places of a turn
 
 abbrev entered : tie.At-loop Inv-loop μ-loop → tie.Start Inv-loop μ-loop
-entered head = head .before .before .before .before .before .before .before
+entered head = head .before .before .before .before .before .before .before .before
 
 -- the turn in which an entry is read
 abbrev turn-of : tie.After-read-entry Inv-loop μ-loop → tie.In-loop Inv-loop μ-loop
-turn-of read = read .before .before .before .before .before
+turn-of read = read .before .before .before .before .before .before
 
 -- the entry whose answer stands on the page
 abbrev read-of : tie.After-page Inv-loop μ-loop → tie.After-read-entry Inv-loop μ-loop
@@ -75,7 +75,7 @@ module _ (c : tie.In-loop Inv-loop μ-loop) where
 -- ---- the needs
 
 loop-holds : tie.Need-loop-holds Inv-loop μ-loop
-loop-holds c = begun _ _ _ _ _ _
+loop-holds c = begun _ _ _ _ _ _ _
 
 add-slot-end : tie.Need-add-slot-end Inv-loop μ-loop
 add-slot-end c = record { fits = omega (arith, record-slot c) }
@@ -87,13 +87,16 @@ add-place-end : tie.Need-add-place-end Inv-loop μ-loop
 add-place-end c = record { fits = omega (arith, place-fits c) }
 
 part-read-entry-end : tie.Need-part-read-entry-end Inv-loop μ-loop
-part-read-entry-end c = omega (arith, record-slot (c .before .before))
+part-read-entry-end c = omega (arith, record-slot (c .before .before .before))
 
 part-read-entry-end-2 : tie.Need-part-read-entry-end-2 Inv-loop μ-loop
-part-read-entry-end-2 c = omega (arith, trim-slot (c .before .before .before))
+part-read-entry-end-2 c = omega (arith, trim-slot (c .before .before .before .before))
 
 shared-slice-read-read-entry-2 : tie.Need-shared-slice-read-read-entry-2 Inv-loop μ-loop
 shared-slice-read-read-entry-2 c = let head = c .before .before .before in omega (arith, entered head .pre .lists)
+
+shared-slice-read-read-entry-3 : tie.Need-shared-slice-read-read-entry-3 Inv-loop μ-loop
+shared-slice-read-read-entry-3 c = let head = c .before .before .before .before in omega (arith, entered head .pre .numbered)
 
 part-copy-end : tie.Need-part-copy-end Inv-loop μ-loop
 part-copy-end c = omega (arith, place-fits (turn-of (read-of c)))
@@ -141,13 +144,13 @@ loop-again c =
     let loop = here .before .loop in
     let a = entered (here .before) .args in
     let laid = copied .copy .ensures .1 ∙ copied-whole _ (answered .result) _ refl (place-long page ∙ sym (answered .ensures .1)) in
-    turn _ _ _ _ _ _ (loop .inv) (entered (here .before) .pre .lists) (here .loop-test .taken) (record-slot here) (trim-slot here) (place-fits here)
-    (part-long (loop .slot) (a .recordslot)) (part-long (loop .trim) (a .trimslot)) (part-long (loop .place) answerBytes) (read .read-entry .kept .1 .1 .1 .0)
-    (read .read-entry .kept .1 .1 .1 .1 .0) (ap length laid ∙ answered .ensures .1)
+    turn _ _ _ _ _ _ _ (loop .inv) (entered (here .before) .pre .lists) (entered (here .before) .pre .numbered) (here .loop-test .taken) (record-slot here) (trim-slot here) (place-fits here)
+    (part-long (loop .slot) (a .recordslot)) (part-long (loop .trim) (a .trimslot)) (part-long (loop .place) answerBytes) (read .read-entry .kept .1 .1 .1 .1 .0)
+    (read .read-entry .kept .1 .1 .1 .1 .1 .0) (ap length laid ∙ answered .ensures .1)
     (read .read-entry .ensures) (laid ∙ answered .ensures .0)
 
 returns : tie.Need-returns Inv-loop μ-loop
-returns c = ended _ _ _ _ _ _ (c .before .loop .inv) (c .loop-test .left)
+returns c = ended _ _ _ _ _ _ _ (c .before .loop .inv) (c .loop-test .left)
 
 pub read-entries-spec : {M : Type 1} → statement M
 read-entries-spec =
@@ -163,6 +166,8 @@ read-entries-spec =
     (λ c. search needs)
     (λ c. search needs)
     shared-slice-read-read-entry-2
+    (λ c. search needs)
+    shared-slice-read-read-entry-3
     (λ c. search needs)
     (λ c. search needs)
     part-read-entry-end

@@ -39,7 +39,7 @@ least-back (suc n) v rest h =
     ap (λ (x : ℕ). v % 256 + 256 * x) tail ∙ omega arith
 
 -- behind so many bytes
-least-at : (n v at : ℕ) (p rest : List ℕ) → length p ≡ at → v < 256 ^ n → leastAt n (p ++ (leastFirst n v ++ rest)) at ≡ v
+pub least-at : (n v at : ℕ) (p rest : List ℕ) → length p ≡ at → v < 256 ^ n → leastAt n (p ++ (leastFirst n v ++ rest)) at ≡ v
 least-at n v at p rest e h =
     let z : at ≡ length p + 0 = omega arith in
     ap (leastAt n (p ++ (leastFirst n v ++ rest))) z ∙ least-shift n p (leastFirst n v ++ rest) 0 ∙ least-back n v rest h

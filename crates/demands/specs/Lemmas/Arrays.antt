@@ -86,11 +86,11 @@ updates-eight (some e) h =
 
 -- ---- the answer
 
-pub arrays : (s buffer trim : List ℕ) → Arrays (reading s buffer trim .answer)
+pub arrays : (frame : ℕ) (s buffer trim : List ℕ) → Arrays (reading frame s buffer trim .answer)
 unfolding tables
-arrays s buffer trim = go (case s buffer trim)
+arrays frame s buffer trim = go (case frame s buffer trim)
   where
-    go : Case s buffer trim → Arrays (reading s buffer trim .answer)
+    go : Case frame s buffer trim → Arrays (reading frame s buffer trim .answer)
     go (long l e) = rw e (record { nine = refl; eight = refl })
     go (stopped r pl m l h two eight e) = rw e (record { nine = refl; eight = refl })
     go (full q to pl l h x e) = rw e (record { nine = refl; eight = refl })

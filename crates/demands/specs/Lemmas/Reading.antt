@@ -23,48 +23,48 @@ use Rattle.demands.specs.Lemmas.Numbers.{payload-says}
 
 -- ---- from the reader's answer
 
-pub reading-short : (s buffer trim : List ℕ) → length s ≤ mostBytes → reading s buffer trim ≡ answered buffer trim (parsed s)
+pub reading-short : (frame : ℕ) (s buffer trim : List ℕ) → length s ≤ mostBytes → reading frame s buffer trim ≡ answered frame buffer trim (parsed s)
 unfolding reading
-reading-short s buffer trim l = rw (le-leb (length s) mostBytes l)
+reading-short frame s buffer trim l = rw (le-leb (length s) mostBytes l)
 
-pub reading-long : (s buffer trim : List ℕ) → mostBytes < length s → reading s buffer trim ≡ refused buffer trim (numberOf TooLong) (length s) 0
+pub reading-long : (frame : ℕ) (s buffer trim : List ℕ) → mostBytes < length s → reading frame s buffer trim ≡ refused buffer trim (numberOf TooLong) (length s) 0
 unfolding reading
-reading-long s buffer trim l = rw (lt-leb (length s) mostBytes l)
+reading-long frame s buffer trim l = rw (lt-leb (length s) mostBytes l)
 
-pub reading-ok : (s buffer trim : List ℕ) {q : Payload} {to : ℕ} → length s ≤ mostBytes → parsed s ≡ ok q to
-    → reading s buffer trim ≡ housed buffer trim (tablesOf q) (q .unknown)
-reading-ok s buffer trim l h = reading-short s buffer trim l ∙ ap (answered buffer trim) h
+pub reading-ok : (frame : ℕ) (s buffer trim : List ℕ) {q : Payload} {to : ℕ} → length s ≤ mostBytes → parsed s ≡ ok q to
+    → reading frame s buffer trim ≡ housed frame buffer trim (tablesOf q) (q .unknown)
+reading-ok frame s buffer trim l h = reading-short frame s buffer trim l ∙ ap (answered frame buffer trim) h
 
-pub reading-no : (s buffer trim : List ℕ) {r pl m : ℕ} → length s ≤ mostBytes → parsed s ≡ no r pl m
-    → reading s buffer trim ≡ refused buffer trim r pl (missingOf r m)
-reading-no s buffer trim l h = reading-short s buffer trim l ∙ ap (answered buffer trim) h
+pub reading-no : (frame : ℕ) (s buffer trim : List ℕ) {r pl m : ℕ} → length s ≤ mostBytes → parsed s ≡ no r pl m
+    → reading frame s buffer trim ≡ refused buffer trim r pl (missingOf r m)
+reading-no frame s buffer trim l h = reading-short frame s buffer trim l ∙ ap (answered frame buffer trim) h
 
 -- the bytes that the trim table needs
 abbrev pub trimRoom : Tables → ℕ
 trimRoom t = trimNeeded (t .programme .objects)
 
-pub housed-fits : (buffer trim : List ℕ) (t : Tables) (u : ℕ) → needed t ≤ length buffer → trimRoom t ≤ length trim
-    → housed buffer trim t u ≡ accepted buffer trim t u
+pub housed-fits : (frame : ℕ) (buffer trim : List ℕ) (t : Tables) (u : ℕ) → needed t ≤ length buffer → trimRoom t ≤ length trim
+    → housed frame buffer trim t u ≡ accepted frame buffer trim t u
 unfolding housed
-housed-fits buffer trim t u l m = rw (le-leb (needed t) (length buffer) l, le-leb (trimRoom t) (length trim) m)
+housed-fits frame buffer trim t u l m = rw (le-leb (needed t) (length buffer) l, le-leb (trimRoom t) (length trim) m)
 
-pub housed-lacks : (buffer trim : List ℕ) (t : Tables) (u place : ℕ) → Short buffer trim (needed t) (trimRoom t) place
-    → housed buffer trim t u ≡ refused buffer trim (numberOf Room) place 0
+pub housed-lacks : (frame : ℕ) (buffer trim : List ℕ) (t : Tables) (u place : ℕ) → Short buffer trim (needed t) (trimRoom t) place
+    → housed frame buffer trim t u ≡ refused buffer trim (numberOf Room) place 0
 unfolding housed
-housed-lacks buffer trim t u place (records-short l e) = rw (lt-leb (needed t) (length buffer) l, e)
-housed-lacks buffer trim t u place (trim-short l m e) = rw (le-leb (needed t) (length buffer) l, lt-leb (trimRoom t) (length trim) m, e)
+housed-lacks frame buffer trim t u place (records-short l e) = rw (lt-leb (needed t) (length buffer) l, e)
+housed-lacks frame buffer trim t u place (trim-short l m e) = rw (le-leb (needed t) (length buffer) l, lt-leb (trimRoom t) (length trim) m, e)
 
 -- ---- to the reader's answer: every reading is one of four
 
-pub data Case (s buffer trim : List ℕ) : Type 0 where
-  long : mostBytes < length s → reading s buffer trim ≡ refused buffer trim (numberOf TooLong) (length s) 0 → Case s buffer trim
+pub data Case (frame : ℕ) (s buffer trim : List ℕ) : Type 0 where
+  long : mostBytes < length s → reading frame s buffer trim ≡ refused buffer trim (numberOf TooLong) (length s) 0 → Case frame s buffer trim
   stopped : (r pl m : ℕ) → length s ≤ mostBytes → parsed s ≡ no r pl m → 2 ≤ r → r ≤ 8
-      → reading s buffer trim ≡ refused buffer trim r pl (missingOf r m)
-      → Case s buffer trim
+      → reading frame s buffer trim ≡ refused buffer trim r pl (missingOf r m)
+      → Case frame s buffer trim
   full : (q : Payload) (to pl : ℕ) → length s ≤ mostBytes → parsed s ≡ ok q to → Short buffer trim (needed (tablesOf q)) (trimRoom (tablesOf q)) pl
-      → reading s buffer trim ≡ refused buffer trim (numberOf Room) pl 0 → Case s buffer trim
+      → reading frame s buffer trim ≡ refused buffer trim (numberOf Room) pl 0 → Case frame s buffer trim
   read : (q : Payload) (to : ℕ) → length s ≤ mostBytes → parsed s ≡ ok q to → needed (tablesOf q) ≤ length buffer → trimRoom (tablesOf q) ≤ length trim
-      → reading s buffer trim ≡ accepted buffer trim (tablesOf q) (q .unknown) → Case s buffer trim
+      → reading frame s buffer trim ≡ accepted frame buffer trim (tablesOf q) (q .unknown) → Case frame s buffer trim
 
 -- the reader of payloads refuses with 2 to 8
 pub two-to-eight : (s : List ℕ) {r pl m : ℕ} → parsed s ≡ no r pl m → (2 ≤ r) × (r ≤ 8)
@@ -72,37 +72,37 @@ two-to-eight s h =
     numbered object-audio-metadata-payload (λ r. (2 ≤ r) × (r ≤ 8)) (bit s) 0 (8 * length s) pastPayload
     (payload-says (λ r. (2 ≤ r) × (r ≤ 8)) (omega arith) (omega arith) (omega arith) (omega arith) (omega arith)) (omega arith) (omega arith) h
 
-pub case : (s buffer trim : List ℕ) → Case s buffer trim
-case s buffer trim = by-length (leb (length s) mostBytes) refl
+pub case : (frame : ℕ) (s buffer trim : List ℕ) → Case frame s buffer trim
+case frame s buffer trim = by-length (leb (length s) mostBytes) refl
   where
     lacking : (q : Payload) (to pl : ℕ) → length s ≤ mostBytes → parsed s ≡ ok q to
-        → Short buffer trim (needed (tablesOf q)) (trimRoom (tablesOf q)) pl → Case s buffer trim
-    lacking q to pl l h x = full q to pl l h x (reading-ok s buffer trim l h ∙ housed-lacks buffer trim (tablesOf q) (q .unknown) pl x)
+        → Short buffer trim (needed (tablesOf q)) (trimRoom (tablesOf q)) pl → Case frame s buffer trim
+    lacking q to pl l h x = full q to pl l h x (reading-ok frame s buffer trim l h ∙ housed-lacks frame buffer trim (tablesOf q) (q .unknown) pl x)
 
     by-trim : (q : Payload) (to : ℕ) → length s ≤ mostBytes → parsed s ≡ ok q to → needed (tablesOf q) ≤ length buffer → (x : Bool)
-        → leb (trimRoom (tablesOf q)) (length trim) ≡ x → Case s buffer trim
+        → leb (trimRoom (tablesOf q)) (length trim) ≡ x → Case frame s buffer trim
     by-trim q to l h f true e =
         let g = leb-true (trimRoom (tablesOf q)) (length trim) e in
-        read q to l h f g (reading-ok s buffer trim l h ∙ housed-fits buffer trim (tablesOf q) (q .unknown) f g)
+        read q to l h f g (reading-ok frame s buffer trim l h ∙ housed-fits frame buffer trim (tablesOf q) (q .unknown) f g)
     by-trim q to l h f false e = lacking q to _ l h (trim-short f (leb-false (trimRoom (tablesOf q)) (length trim) e) refl)
 
     by-room : (q : Payload) (to : ℕ) → length s ≤ mostBytes → parsed s ≡ ok q to → (x : Bool) → leb (needed (tablesOf q)) (length buffer) ≡ x
-        → Case s buffer trim
+        → Case frame s buffer trim
     by-room q to l h true e =
         by-trim q to l h (leb-true (needed (tablesOf q)) (length buffer) e) (leb (trimRoom (tablesOf q)) (length trim)) refl
     by-room q to l h false e = lacking q to _ l h (records-short (leb-false (needed (tablesOf q)) (length buffer) e) refl)
 
-    by-run : length s ≤ mostBytes → (x : Res Payload) → parsed s ≡ x → Case s buffer trim
+    by-run : length s ≤ mostBytes → (x : Res Payload) → parsed s ≡ x → Case frame s buffer trim
     by-run l (ok q to) h = by-room q to l h (leb (needed (tablesOf q)) (length buffer)) refl
     by-run l (no r pl m) h =
         let n = two-to-eight s h in
-        stopped r pl m l h (n .0) (n .1) (reading-no s buffer trim l h)
+        stopped r pl m l h (n .0) (n .1) (reading-no frame s buffer trim l h)
 
-    by-length : (x : Bool) → leb (length s) mostBytes ≡ x → Case s buffer trim
+    by-length : (x : Bool) → leb (length s) mostBytes ≡ x → Case frame s buffer trim
     by-length true e = by-run (leb-true (length s) mostBytes e) (parsed s) refl
     by-length false e =
         let f = leb-false (length s) mostBytes e in
-        long f (reading-long s buffer trim f)
+        long f (reading-long frame s buffer trim f)
 
 -- ---- the refusal tells which
 
@@ -110,19 +110,19 @@ pub refusal-of : {o : Outcome} {buffer trim : List ℕ} {r pl m : ℕ} → o ≡
 refusal-of h = ap (λ (o : Outcome). o .answer .refusal) h
 
 -- what an accepted reading rests on
-pub record Read (s buffer trim : List ℕ) : Type 0 where
+pub record Read (frame : ℕ) (s buffer trim : List ℕ) : Type 0 where
   pub short : length s ≤ mostBytes
   pub payload : Payload
   pub to : ℕ
   pub ran : parsed s ≡ ok payload to
   pub fits : needed (tablesOf payload) ≤ length buffer
   pub trim-fits : trimRoom (tablesOf payload) ≤ length trim
-  pub is : reading s buffer trim ≡ accepted buffer trim (tablesOf payload) (payload .unknown)
+  pub is : reading frame s buffer trim ≡ accepted frame buffer trim (tablesOf payload) (payload .unknown)
 
-pub read-of : (s buffer trim : List ℕ) → reading s buffer trim .answer .refusal ≡ 0 → Read s buffer trim
-read-of s buffer trim z = go (case s buffer trim)
+pub read-of : (frame : ℕ) (s buffer trim : List ℕ) → reading frame s buffer trim .answer .refusal ≡ 0 → Read frame s buffer trim
+read-of frame s buffer trim z = go (case frame s buffer trim)
   where
-    go : Case s buffer trim → Read s buffer trim
+    go : Case frame s buffer trim → Read frame s buffer trim
     go (long l h) = absurd (omega (arith, refusal-of h))
     go (stopped r pl m l h low high e) = absurd (omega (arith, refusal-of e))
     go (full q to pl l h x e) = absurd (omega (arith, refusal-of e))

@@ -27,11 +27,12 @@ use Rattle.oamd.specs.ObjectElement.{object-data, ObjectElement, object-element
 use Rattle.oamd.specs.Extended.{obj-div-block, ext-prec-pos-block, noDivergence, noPrecise, Extension, extended-object-element}
 use Rattle.oamd.specs.Trim.{trim-config, noConfig, TrimTable, trim-element, noTrim, trimOf}
 use Rattle.oamd.specs.Meaning.{resolve, firstGain, behindFirst, nothingBefore, scenesFrom, scenesOf, allScenes}
-use Rattle.oamd.specs.Record.{allCarry, plainRecords, extendedRecords, bytesOf}
-use Rattle.oamd.specs.Lengths.{length-bytes}
+use Rattle.oamd.specs.Record.{allCarry, plainRecords, extendedRecords}
+use Rattle.oamd.specs.Time.{timeOf}
+use Rattle.oamd.specs.Lengths.{length-timed}
 use Rattle.oamd.specs.Element.{backToId, Known, there, scenes, isSecond, isEarly, fields, State, passOver, oa-element, oa-element-md, elements}
 use Rattle.oamd.specs.Payload.{Payload, object-audio-metadata-payload, timing, records, tables}
-use Rattle.oamd.specs.Answer.{needed}
+use Rattle.oamd.specs.Answer.{laidRecords, needed}
 use Rattle.demands.specs.Terms.{tablesOf}
 use Rattle.demands.specs.Lemmas.Frame.{bodyAt, endAt, frame-of}
 use Rattle.demands.specs.Lemmas.Elements.{by-kind, fields-of}
@@ -239,11 +240,11 @@ records-sized p (some e) none s = length-plain _ ∙ s
 records-sized p (some e) (some x) s = length-extended _ _ _ (s .1 .0) (s .1 .1) ∙ s .0
 
 -- the bytes of an accepted payload's records are as many as are needed
-pub length-needed : (b : Bits) (at e o : ℕ) {q : Payload} {to : ℕ} → run object-audio-metadata-payload b at e o ≡ ok q to
-    → length (bytesOf (tablesOf q .records)) ≡ needed (tablesOf q)
+pub length-needed : (frame : ℕ) (b : Bits) (at e o : ℕ) {q : Payload} {to : ℕ} → run object-audio-metadata-payload b at e o ≡ ok q to
+    → length (laidRecords frame (tablesOf q)) ≡ needed (tablesOf q)
 unfolding tables Sized
-length-needed b at e o {q} h =
-    length-bytes (tablesOf q .records)
+length-needed frame b at e o {q} h =
+    length-timed (timeOf frame (tablesOf q .timing)) 0 (tablesOf q .records)
     ∙ ap (λ (n : ℕ). recordStride * n) (records-sized (q .programme) (q .known .object) (q .known .extended) (payload-sized b at e o h .0))
 
 -- ---- the trim table

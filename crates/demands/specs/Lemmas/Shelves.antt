@@ -23,12 +23,12 @@ use Rattle.demands.specs.Lemmas.Arrays.{Arrays, arrays}
 
 -- ---- an entry
 
-module _ (store : List ℕ) (start len : ℕ) (records trim : List ℕ) where
-  pub inside-is : start + len ≤ length store → entry store start len records trim ≡ reading (take len (drop start store)) records trim
+module _ (frame : ℕ) (store : List ℕ) (start len : ℕ) (records trim : List ℕ) where
+  pub inside-is : start + len ≤ length store → entry frame store start len records trim ≡ reading frame (take len (drop start store)) records trim
   unfolding entry
   inside-is h = rw (le-leb (start + len) (length store) h) refl
 
-  pub outside-is : length store < start + len → entry store start len records trim ≡ refused records trim (numberOf Outside) start 0
+  pub outside-is : length store < start + len → entry frame store start len records trim ≡ refused records trim (numberOf Outside) start 0
   unfolding entry
   outside-is h = rw (lt-leb (start + len) (length store) h) refl
 
@@ -45,19 +45,19 @@ pub record Kept (slots trims : List ℕ) (o : Outcome) : Type 0 where
   pub trim : length (o .trim) ≡ length trims
   pub answer : length (answerBytesOf (o .answer)) ≡ answerBytes
 
-reading-keeps : (s records trim : List ℕ) → Kept records trim (reading s records trim)
-reading-keeps s records trim =
-    let a = arrays s records trim in
-    let long = length-answer (reading s records trim .answer) (a .nine) (a .eight) in
+reading-keeps : (frame : ℕ) (s records trim : List ℕ) → Kept records trim (reading frame s records trim)
+reading-keeps frame s records trim =
+    let a = arrays frame s records trim in
+    let long = length-answer (reading frame s records trim .answer) (a .nine) (a .eight) in
     ⊎-elim
     (λ x. record { records = fronts-long (x .recorded); trim = fronts-long (x .trimmed); answer = long })
     (λ x. record { records = ap (λ (o : Outcome). length (o .buffer)) (x .outcome); trim = ap (λ (o : Outcome). length (o .trim)) (x .outcome); answer = long })
-    (answers s records trim)
+    (answers frame s records trim)
 
-pub entry-keeps : (store : List ℕ) (start len : ℕ) (records trim : List ℕ) → Kept records trim (entry store start len records trim)
-entry-keeps store start len records trim = by-order (start + len) (length store)
-    (λ h. rw (inside-is store start len records trim h) (reading-keeps (take len (drop start store)) records trim))
-    (λ h. rw (outside-is store start len records trim h)
+pub entry-keeps : (frame : ℕ) (store : List ℕ) (start len : ℕ) (records trim : List ℕ) → Kept records trim (entry frame store start len records trim)
+entry-keeps frame store start len records trim = by-order (start + len) (length store)
+    (λ h. rw (inside-is frame store start len records trim h) (reading-keeps frame (take len (drop start store)) records trim))
+    (λ h. rw (outside-is frame store start len records trim h)
     (record { records = refl; trim = refl; answer = length-answer (refused records trim (numberOf Outside) start 0 .answer) refl refl }))
 
 -- ---- slots
@@ -96,8 +96,9 @@ module _ (store : List ℕ) (recordslot trimslot : ℕ) where
     pub places : n * answerBytes ≤ length (x .answers)
 
   -- entry i of these lists, in its slots as they came
-  abbrev pub ith : List ℕ → List ℕ → Shelf → ℕ → Outcome
-  ith starts lengths x i = entry store (getD starts i 0) (getD lengths i 0) (slot recordslot i (x .records)) (slot trimslot i (x .trims))
+  abbrev pub ith : List ℕ → List ℕ → List ℕ → Shelf → ℕ → Outcome
+  ith starts lengths frames x i =
+      entry (getD frames i 0) store (getD starts i 0) (getD lengths i 0) (slot recordslot i (x .records)) (slot trimslot i (x .trims))
 
   pub record Ith (o : Outcome) (i : ℕ) (y : Shelf) : Type 0 where
     pub place : slot answerBytes i (y .answers) ≡ answerBytesOf (o .answer)
@@ -116,37 +117,38 @@ module _ (store : List ℕ) (recordslot trimslot : ℕ) where
   }
 
   -- the first entry, and how long it leaves its slots and its place
-  first-kept : (start len n : ℕ) (x : Shelf) → Room (suc n) x
-      → Kept (take recordslot (x .records)) (take trimslot (x .trims)) (entry store start len (take recordslot (x .records)) (take trimslot (x .trims)))
-  first-kept start len n x r = entry-keeps store start len (take recordslot (x .records)) (take trimslot (x .trims))
+  first-kept : (frame start len n : ℕ) (x : Shelf) → Room (suc n) x
+      → Kept (take recordslot (x .records)) (take trimslot (x .trims)) (entry frame store start len (take recordslot (x .records)) (take trimslot (x .trims)))
+  first-kept frame start len n x r = entry-keeps frame store start len (take recordslot (x .records)) (take trimslot (x .trims))
 
-  pub entry-stands : (starts lengths : List ℕ) (x : Shelf) (i : ℕ) → length lengths ≡ length starts → Room (length starts) x → i < length starts
-      → Ith (ith starts lengths x i) i (shelved store starts lengths recordslot trimslot x)
+  pub entry-stands : (starts lengths frames : List ℕ) (x : Shelf) (i : ℕ) → length lengths ≡ length starts → length frames ≡ length starts → Room (length starts) x → i < length starts
+      → Ith (ith starts lengths frames x i) i (shelved store starts lengths frames recordslot trimslot x)
   unfolding shelved
-  entry-stands [] lengths x i e r h = absurd (omega arith)
-  entry-stands (a ∷ starts) [] x i e r h = absurd (omega arith)
-  entry-stands (a ∷ starts) (l ∷ lengths) x zero e r h =
-      let o : Outcome = entry store a l (take recordslot (x .records)) (take trimslot (x .trims)) in
-      let k = first-kept a l (length starts) x r in
+  entry-stands [] lengths frames x i e g r h = absurd (omega arith)
+  entry-stands (a ∷ starts) [] frames x i e g r h = absurd (omega arith)
+  entry-stands (a ∷ starts) (l ∷ lengths) [] x i e g r h = absurd (omega arith)
+  entry-stands (a ∷ starts) (l ∷ lengths) (f ∷ frames) x zero e g r h =
+      let o : Outcome = entry f store a l (take recordslot (x .records)) (take trimslot (x .trims)) in
+      let k = first-kept f a l (length starts) x r in
       let rs = length-take-le recordslot (x .records) (first-fits (length starts) recordslot (x .records) (r .records)) in
       let ts = length-take-le trimslot (x .trims) (first-fits (length starts) trimslot (x .trims) (r .trims)) in
-      let behind : Shelf = shelved store starts lengths recordslot trimslot (tail x) in
-      let same : o ≡ ith (a ∷ starts) (l ∷ lengths) x zero =
-      (λ j. entry store a l (sym (slot-first recordslot (x .records)) j) (sym (slot-first trimslot (x .trims)) j)) in
+      let behind : Shelf = shelved store starts lengths frames recordslot trimslot (tail x) in
+      let same : o ≡ ith (a ∷ starts) (l ∷ lengths) (f ∷ frames) x zero =
+      (λ j. entry f store a l (sym (slot-first recordslot (x .records)) j) (sym (slot-first trimslot (x .trims)) j)) in
       record {
         place = take-at (answerBytesOf (o .answer)) (behind .answers) answerBytes (k .answer) ∙ ap (λ (z : Outcome). answerBytesOf (z .answer)) same;
         records = slot-first recordslot _ ∙ take-at (o .buffer) (behind .records) recordslot (k .records ∙ rs) ∙ ap (λ (z : Outcome). z .buffer) same;
         trim = slot-first trimslot _ ∙ take-at (o .trim) (behind .trims) trimslot (k .trim ∙ ts) ∙ ap (λ (z : Outcome). z .trim) same;
       }
-  entry-stands (a ∷ starts) (l ∷ lengths) x (suc i) e r h =
-      let o : Outcome = entry store a l (take recordslot (x .records)) (take trimslot (x .trims)) in
-      let k = first-kept a l (length starts) x r in
+  entry-stands (a ∷ starts) (l ∷ lengths) (f ∷ frames) x (suc i) e g r h =
+      let o : Outcome = entry f store a l (take recordslot (x .records)) (take trimslot (x .trims)) in
+      let k = first-kept f a l (length starts) x r in
       let rs = length-take-le recordslot (x .records) (first-fits (length starts) recordslot (x .records) (r .records)) in
       let ts = length-take-le trimslot (x .trims) (first-fits (length starts) trimslot (x .trims) (r .trims)) in
-      let behind : Shelf = shelved store starts lengths recordslot trimslot (tail x) in
-      let same : ith starts lengths (tail x) i ≡ ith (a ∷ starts) (l ∷ lengths) x (suc i) =
-      (λ j. entry store (getD starts i 0) (getD lengths i 0) (sym (slot-next recordslot i (x .records)) j) (sym (slot-next trimslot i (x .trims)) j)) in
-      let there = entry-stands starts lengths (tail x) i (omega arith) (tail-room (length starts) x r) (omega arith) in
+      let behind : Shelf = shelved store starts lengths frames recordslot trimslot (tail x) in
+      let same : ith starts lengths frames (tail x) i ≡ ith (a ∷ starts) (l ∷ lengths) (f ∷ frames) x (suc i) =
+      (λ j. entry (getD frames i 0) store (getD starts i 0) (getD lengths i 0) (sym (slot-next recordslot i (x .records)) j) (sym (slot-next trimslot i (x .trims)) j)) in
+      let there = entry-stands starts lengths frames (tail x) i (omega arith) (omega arith) (tail-room (length starts) x r) (omega arith) in
       record {
         place = slot-behind answerBytes i (answerBytesOf (o .answer)) (behind .answers) (k .answer) ∙ there .place ∙ ap (λ (z : Outcome). answerBytesOf (z .answer)) same;
         records = slot-behind recordslot i (o .buffer) (behind .records) (k .records ∙ rs) ∙ there .records ∙ ap (λ (z : Outcome). z .buffer) same;
@@ -159,19 +161,20 @@ module _ (store : List ℕ) (recordslot trimslot : ℕ) where
     pub trims : drop (n * trimslot) (y .trims) ≡ drop (n * trimslot) (x .trims)
     pub answers : drop (n * answerBytes) (y .answers) ≡ drop (n * answerBytes) (x .answers)
 
-  pub rest-stays : (starts lengths : List ℕ) (x : Shelf) → length lengths ≡ length starts → Room (length starts) x
-      → Rests (length starts) x (shelved store starts lengths recordslot trimslot x)
+  pub rest-stays : (starts lengths frames : List ℕ) (x : Shelf) → length lengths ≡ length starts → length frames ≡ length starts → Room (length starts) x
+      → Rests (length starts) x (shelved store starts lengths frames recordslot trimslot x)
   unfolding shelved
-  rest-stays [] lengths x e r = record { records = refl; trims = refl; answers = refl }
-  rest-stays (a ∷ starts) [] x e r = absurd (omega arith)
-  rest-stays (a ∷ starts) (l ∷ lengths) x e r =
-      let o : Outcome = entry store a l (take recordslot (x .records)) (take trimslot (x .trims)) in
+  rest-stays [] lengths frames x e g r = record { records = refl; trims = refl; answers = refl }
+  rest-stays (a ∷ starts) [] frames x e g r = absurd (omega arith)
+  rest-stays (a ∷ starts) (l ∷ lengths) [] x e g r = absurd (omega arith)
+  rest-stays (a ∷ starts) (l ∷ lengths) (f ∷ frames) x e g r =
+      let o : Outcome = entry f store a l (take recordslot (x .records)) (take trimslot (x .trims)) in
       let n : ℕ = length starts in
-      let k = first-kept a l n x r in
+      let k = first-kept f a l n x r in
       let rs = length-take-le recordslot (x .records) (first-fits n recordslot (x .records) (r .records)) in
       let ts = length-take-le trimslot (x .trims) (first-fits n trimslot (x .trims) (r .trims)) in
-      let behind : Shelf = shelved store starts lengths recordslot trimslot (tail x) in
-      let there = rest-stays starts lengths (tail x) (omega arith) (tail-room n x r) in
+      let behind : Shelf = shelved store starts lengths frames recordslot trimslot (tail x) in
+      let there = rest-stays starts lengths frames (tail x) (omega arith) (omega arith) (tail-room n x r) in
       record {
         records = drop-behind recordslot n (o .buffer) (behind .records) (k .records ∙ rs) ∙ there .records ∙ sym (drop-next recordslot n (x .records));
         trims = drop-behind trimslot n (o .trim) (behind .trims) (k .trim ∙ ts) ∙ there .trims ∙ sym (drop-next trimslot n (x .trims));

@@ -29,7 +29,9 @@ config-again c tail = refl
 configs-bytes : (s : List ℕ) (n at : ℕ) → at + configBytes * n ≤ length s
     → configsBytesOf (configsAt s n at) ≡ take (configBytes * n) (drop at s)
 unfolding configsBytesOf configsAt
-configs-bytes = entries-bytes configBytes configAt configsAt (λ s at. refl) (λ s n at. refl) configBytesOf configsBytesOf refl (λ x xs. refl) config-bytes
+configs-bytes s n at =
+    entries-bytes configBytes configAt configsAt (λ s at. refl) (λ s n at. refl) (λ i. configBytesOf) (λ i. configsBytesOf) (λ i. refl) (λ i x xs. refl) s n at 0
+    (λ k l. config-bytes s (at + configBytes * k))
 
 configs-shifted : (s : List ℕ) (n a at : ℕ) → configsAt s n (a + at) ≡ configsAt (drop a s) n at
 unfolding configsAt
@@ -37,8 +39,9 @@ configs-shifted = shifted configBytes configAt configsAt (λ s at. refl) (λ s n
 
 configs-again : (cs : List TrimConfig) (tail : List ℕ) → configsAt (configsBytesOf cs ++ tail) (length cs) 0 ≡ cs
 unfolding configsBytesOf configsAt
-configs-again = entries-again configBytes configAt configsAt (λ s at. refl) (λ s n at. refl) configBytesOf configsBytesOf refl (λ x xs. refl) config-shifted
-    config-again (λ c tail. from-first tail)
+configs-again =
+    entries-again configBytes configAt configsAt (λ s at. refl) (λ s n at. refl) (λ i. configBytesOf) (λ i. configsBytesOf) (λ i. refl) (λ i x xs. refl) config-shifted
+    (λ i. config-again) (λ i c tail. from-first tail) 0
 
 pub trim-bytes : (objects : ℕ) (s : List ℕ) → trimNeeded objects ≤ length s → trimBytesOf (trimAt objects s) ≡ take (trimNeeded objects) s
 unfolding trimBytesOf trimAt bytesAt

@@ -3,16 +3,15 @@ use borrow.Author.Needs.{needs}
 use borrow.Author.Tests.{leb-true, not-true, not-false}
 use denote.Ref.{now}
 use mathlib.Core.Bool.{true}
-use mathlib.Core.Path.{_≡_, sym, ap, _∙_}
-use Prim.Native.Nat.{ℕ, _+_, _*_, _≤_}
+use mathlib.Core.Path.{_≡_, sym, ap, ap₂, _∙_}
+use Prim.Native.Nat.{ℕ, _+_, _*_, _≤_, min}
 use native.Mathlib.Omega.{arith}
 use Rattle.bits.specs.declared.Refusal.the-variants.{NotValid}
 use Rattle.bits.specs.Refusals.{numberOf}
 use Rattle.oamd.specs.declared.WriteAnswer.{WriteAnswer}
-use Rattle.oamd.specs.Programme.{shares}
-use Rattle.form.specs.Valid.{programmeValid, timingValid, recordCount, firstBad}
-use Rattle.record.specs.Bytes.{recordsAt}
-use Rattle.form.specs.Answer.{refusedWrite}
+use Rattle.form.specs.Lemmas.Facts.{timing-facts}
+use Rattle.form.specs.Valid.{programmeValid, timingValid, recordCount}
+use Rattle.form.specs.Answer.{refusedWrite, firstRefused}
 use Rattle.form.specs.Lemmas.Tests.{halves}
 use Rattle.form.specs.Lemmas.Facts.{timing-facts, programme-facts, beds-le}
 use Rattle.writer.proofs.Whole.{gives, Accepted, bad-programme, bad-timing, few-bytes, bad-record, bad-trim, good-trim}
@@ -45,9 +44,17 @@ accepted c =
     let programme = timing .before .before in
     record { programme = good-programme programme; timing = good-timing timing; whole = omega (arith, counted (programme .before), c .if3 .left) }
 
-first : (c : tie.After-first-bad) → let a = from-count (c .before) .args in
-    c .first-bad .result ≡ firstBad (shares (a .programme)) (a .timing .blocks) 0 (recordsAt (now (a .records)) (recordCount (a .programme) (a .timing)) 0)
-first c = let found = c .first-bad .ensures in found .0 (accepted (c .before) .whole)
+abbrev to-bytes : tie.After-lesser → tie.Else3
+to-bytes c = c .before .before .before
+
+first : (c : tie.After-lesser) → let a = from-count (to-bytes c) .args in c .lesser .result ≡ firstRefused (a .frame) (a .programme) (a .timing) (now (a .records))
+unfolding firstRefused
+first c =
+    let timed = c .before in
+    let mistimed = timed .first-mistimed .ensures in
+    let bad = timed .before .first-bad .ensures in
+    let given = accepted (to-bytes c) in
+    c .lesser .ensures ∙ ap₂ min (bad .0 (given .whole)) (mistimed .0 (record { few = timing-facts _ (given .timing) .blocks; bytes = given .whole }))
 
 count-there : (c : tie.Else3) → c .before .before .before .before .before .record-count .result ≡ recordCount (from-count c .args .programme) (from-count c .args .timing)
 count-there c = counted (c .before .before .before .before)
@@ -57,7 +64,7 @@ returns c =
     let test = c .before in
     let a = from-programme (test .before) .args in
     ap (λ (r : WriteAnswer). gives r (now (a .payload))) (c .refused .ensures)
-    ∙ bad-programme (a .programme) (a .timing) (now (a .records)) (now (a .trim)) (now (a .payload))
+    ∙ bad-programme (a .frame) (a .programme) (a .timing) (now (a .records)) (now (a .trim)) (now (a .payload))
     (sym (test .before .programme-valid .ensures) ∙ not-true _ (test .if1 .taken))
 
 returns-2 : tie.Need-returns-2
@@ -66,7 +73,7 @@ returns-2 c =
     let timing = test .before in
     let a = from-timing timing .args in
     ap (λ (r : WriteAnswer). gives r (now (a .payload))) (c .refused2 .ensures)
-    ∙ bad-timing (a .programme) (a .timing) (now (a .records)) (now (a .trim)) (now (a .payload)) (good-programme (timing .before))
+    ∙ bad-timing (a .frame) (a .programme) (a .timing) (now (a .records)) (now (a .trim)) (now (a .payload)) (good-programme (timing .before))
     (sym (timing .timing-valid .ensures) ∙ not-true _ (test .if2 .taken))
 
 returns-3 : tie.Need-returns-3
@@ -76,17 +83,17 @@ returns-3 c =
     let programme = timing .before .before in
     let a = from-timing (timing .before) .args in
     ap (λ (r : WriteAnswer). gives r (now (a .payload))) (c .refused3 .ensures)
-    ∙ few-bytes (a .programme) (a .timing) (now (a .records)) (now (a .trim)) (now (a .payload)) (good-programme programme) (good-timing timing)
+    ∙ few-bytes (a .frame) (a .programme) (a .timing) (now (a .records)) (now (a .trim)) (now (a .payload)) (good-programme programme) (good-timing timing)
     (omega (arith, counted (programme .before), test .if3 .taken))
 
 returns-4 : tie.Need-returns-4
 returns-4 c =
     let test = c .before in
     let found = test .before in
-    let bytes = found .before in
+    let bytes = to-bytes found in
     let a = from-count bytes .args in
     ap (λ (r : WriteAnswer). gives r (now (a .payload))) (c .refused4 .ensures)
-    ∙ bad-record (a .programme) (a .timing) (now (a .records)) (now (a .trim)) (now (a .payload)) (accepted bytes) (first found)
+    ∙ bad-record (a .frame) (a .programme) (a .timing) (now (a .records)) (now (a .trim)) (now (a .payload)) (accepted bytes) (first found)
     (omega (arith, count-there bytes, test .if4 .taken))
 
 returns-5 : tie.Need-returns-5
@@ -95,17 +102,17 @@ returns-5 c =
     let trim = test .before in
     let records = trim .before in
     let found = records .before in
-    let bytes = found .before in
+    let bytes = to-bytes found in
     let a = from-count bytes .args in
     ap (λ (r : WriteAnswer). gives r (now (a .payload))) (c .refused5 .ensures ∙ ap (λ (k : ℕ). refusedWrite (numberOf NotValid) (1 + k)) (count-there bytes))
-    ∙ bad-trim (a .programme) (a .timing) (now (a .records)) (now (a .trim)) (now (a .payload)) (accepted bytes) (first found)
+    ∙ bad-trim (a .frame) (a .programme) (a .timing) (now (a .records)) (now (a .trim)) (now (a .payload)) (accepted bytes) (first found)
     (omega (arith, count-there bytes, records .if4 .left)) (sym (trim .trim-valid .ensures) ∙ not-true _ (test .if5 .taken))
 
 write-form-requires : tie.Need-write-form-requires
 write-form-requires c κs =
     let test = c .before in
     let trim = test .before in
-    let bytes = trim .before .before .before in
+    let bytes = to-bytes (trim .before .before) in
     let a = from-count bytes .args in
     let tables = accepted bytes in
     let facts = programme-facts (a .programme) (tables .programme) in
@@ -123,10 +130,10 @@ returns-6 c =
     let trim = test .before in
     let records = trim .before in
     let found = records .before in
-    let bytes = found .before in
+    let bytes = to-bytes found in
     let a = from-count bytes .args in
     all .write-form .ensures
-    ∙ good-trim (a .programme) (a .timing) (now (a .records)) (now (a .trim)) (now (a .payload)) (accepted bytes) (first found)
+    ∙ good-trim (a .frame) (a .programme) (a .timing) (now (a .records)) (now (a .trim)) (now (a .payload)) (accepted bytes) (first found)
     (omega (arith, count-there bytes, records .if4 .left)) (sym (trim .trim-valid .ensures) ∙ not-false _ (test .if5 .left))
 
 pub write-spec : {M : Type 1} → statement M
@@ -143,6 +150,8 @@ write-spec =
     (λ c. search needs)
     (λ c κs. search needs)
     returns-3
+    (λ c κs. search needs)
+    (λ c κs. search needs)
     (λ c κs. search needs)
     (λ c. search needs)
     (λ c κs. search needs)

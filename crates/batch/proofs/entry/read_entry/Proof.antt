@@ -10,19 +10,19 @@ use Rattle.batch.proofs.entry.read_entry.Tie as tie
 returns : tie.Need-returns
 returns c =
     let call = c .before .before .before .before in
-    call .outside .ensures ∙ sym (leaves _ _ _ _ _ (omega arith))
+    call .outside .ensures ∙ sym (leaves _ _ _ _ _ _ (omega arith))
 
 returns-2 : tie.Need-returns-2
 returns-2 c =
     let call = c .before .before .before .before in
-    call .outside2 .ensures ∙ sym (leaves _ _ _ _ _ (omega arith))
+    call .outside2 .ensures ∙ sym (leaves _ _ _ _ _ _ (omega arith))
 
 returns-3 : tie.Need-returns-3
 returns-3 c =
     let call = c .before .before .before .before in
     let fits = call .before .before .before .before in
     let a = fits .before .before .before .before .before .args in
-    call .read .ensures ∙ sym (inside _ (a .start) (a .len) _ _ (a .start + a .len - a .start) (omega arith) (omega arith))
+    call .read .ensures ∙ sym (inside _ _ (a .start) (a .len) _ _ (a .start + a .len - a .start) (omega arith) (omega arith))
 
 pub read-entry-spec : {M : Type 1} → statement M
 read-entry-spec =

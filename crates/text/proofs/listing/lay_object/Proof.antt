@@ -8,7 +8,7 @@ use borrow.Author.Needs.{needs}
 use denote.Ref.{now}
 use lib.ListN.{take, drop}
 use Rattle.bits.specs.Language.{from as numbers}
-use Rattle.oamd.specs.Tables.{recordBytes, recordStride}
+use Rattle.oamd.specs.Tables.{recordStride}
 use Rattle.text.specs.Lines.{texts}
 use Rattle.text.specs.Listing.{recordLine, recordAt, objectLines}
 use Rattle.text.proofs.LayLaws.{laid-is, Rest, rest-start, rest-step, rest-end}
@@ -40,7 +40,7 @@ loop-again c =
       omega arith,
       omega arith,
       rest-step _ _ (count-more (lineOf (a .object) (a .blocks) (now (a .records))) (a .blocks) (h .loop .blk) (omega arith)) (h .loop .inv .3)
-          (laid-is (ap (λ (p : ℕ). recordLine (a .object) (h .loop .blk) (take recordBytes (drop p (now (a .records))))) at) (c .before .before .lay-record .ensures)),
+          (laid-is (ap (λ (p : ℕ). recordLine (a .object) (h .loop .blk) (take recordStride (drop p (now (a .records))))) at) (c .before .before .lay-record .ensures)),
     )
 
 returns : tie.Need-returns Inv-loop μ-loop

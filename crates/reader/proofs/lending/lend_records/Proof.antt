@@ -1,0 +1,77 @@
+-- `lend_records` meets its contract (`LendingLoop.antt`). Assumes nothing.
+use Prim.Native.Nat.{_+_, _-_, _<_, _≤_}
+use native.Mathlib.Omega.{arith}
+use lib.ListN.{length}
+use Rattle.oamd.specs.Tables.{mostBlocks, recordBytes, recordStride, scratchBytes}
+use Rattle.reader.proofs.LendingLoop.{Going, set-out, block-there, go-on, arrive}
+use borrow.Author.Needs.{needs}
+use Rattle.reader.proofs.lending.lend_records.Statement.{statement}
+use Rattle.reader.proofs.lending.lend_records.Tie as tie
+
+abbrev Inv-loop : tie.InvT-loop
+Inv-loop scratch count frame records₀ updates blocks from₀ at₀ blk₀ i₀ records from at blk i =
+    Going count frame (record { blocks = blocks; updates = updates }) scratch records₀ from at blk i records
+
+abbrev μ-loop : tie.MeasureT-loop
+μ-loop scratch count frame records₀ updates blocks from₀ at₀ blk₀ i₀ records from at blk i = count - i
+
+-- ---- the places of a turn, each from the one behind it
+
+abbrev head : tie.In-loop Inv-loop μ-loop → tie.At-loop Inv-loop μ-loop
+head c = c .before
+
+abbrev asked : tie.At-loop Inv-loop μ-loop → tie.Start Inv-loop μ-loop
+asked c = c .before .before .before .before
+
+abbrev inside : tie.After-copy-record Inv-loop μ-loop → tie.In-loop Inv-loop μ-loop
+inside c = c .before .before
+
+abbrev copied : tie.After-time-of Inv-loop μ-loop → tie.After-copy-record Inv-loop μ-loop
+copied c = c .before .before .before .before .before
+
+-- ---- the record fits
+
+taken : (c : tie.In-loop Inv-loop μ-loop) → head c .loop .from + recordBytes ≤ scratchBytes
+taken c = omega (arith, head c .loop .inv .taken, asked (head c) .pre .stand)
+
+fits : (c : tie.In-loop Inv-loop μ-loop) → head c .loop .at + recordStride ≤ length (head c .loop .records)
+fits c = omega (arith, head c .loop .inv .place, head c .loop .inv .same, asked (head c) .pre .room)
+
+-- and its block is one of eight
+block : (c : tie.In-loop Inv-loop μ-loop) → head c .loop .blk < mostBlocks
+block c =
+    let given = asked (head c) .pre in
+    let few = given .little in
+    omega (arith, block-there (head c .loop .inv) (omega arith) (given .few))
+
+loop-again : tie.Need-loop-again Inv-loop μ-loop
+loop-again c =
+    let stored = c .before .before .before in
+    let timed = stored .before in
+    let copy = copied timed in
+    let top = head (inside copy) in
+    let given = asked top .pre in
+    go-on (top .loop .inv) (omega arith) (given .few) (given .stand) (given .size) (given .room) (copy .copy-record .ensures) (timed .time-of .ensures)
+    (stored .store-time .ensures) (c .next-block .ensures)
+
+pub lend-records-spec : {M : Type 1} → statement M
+lend-records-spec =
+    tie.close
+    (tie.spec
+    Inv-loop
+    μ-loop
+    (λ c. search needs)
+    (λ c. set-out)
+    (λ c κs. ((taken (c .before), asked (head (c .before)) .pre .size), fits (c .before)))
+    (λ c. record { fits = omega (arith, block (inside (c .before .before))) })
+    (λ c. omega (arith, block (inside (c .before .before))))
+    (λ c κs. search needs)
+    (λ c κs. omega (arith, fits (inside (copied c))))
+    (λ c. omega (arith, taken (inside (copied (c .before .before .before)))))
+    (λ c. omega (arith, fits (inside (copied (c .before .before .before)))))
+    (λ c κs. search needs)
+    (λ c. search needs)
+    (λ c. search needs)
+    loop-again
+    (λ c. c .before .loop .inv .same)
+    (λ c. arrive (c .before .loop .inv) (omega arith)))
