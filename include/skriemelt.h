@@ -18,7 +18,7 @@
  * accepted read writes the first 32 * objects * blocks bytes of the record buffer, the first 94 + objects bytes of the trim buffer, and no others; an accepted write writes the first
  * `length` bytes of its buffer and no others. What a batch writes is said at its call. A summary is lent nothing; refused, all its counters are 0.
  *
- * Threads. Every call works on its arguments and its own stack alone (a read: about 32 kB, a batch: about 35 kB, a summary: about 85 kB, a write: about 1 kB, a listing: about 75 kB). Calls may run at once in
+ * Threads. Every call works on its arguments and its own stack alone (a read: about 32 kB, a batch: about 35 kB, a summary: about 75 kB, a write: about 1 kB, a listing: about 75 kB). Calls may run at once in
  * several threads, as long as no two are lent the same buffer to be filled. What a call only looks at (read: the payload, batch and summary: the store and the lists, write: the
  * records and the trim table, listing: the payload) may be shared.
  *
@@ -364,7 +364,7 @@ skriemelt_batch_answer skriemelt_read_batch(const uint8_t *store, size_t store_b
  * SKRIEMELT_LISTS with place n: lengths_count is not n; then SKRIEMELT_TOO_MANY with place n: n is above SKRIEMELT_MOST_ENTRIES. Then nothing is read. n may be 0. A longer segment is summarised in
  * parts, whose counters are added up: in 64 bits, since the sums of several parts may pass 32.
  *
- * The records are laid on the call's own stack, which takes about 85 kB: more than a small thread may have.
+ * The records are laid on the call's own stack, which takes about 75 kB: more than a small thread may have.
  */
 SKRIEMELT_MUST_USE
 skriemelt_summary skriemelt_summarise(const uint8_t *store, size_t store_bytes, const uint64_t *starts, size_t starts_count, const uint64_t *lengths, size_t lengths_count);
