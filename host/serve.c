@@ -8,6 +8,7 @@
  *   request r, payload, frame, record buffer, trim buffer      answer: place, refusal, unknown, programme, timing, missing, the bytes of both buffers
  *   request b, store, starts, lengths, frames, both slot lengths (8 bytes each), buffers of records, trim tables and answers
  *                                                              answer: place, refusal, the bytes of the three buffers
+ *   request s, store, starts, lengths                          answer: place, refusal, all counters
  *   request w, programme, timing, frame, records, trim, buffer answer: place, length, refusal, the bytes of the buffer
  * A buffer is sent as it is lent and answered whole. It is lent at an address that leaves the remainder `skew` by 16, with canaries around it.
  * Exit status: 0 at the end of the input; 1 for a request that is not one, or a call that changed a canary or what it may only look at.
@@ -19,7 +20,7 @@
 #include <string.h>
 
 #define MOST 1048576
-#define MOST_NUMBERS 4096
+#define MOST_NUMBERS 65552 /* more than a summary takes */
 #define SIDE 64
 #define CANARY 0x5C
 
@@ -307,6 +308,39 @@ static void serve_batch(void)
     put_lent(&answers);
 }
 
+static void put_counters(const uint32_t *counters, size_t count)
+{
+    size_t i;
+
+    for (i = 0; i < count; i++)
+        put(counters[i], 4);
+}
+
+static void serve_summary(void)
+{
+    static given store;
+    static list starts, lengths;
+    skriemelt_summary a;
+
+    get_given(&store);
+    get_list(&starts);
+    get_list(&lengths);
+    a = skriemelt_summarise(store.bytes, store.length, starts.numbers, starts.length, lengths.numbers, lengths.length);
+    hold_given(&store);
+    hold_list(&starts);
+    hold_list(&lengths);
+    put(a.place, 8);
+    put(a.refusal, 1);
+    put(a.records, 4);
+    put_counters(a.gains, SKRIEMELT_GAINS);
+    put_counters(a.zones, SKRIEMELT_ZONES);
+    put_counters(a.classes, SKRIEMELT_CLASSES);
+    put_counters(a.activity, SKRIEMELT_ACTIVITIES);
+    put(a.late, 4);
+    put(a.ramps, 4);
+    put_counters(a.payloads, SKRIEMELT_PAYLOAD_ANSWERS);
+}
+
 static void serve_write(void)
 {
     static given records, trim;
@@ -342,6 +376,8 @@ int main(void)
             serve_read();
         else if (request == 'b')
             serve_batch();
+        else if (request == 's')
+            serve_summary();
         else if (request == 'w')
             serve_write();
         else

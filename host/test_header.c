@@ -9,7 +9,7 @@ static int near(double a, double b)
 /* Each refusal has a sentence of its own; a number that is none has one too. */
 static void sentences(void)
 {
-    static const unsigned refusals[] = {0, 1, 2, 3, 4, 5, 6, 7, 8, 9, 10, 11, 12, 13, 18};
+    static const unsigned refusals[] = {0, 1, 2, 3, 4, 5, 6, 7, 8, 9, 10, 11, 12, 13, 16, 18};
     const size_t count = sizeof refusals / sizeof refusals[0];
     size_t i, j;
 
@@ -40,6 +40,7 @@ static int is_refused(uint8_t number)
     case SKRIEMELT_NO_FIT:
     case SKRIEMELT_OUTSIDE:
     case SKRIEMELT_LISTS:
+    case SKRIEMELT_TOO_MANY:
     case SKRIEMELT_SHORT_TEXT:
         return 1;
     }
@@ -161,14 +162,14 @@ static void counts(void)
 int main(void)
 {
     sentences();
-    check(is_refused(0) == 0 && is_refused(18) == 1 && is_refused(14) == -1, "a switch over the enum");
+    check(is_refused(0) == 0 && is_refused(16) == 1 && is_refused(18) == 1 && is_refused(14) == -1, "a switch over the enum");
     places();
     numbers();
     times();
     channels();
     counts();
     check(SKRIEMELT_VERSION == 1000 * SKRIEMELT_VERSION_MAJOR + SKRIEMELT_VERSION_MINOR, "the version's parts");
-    check(strcmp(SKRIEMELT_VERSION_STRING, "3.0") == 0, "the version's text");
+    check(strcmp(SKRIEMELT_VERSION_STRING, "3.1") == 0, "the version's text");
 #ifndef SKRIEMELT_TOO_LONG
     check(0, "the names are macros too");
 #endif

@@ -14,6 +14,7 @@ static void sizes(void)
     SIZE(skriemelt_write_answer, 16);
     SIZE(skriemelt_batch_answer, 16);
     SIZE(skriemelt_text_answer, 16);
+    SIZE(skriemelt_summary, 384);
 }
 
 static void offsets(void)
@@ -50,6 +51,16 @@ static void offsets(void)
     AT(skriemelt_text_answer, place, 0);
     AT(skriemelt_text_answer, length, 8);
     AT(skriemelt_text_answer, refusal, 12);
+    AT(skriemelt_summary, place, 0);
+    AT(skriemelt_summary, refusal, 8);
+    AT(skriemelt_summary, records, 12);
+    AT(skriemelt_summary, gains, 16);
+    AT(skriemelt_summary, zones, 280);
+    AT(skriemelt_summary, classes, 304);
+    AT(skriemelt_summary, activity, 316);
+    AT(skriemelt_summary, late, 324);
+    AT(skriemelt_summary, ramps, 328);
+    AT(skriemelt_summary, payloads, 332);
 }
 
 int main(void)
@@ -65,6 +76,8 @@ int main(void)
     check(SKRIEMELT_TRIM_CONFIG_STRIDE == SKRIEMELT_TRIM_CONFIG_AMOUNT_LIS + 1, "a configuration ends with the amount of the listener plane");
     check(SKRIEMELT_TRIM_PER_OBJECT == SKRIEMELT_TRIM_CONFIG + SKRIEMELT_TRIM_CONFIG_STRIDE * SKRIEMELT_TRIM_CONFIGS, "nine configurations");
     check(SKRIEMELT_TRIM_FIXED == SKRIEMELT_TRIM_PER_OBJECT + 1, "the flags of the objects are last");
+    check(SKRIEMELT_CLASSES == SKRIEMELT_CLASS_DYNAMIC + 1, "a summary counts every class");
+    check(SKRIEMELT_PAYLOAD_ANSWERS == SKRIEMELT_OUTSIDE + 1, "a summary counts every answer of a payload");
     check(SKRIEMELT_MOST_TRIM_BYTES == SKRIEMELT_TRIM_FIXED + SKRIEMELT_MOST_OBJECTS, "the longest trim table");
     return finish("test_layout");
 }

@@ -8,7 +8,7 @@
  *
  * Slices. A slice is passed as two arguments: a pointer to its first byte, and its length in bytes. A pointer with length 0 may be NULL. A pointer with a
  * length above 0 must point to that many bytes; it needs no alignment. Bytes of every sort are fine in a payload, in records and in a trim table, and every
- * length is fine for them. What a call fills must not overlap any other slice of that call. The lists of a batch are slices of numbers: their length is a
+ * length is fine for them. What a call fills must not overlap any other slice of that call. The lists of a batch or summary are slices of numbers: their length is a
  * count, and they are aligned as arrays of their numbers are.
  *
  * Tables. The programme and the timing are passed and answered by value. Values of every sort are fine in them.
@@ -16,10 +16,10 @@
  * Refusals. A refused call leaves every byte of its lent buffers (read: the records and the trim table, batch: these of all entries and the answers, write:
  * the payload, listing: the text) as it came, and all fields of its answer but refusal and place, and with SKRIEMELT_PAST_PAYLOAD the missing bits, are 0. An
  * accepted read writes the first 32 * objects * blocks bytes of the record buffer, the first 94 + objects bytes of the trim buffer, and no others; an accepted write writes the first
- * `length` bytes of its buffer and no others. What a batch writes is said at its call.
+ * `length` bytes of its buffer and no others. What a batch writes is said at its call. A summary is lent nothing; refused, all its counters are 0.
  *
- * Threads. Every call works on its arguments and its own stack alone (a read: about 32 kB, a batch: about 35 kB, a write: about 1 kB, a listing: about 75 kB). Calls may run at once in
- * several threads, as long as no two are lent the same buffer to be filled. What a call only looks at (read: the payload, batch: the store and the lists, write: the
+ * Threads. Every call works on its arguments and its own stack alone (a read: about 32 kB, a batch: about 35 kB, a summary: about 75 kB, a write: about 1 kB, a listing: about 75 kB). Calls may run at once in
+ * several threads, as long as no two are lent the same buffer to be filled. What a call only looks at (read: the payload, batch and summary: the store and the lists, write: the
  * records and the trim table, listing: the payload) may be shared.
  *
  * There and back. A payload that is read and written again may have other bytes: the written form is the one form of the tables, and what is not in the tables
@@ -43,10 +43,10 @@ extern "C" {
 #endif
 
 /* The version of this interface: a thousand times the major number, plus the minor. A program built for a lower minor number of the same major one still works. */
-#define SKRIEMELT_VERSION 3000
+#define SKRIEMELT_VERSION 3001
 #define SKRIEMELT_VERSION_MAJOR 3
-#define SKRIEMELT_VERSION_MINOR 0
-#define SKRIEMELT_VERSION_STRING "3.0"
+#define SKRIEMELT_VERSION_MINOR 1
+#define SKRIEMELT_VERSION_STRING "3.1"
 
 /* A result that must not be dropped: the refusal stands in it. */
 #if defined(__GNUC__)
@@ -75,14 +75,15 @@ extern "C" {
 #define SKRIEMELT_MOST_BEDS 9
 #define SKRIEMELT_MOST_UNKNOWN 46
 #define SKRIEMELT_MOST_TEXT_BYTES 100000  /* the listing of every payload fits */
+#define SKRIEMELT_MOST_ENTRIES 65536      /* payloads of a summary; more are refused with 16. A batch may have any number */
 
 /* Samples of a frame. A block may start past its end: that start is not folded into the next frame. */
 #define SKRIEMELT_FRAME_SAMPLES 1536
 
 /*
  * Refusals. Where it says "bit", the place is a bit position counted from 0 at the top bit of the payload's first byte. A read is refused with 1 to 9, a write with
- * 10 or 11; 10 comes first. An entry of a batch is refused with 12 or as a read is, 12 first; a whole batch with 13; a listing with 18. The numbers between are not
- * given. `switch ((skriemelt_refusal)answer.refusal)` lets the compiler say which case is missing.
+ * 10 or 11; 10 comes first. An entry of a batch is refused with 12 or as a read is, 12 first; a whole batch with 13; a summary with 13 or 16, 13 first; a listing with
+ * 18. The numbers between are not given. `switch ((skriemelt_refusal)answer.refusal)` lets the compiler say which case is missing.
  */
 typedef enum skriemelt_refusal {
     SKRIEMELT_ACCEPTED = 0,        /* place 0 */
@@ -100,7 +101,8 @@ typedef enum skriemelt_refusal {
                                       the first bad one; the trim table or too few bytes of it, place: 1 + number of records */
     SKRIEMELT_NO_FIT = 11,         /* the form is longer than the payload buffer or 4,096 bytes; place: bytes needed */
     SKRIEMELT_OUTSIDE = 12,        /* start and length leave the store; place: the start, in bytes */
-    SKRIEMELT_LISTS = 13,          /* the lists differ in length, or slots or answers of all entries do not fit; place: the number of starts */
+    SKRIEMELT_LISTS = 13,          /* the lists differ in length, or, in a batch, slots or answers of all entries do not fit; place: the number of starts */
+    SKRIEMELT_TOO_MANY = 16,       /* a summary of more than 65,536 payloads; place: their number */
     SKRIEMELT_SHORT_TEXT = 18      /* the text is longer than the text buffer; place: bytes needed */
 } skriemelt_refusal;
 
@@ -119,6 +121,7 @@ typedef enum skriemelt_refusal {
 #define SKRIEMELT_NO_FIT SKRIEMELT_NO_FIT
 #define SKRIEMELT_OUTSIDE SKRIEMELT_OUTSIDE
 #define SKRIEMELT_LISTS SKRIEMELT_LISTS
+#define SKRIEMELT_TOO_MANY SKRIEMELT_TOO_MANY
 #define SKRIEMELT_SHORT_TEXT SKRIEMELT_SHORT_TEXT
 
 /*
@@ -277,6 +280,31 @@ typedef struct skriemelt_text_answer {
     uint8_t refusal; /* SKRIEMELT_ACCEPTED, whether or not the payload was accepted, or SKRIEMELT_SHORT_TEXT */
 } skriemelt_text_answer;
 
+/* How many counters a summary has of each sort: one for each value that the byte of a record can have, and for each answer that a payload can have. */
+#define SKRIEMELT_GAINS 66
+#define SKRIEMELT_ZONES 6
+#define SKRIEMELT_CLASSES 3
+#define SKRIEMELT_ACTIVITIES 2
+#define SKRIEMELT_PAYLOAD_ANSWERS 13
+
+/*
+ * What a summary answers. All but payloads counts over the accepted payloads alone. Every record counts once among the gains, zones, classes and activities, an inactive one with its
+ * defaults (gain 0, zone 0), one of a bed or ISF object with zone 0, so each of these four adds up to records; payloads adds up to the number of payloads. No counter wraps around. On a
+ * refusal all but refusal and place is 0.
+ */
+typedef struct skriemelt_summary {
+    uint64_t place;                               /* see the refusals above */
+    uint8_t refusal;                              /* SKRIEMELT_ACCEPTED, whatever the payloads were answered, SKRIEMELT_LISTS or SKRIEMELT_TOO_MANY */
+    uint32_t records;                             /* records: objects * blocks of each payload */
+    uint32_t gains[SKRIEMELT_GAINS];              /* records by SKRIEMELT_RECORD_GAIN: 0 is minus infinity, k from 1 on is k - 50 dB */
+    uint32_t zones[SKRIEMELT_ZONES];              /* records by SKRIEMELT_RECORD_ZONE */
+    uint32_t classes[SKRIEMELT_CLASSES];          /* records by SKRIEMELT_RECORD_CLASS */
+    uint32_t activity[SKRIEMELT_ACTIVITIES];      /* records by SKRIEMELT_RECORD_ACTIVE: 0 not active, 1 active */
+    uint32_t late;                                /* blocks that start past sample 1,535, the last of their frame; a block counts once, however many objects there are */
+    uint32_t ramps;                               /* the sum of the ramps of all blocks, in samples; likewise */
+    uint32_t payloads[SKRIEMELT_PAYLOAD_ANSWERS]; /* payloads by refusal, 0 the accepted ones; 9, 10 and 11 stay 0, since there is always room */
+} skriemelt_summary;
+
 SKRIEMELT_HAS_SIZE(skriemelt_bed, 8);
 SKRIEMELT_HAS_SIZE(skriemelt_programme, 84);
 SKRIEMELT_HAS_SIZE(skriemelt_update, 4);
@@ -285,6 +313,7 @@ SKRIEMELT_HAS_SIZE(skriemelt_read_answer, 136);
 SKRIEMELT_HAS_SIZE(skriemelt_write_answer, 16);
 SKRIEMELT_HAS_SIZE(skriemelt_batch_answer, 16);
 SKRIEMELT_HAS_SIZE(skriemelt_text_answer, 16);
+SKRIEMELT_HAS_SIZE(skriemelt_summary, 384);
 
 /* The version of the library; it equals SKRIEMELT_VERSION of the header that belongs to it. */
 SKRIEMELT_MUST_USE
@@ -326,6 +355,19 @@ skriemelt_batch_answer skriemelt_read_batch(const uint8_t *store, size_t store_b
                                             size_t lengths_count, const uint32_t *frames, size_t frames_count, size_t record_slot, size_t trim_slot,
                                             uint8_t *records, size_t records_bytes, uint8_t *trims, size_t trims_bytes,
                                             skriemelt_read_answer *answers, size_t answers_bytes);
+
+/*
+ * Summarises a segment of payloads, n = starts_count of them, given as in a batch: payload i is bytes starts[i] to starts[i] + lengths[i] - 1 of the store. What is counted is what skriemelt_read
+ * gives for each by itself, with room enough; nothing of it depends on a frame. Payloads may overlap, repeat and stand in any order. A start and length that leave the store count as
+ * SKRIEMELT_OUTSIDE. Every input is answered: there is nothing to check beforehand.
+ *
+ * SKRIEMELT_LISTS with place n: lengths_count is not n; then SKRIEMELT_TOO_MANY with place n: n is above SKRIEMELT_MOST_ENTRIES. Then nothing is read. n may be 0. A longer segment is summarised in
+ * parts, whose counters are added up: in 64 bits, since the sums of several parts may pass 32.
+ *
+ * The records are laid on the call's own stack, which takes about 75 kB: more than a small thread may have.
+ */
+SKRIEMELT_MUST_USE
+skriemelt_summary skriemelt_summarise(const uint8_t *store, size_t store_bytes, const uint64_t *starts, size_t starts_count, const uint64_t *lengths, size_t lengths_count);
 
 /*
  * Writes the payload of a programme, a timing, SKRIEMELT_RECORD_STRIDE * objects * blocks bytes of records and SKRIEMELT_TRIM_FIXED + objects bytes of a trim table:
@@ -378,7 +420,8 @@ SKRIEMELT_INLINE const char *skriemelt_refusal_text(unsigned refusal)
     case SKRIEMELT_NOT_VALID: return "the programme, the timing, a record, its time or the trim table is not valid";
     case SKRIEMELT_NO_FIT: return "the written form is longer than its buffer or than 4,096 bytes";
     case SKRIEMELT_OUTSIDE: return "the payload does not lie within the store";
-    case SKRIEMELT_LISTS: return "the lists of a batch differ in length, or its slots or answers do not fit their buffers";
+    case SKRIEMELT_LISTS: return "the lists differ in length, or the slots or answers of a batch do not fit their buffers";
+    case SKRIEMELT_TOO_MANY: return "there are more than 65,536 payloads";
     case SKRIEMELT_SHORT_TEXT: return "the text is longer than its buffer";
     }
     return "no refusal of this library";

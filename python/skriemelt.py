@@ -12,6 +12,8 @@
     print(record.time)                                    # 7 * 1,536 + the start of block 0, in samples
     payload = skriemelt.write(tables)                     # the one form that the tables have
     answers = skriemelt.read_batch(store, [(0, 45), (45, 12)], frames=[7, 8])  # Tables or Refused, in order
+    summary = skriemelt.summarise(store, [(0, 45), (45, 12)])  # counts over all of them
+    print(summary.gains_db[0.0], summary.by_zone[skriemelt.Zone.ALL], summary.active, summary.refused)
 
 Fields hold the numbers of include/skriemelt.h under its names, so that nothing is lost between a read and a write; properties say what they mean. Objects
 are frozen: `dataclasses.replace` gives changed ones. What the library reads is proved; this module hands it bytes and names what it answers.
@@ -35,16 +37,16 @@ import itertools
 import operator
 import os
 from dataclasses import astuple, dataclass, field, fields, replace
-from typing import Any, Iterable, Iterator, List, Optional, Sequence, Tuple, Union
+from typing import Any, Dict, Iterable, Iterator, List, Optional, Sequence, Tuple, Union
 
 __all__ = [
-    "Bed", "Content", "FRAME_SAMPLES", "INTERFACE", "Library", "LibraryError", "MOST_BEDS", "MOST_BLOCKS", "MOST_OBJECTS", "MOST_PAYLOAD_BYTES",
+    "Bed", "Content", "FRAME_SAMPLES", "INTERFACE", "Library", "LibraryError", "MOST_BEDS", "MOST_BLOCKS", "MOST_ENTRIES", "MOST_OBJECTS", "MOST_PAYLOAD_BYTES",
     "MOST_RECORD_BYTES", "MOST_TEXT_BYTES", "MOST_TRIM_BYTES", "MOST_UNKNOWN", "ObjectClass", "Programme", "RECORD_BYTES", "RECORD_STRIDE", "RECORD_TIME",
-    "Record", "Refusal", "Refused", "TRIM_CONFIGS", "TRIM_CONFIG_STRIDE", "TRIM_FIXED", "Tables", "Timing", "Trim", "TrimCarried", "TrimConfig", "TrimMode", "Update", "Zone", "default_library",
-    "list_text", "read", "read_batch", "write",
+    "Record", "Refusal", "Refused", "Summary", "TRIM_CONFIGS", "TRIM_CONFIG_STRIDE", "TRIM_FIXED", "Tables", "Timing", "Trim", "TrimCarried", "TrimConfig", "TrimMode", "Update", "Zone", "default_library",
+    "list_text", "read", "read_batch", "summarise", "write",
 ]
 
-INTERFACE = 3000  # the version of the C interface that is needed: a thousand times the major number, plus the minor
+INTERFACE = 3001  # the version of the C interface that is needed: a thousand times the major number, plus the minor
 
 MOST_PAYLOAD_BYTES = 4096
 MOST_RECORD_BYTES = 40960
@@ -54,6 +56,7 @@ MOST_BLOCKS = 8
 MOST_BEDS = 9
 MOST_UNKNOWN = 46
 MOST_TEXT_BYTES = 100000  # the listing of every payload fits
+MOST_ENTRIES = 65536  # payloads of a summary
 FRAME_SAMPLES = 1536  # samples of a frame
 RECORD_STRIDE = 32  # bytes of a record: those that the payload gives, and its time
 RECORD_BYTES = 24
@@ -94,6 +97,7 @@ class Refusal(enum.IntEnum):
     NO_FIT = 11
     OUTSIDE = 12
     LISTS = 13
+    TOO_MANY = 16
     SHORT_TEXT = 18
 
 
@@ -157,7 +161,8 @@ _MEANINGS = {
     Refusal.NOT_VALID: ("the tables are not valid", "0 for programme, timing or too few records, 1 + the index of the first bad record, 1 + the number of records for trim"),
     Refusal.NO_FIT: ("the form is longer than its room or than 4,096 bytes", "the bytes needed"),
     Refusal.OUTSIDE: ("start and length leave the store", "the start in bytes"),
-    Refusal.LISTS: ("the lists of a batch differ in length, or its slots or answers do not fit", "the number of starts"),
+    Refusal.LISTS: ("the lists differ in length, or the slots or answers of a batch do not fit", "the number of starts"),
+    Refusal.TOO_MANY: ("there are more than 65,536 payloads", "their number"),
     Refusal.SHORT_TEXT: ("the text is longer than its room", "the bytes needed"),
 }
 
@@ -560,6 +565,89 @@ def _times(frame: Any, timing: Timing) -> Tuple[int, ...]:
     return tuple(FRAME_SAMPLES * first + start for start in starts)
 
 
+# ---- summaries
+
+_GAINS, _ZONES, _CLASSES, _ACTIVITIES, _PAYLOAD_ANSWERS = 66, len(Zone), len(ObjectClass), 2, Refusal.OUTSIDE + 1
+
+
+@dataclass(frozen=True)
+class Summary:
+    """What payloads hold together. All but `payloads` counts over the accepted ones alone.
+
+    Every record counts once among the gains, zones, classes and activities, an inactive one with its defaults (gain 0, zone 0), one of a bed or ISF object with zone 0, so each of these adds
+    up to `records`. A block counts once among the late ones and the ramps, however many objects there are. `Summary()` is that of no payload; summaries of parts are added up with `+`.
+    """
+
+    records: int = 0  # objects * blocks of each payload
+    gains: Tuple[int, ...] = (0,) * _GAINS  # records by Record.gain, 0 to 65, see gains_db
+    zones: Tuple[int, ...] = (0,) * _ZONES  # records by Record.zone, see by_zone
+    classes: Tuple[int, ...] = (0,) * _CLASSES  # records by Record.class_, see by_class
+    activity: Tuple[int, ...] = (0,) * _ACTIVITIES  # records by Record.active, see active and inactive
+    late: int = 0  # blocks that start past sample 1,535, the last of their frame
+    ramps: int = 0  # the sum of the ramps of all blocks, in samples
+    payloads: Tuple[int, ...] = (0,) * _PAYLOAD_ANSWERS  # payloads by refusal, 0 the accepted ones, see by_refusal
+
+    def __add__(self, other: Summary) -> Summary:
+        """What both hold together."""
+        if not isinstance(other, Summary):
+            return NotImplemented
+        sums = {name: _sum(getattr(self, name), getattr(other, name)) for name in _SUMMARY_NAMES}
+        return Summary(**sums)
+
+    @property
+    def gains_db(self) -> Dict[float, int]:
+        """Records by gain in dB, minus infinity first, then -49.0 to 15.0, as in Record.gain_db."""
+        return {Record(gain=gain).gain_db: count for gain, count in enumerate(self.gains)}
+
+    @property
+    def by_zone(self) -> Dict[Zone, int]:
+        """Records by zone."""
+        return {Zone(zone): count for zone, count in enumerate(self.zones)}
+
+    @property
+    def by_class(self) -> Dict[ObjectClass, int]:
+        """Records by class."""
+        return {ObjectClass(number): count for number, count in enumerate(self.classes)}
+
+    @property
+    def active(self) -> int:
+        """Active records."""
+        return self.activity[1]
+
+    @property
+    def inactive(self) -> int:
+        """Records that are not active."""
+        return self.activity[0]
+
+    @property
+    def by_refusal(self) -> Dict[Refusal, int]:
+        """Payloads by refusal, the accepted ones first; NO_ROOM, NOT_VALID and NO_FIT are not given here, and 0."""
+        return {Refusal(number): count for number, count in enumerate(self.payloads)}
+
+    @property
+    def entries(self) -> int:
+        """All payloads."""
+        return sum(self.payloads)
+
+    @property
+    def accepted(self) -> int:
+        """Accepted payloads."""
+        return self.payloads[Refusal.ACCEPTED]
+
+    @property
+    def refused(self) -> int:
+        """Refused payloads."""
+        return self.entries - self.accepted
+
+
+_SUMMARY_NAMES = tuple(each.name for each in fields(Summary))
+
+
+def _sum(a: Any, b: Any) -> Any:
+    """The sum of two counters, or of each two of as many."""
+    return tuple(map(operator.add, a, b)) if isinstance(a, tuple) else a + b
+
+
 # ---- the C interface
 
 
@@ -603,10 +691,26 @@ class _BatchAnswer(ctypes.Structure):
     _fields_ = [("place", ctypes.c_uint64), ("refusal", ctypes.c_uint8)]
 
 
+class _Summary(ctypes.Structure):
+    _fields_ = [
+        ("place", ctypes.c_uint64),
+        ("refusal", ctypes.c_uint8),
+        ("records", ctypes.c_uint32),
+        ("gains", ctypes.c_uint32 * _GAINS),
+        ("zones", ctypes.c_uint32 * _ZONES),
+        ("classes", ctypes.c_uint32 * _CLASSES),
+        ("activity", ctypes.c_uint32 * _ACTIVITIES),
+        ("late", ctypes.c_uint32),
+        ("ramps", ctypes.c_uint32),
+        ("payloads", ctypes.c_uint32 * _PAYLOAD_ANSWERS),
+    ]
+
+
 _SLICE = [ctypes.c_void_p, ctypes.c_size_t]
 _READ = (_ReadAnswer, _SLICE + [ctypes.c_uint32] + _SLICE * 2)
 _WRITE = (_WriteAnswer, [_Programme, _Timing, ctypes.c_uint32] + _SLICE * 3)
 _READ_BATCH = (_BatchAnswer, _SLICE * 4 + [ctypes.c_size_t] * 2 + _SLICE * 3)
+_SUMMARISE = (_Summary, _SLICE * 3)
 _LIST_TEXT = (_WriteAnswer, _SLICE * 2)
 _SONAME = f"libskriemelt.so.{INTERFACE // 1000}"
 
@@ -630,6 +734,7 @@ class Library:
         self._read = self._function("skriemelt_read", *_READ)
         self._write = self._function("skriemelt_write", *_WRITE)
         self._read_batch = self._function("skriemelt_read_batch", *_READ_BATCH)
+        self._summarise = self._function("skriemelt_summarise", *_SUMMARISE)
         self._list_text = self._function("skriemelt_list_text", *_LIST_TEXT)
 
     def _function(self, name: str, result: Any, arguments: List[Any]) -> Any:
@@ -790,6 +895,21 @@ def read_batch(
     step = max(1, min(len(listed), _BATCH_ROOM // (record_room + trim_room + ctypes.sizeof(_ReadAnswer))))
     shelf = _Shelf(step, record_room, trim_room)
     return [answer for at in range(0, len(listed), step) for answer in shelf.read(lib, data, listed[at:at + step])]
+
+
+def summarise(store: BytesLike, entries: Iterable[Tuple[int, int]], *, library: Optional[Library] = None) -> Summary:
+    """Counts over payloads, each a start and a length within one store, in bytes, as in `read_batch`; a start and length that leave it count as OUTSIDE.
+
+    Refused with TOO_MANY for more than MOST_ENTRIES of them. Longer lists are summarised in parts, and the summaries added up: `sum(parts, Summary())`.
+    """
+    data, listed = _bytes_of(store, "store"), _listed(entries)
+    lib, count = library or default_library(), len(listed)
+    starts, lengths = ((ctypes.c_uint64 * count)(*[entry[part] for entry in listed]) for part in (0, 1))
+    answer = lib._summarise(data, len(data), starts, count, lengths, count)
+    if answer.refusal:
+        raise Refused(answer.refusal, answer.place)
+    values = {name: getattr(answer, name) for name in _SUMMARY_NAMES}
+    return Summary(**{name: value if isinstance(value, int) else tuple(value) for name, value in values.items()})
 
 
 def _c_programme(programme: Programme) -> _Programme:

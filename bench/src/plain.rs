@@ -12,6 +12,7 @@ mod put;
 mod reader;
 mod record;
 mod sink;
+mod summary;
 mod trim;
 mod valid;
 mod writer;
@@ -24,6 +25,7 @@ use record::times;
 
 pub use batch::{answer_bytes, read_batch, BatchAnswer, Shelf, ANSWER_BYTES};
 pub use record::{Record, FRAME_SAMPLES, RECORD_BYTES, RECORD_STRIDE};
+pub use summary::{summarise, Summary, MAX_ENTRIES};
 
 /// Longest payload in bytes (house rule).
 pub const MAX_PAYLOAD: usize = 4096;
@@ -56,6 +58,7 @@ pub mod refusal {
     pub const FORM: u32 = 11;
     pub const OUTSIDE: u32 = 12;
     pub const LISTS: u32 = 13;
+    pub const MANY: u32 = 16;
 }
 
 /// One bed instance (5.5.3). 8 bytes, aligned to 4: assignment at 0, lfeonly at

@@ -74,6 +74,22 @@ pub struct BatchAnswer {
     pub refusal: u8,
 }
 
+/// skriemelt_summary.
+#[repr(C)]
+#[derive(Clone, Copy, Debug)]
+pub struct Summary {
+    pub place: u64,
+    pub refusal: u8,
+    pub records: u32,
+    pub gains: [u32; 66],
+    pub zones: [u32; 6],
+    pub classes: [u32; 3],
+    pub activity: [u32; 2],
+    pub late: u32,
+    pub ramps: u32,
+    pub payloads: [u32; 13],
+}
+
 const _: () = {
     use core::mem::{align_of, offset_of, size_of};
     assert!(size_of::<Bed>() == 8 && align_of::<Bed>() == 4);
@@ -100,6 +116,12 @@ const _: () = {
     assert!(size_of::<BatchAnswer>() == 16 && align_of::<BatchAnswer>() == 8);
     assert!(offset_of!(BatchAnswer, place) == 0 && offset_of!(BatchAnswer, refusal) == 8);
     assert!(size_of::<ReadAnswer>() == plain::ANSWER_BYTES);
+    assert!(size_of::<Summary>() == 384 && align_of::<Summary>() == 8);
+    assert!(offset_of!(Summary, place) == 0 && offset_of!(Summary, refusal) == 8);
+    assert!(offset_of!(Summary, records) == 12 && offset_of!(Summary, gains) == 16);
+    assert!(offset_of!(Summary, zones) == 280 && offset_of!(Summary, classes) == 304);
+    assert!(offset_of!(Summary, activity) == 316 && offset_of!(Summary, late) == 324);
+    assert!(offset_of!(Summary, ramps) == 328 && offset_of!(Summary, payloads) == 332);
 };
 
 #[cfg(not(feature = "served"))]
@@ -108,9 +130,9 @@ mod linked;
 mod served;
 
 #[cfg(not(feature = "served"))]
-pub use linked::{read, read_batch, version, write};
+pub use linked::{read, read_batch, summarise, version, write};
 #[cfg(feature = "served")]
-pub use served::{read, read_batch, version, write};
+pub use served::{read, read_batch, summarise, version, write};
 
 impl From<&plain::Programme> for Programme {
     fn from(p: &plain::Programme) -> Self {
@@ -152,6 +174,24 @@ impl BatchAnswer {
         plain::BatchAnswer {
             refusal: self.refusal.into(),
             place: self.place,
+        }
+    }
+}
+
+impl Summary {
+    /// The same summary in the plain reader's types, every field of it.
+    pub fn plain(&self) -> plain::Summary {
+        plain::Summary {
+            refusal: self.refusal.into(),
+            place: self.place,
+            records: self.records,
+            gains: self.gains,
+            zones: self.zones,
+            classes: self.classes,
+            activity: self.activity,
+            late: self.late,
+            ramps: self.ramps,
+            payloads: self.payloads,
         }
     }
 }

@@ -13,9 +13,9 @@
 
 /* What a subcommand was asked for. */
 typedef struct request {
-    int people;         /* list: a table for people, not the listing */
+    int people;         /* list: a table for people, not the listing; summary: bars, not lines key=value */
     int trim;           /* the trim table's fields too */
-    int progress;       /* shelf: progress on standard error, terminal or not */
+    int progress;       /* shelf, summary: progress on standard error, terminal or not */
     unsigned long rate; /* samples in a second, for milliseconds */
     int framed;         /* the first frame was given */
     uint64_t first;     /* the frame of the first payload; those behind it count on */
@@ -57,14 +57,37 @@ FILE *input_open(const char *name);          /* NULL: complained of */
 int input_close(FILE *in, const char *name); /* whether all that was asked for could be read; else complained of */
 int input_is_standard(const char *name);
 
-/* list.c, people.c, trim.c, shelf.c: the status. */
+/* Files of payloads one behind the other, each behind its length in two bytes, most byte first. */
+#define MOST_LENGTH 65535 /* of two bytes */
+
+/* How the reading of some of them ended; past the frames: with a payload that no frame number is left for. */
+typedef enum ending { MORE, AT_END, WITHIN, PAST_FRAMES } ending;
+
+ending input_payload(FILE *in, uint8_t *payload, size_t *payload_bytes); /* the next payload, into room for the longest; MORE if there was one */
+
+/* list.c, shelf.c, summary.c: the status. */
 int run_list(const request *asked);
 int run_shelf(const request *asked);
+int run_summary(const request *asked);
+
+/* people.c, trim.c: what was read. */
+const char *zone_name(unsigned zone);
+void print_samples(uint64_t samples, unsigned long rate); /* a number of samples, and as hours, minutes and seconds */
 void print_people(const reading *r, unsigned long rate);
 void print_trim(const reading *r);        /* lines trim.FIELD=VALUE of what is carried */
 void print_trim_people(const reading *r); /* the same in words and dB */
 
-/* progress.c: how far a shelf has been read, on standard error. */
+/* What a whole file of payloads holds: the counters of skriemelt_summary, added up over its segments. */
+typedef struct holdings {
+    unsigned long long payloads, accepted, bytes;
+    unsigned long long records, gains[SKRIEMELT_GAINS], zones[SKRIEMELT_ZONES], classes[SKRIEMELT_CLASSES], activity[SKRIEMELT_ACTIVITIES], late, ramps;
+    unsigned long long answers[SKRIEMELT_PAYLOAD_ANSWERS]; /* payloads by refusal */
+} holdings;
+
+/* chart.c: these in words and bars. */
+void print_chart(const holdings *h, unsigned long rate);
+
+/* progress.c: how far a file of payloads has been read, on standard error. */
 typedef struct progress {
     int shown, terminal;      /* terminal: standard error is one */
     int shared;               /* standard output is a terminal too: the lines go there */

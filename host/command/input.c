@@ -24,6 +24,17 @@ FILE *input_open(const char *name)
     return in;
 }
 
+ending input_payload(FILE *in, uint8_t *payload, size_t *payload_bytes)
+{
+    uint8_t head[2];
+    size_t got = fread(head, 1, 2, in);
+
+    if (got < 2)
+        return got == 0 && !ferror(in) ? AT_END : WITHIN;
+    *payload_bytes = 256 * (size_t)head[0] + head[1];
+    return fread(payload, 1, *payload_bytes, in) == *payload_bytes ? MORE : WITHIN;
+}
+
 int input_close(FILE *in, const char *name)
 {
     int error = ferror(in) ? errno : 0, readable = !ferror(in);

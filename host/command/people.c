@@ -13,7 +13,7 @@ static const char *class_name(unsigned class_number)
 }
 
 /* Table 20. */
-static const char *zone_name(unsigned zone)
+const char *zone_name(unsigned zone)
 {
     static const char *const names[6] = {"all", "no back", "no side", "centre+back", "screen", "surround"};
 
@@ -164,12 +164,11 @@ static void print_records(const reading *r)
     }
 }
 
-/* A time in samples from the start of frame 0, and in hours, minutes and seconds. */
-static void print_time(uint64_t time, unsigned long rate)
+void print_samples(uint64_t samples, unsigned long rate)
 {
-    unsigned long long ms = (1000 * time + rate / 2) / rate, seconds = ms / 1000;
+    unsigned long long ms = (1000 * samples + rate / 2) / rate, seconds = ms / 1000;
 
-    print("time %llu samples (%llu:%02llu:%02llu.%03llu)", (unsigned long long)time, seconds / 3600, seconds / 60 % 60, seconds % 60, ms % 1000);
+    print("%llu samples (%llu:%02llu:%02llu.%03llu)", (unsigned long long)samples, seconds / 3600, seconds / 60 % 60, seconds % 60, ms % 1000);
 }
 
 /* Every object has a record in every block, with the time of the block. */
@@ -179,9 +178,9 @@ static void print_blocks(const reading *r, unsigned long rate)
     unsigned i;
 
     for (i = 0; i < t->blocks; i++) {
-        print("block %u: start %u samples (%.3f ms), ramp %u samples (%.3f ms), ", i, t->updates[i].start, 1000.0 * t->updates[i].start / (double)rate, t->updates[i].ramp,
+        print("block %u: start %u samples (%.3f ms), ramp %u samples (%.3f ms), time ", i, t->updates[i].start, 1000.0 * t->updates[i].start / (double)rate, t->updates[i].ramp,
               1000.0 * t->updates[i].ramp / (double)rate);
-        print_time(skriemelt_time(skriemelt_record(&r->answer, r->records, 0, i)), rate);
+        print_samples(skriemelt_time(skriemelt_record(&r->answer, r->records, 0, i)), rate);
         print("\n");
     }
 }

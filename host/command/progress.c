@@ -1,4 +1,4 @@
-/* How far a shelf has been read. */
+/* How far a file of payloads has been read. */
 #define _POSIX_C_SOURCE 200112L
 #include "command.h"
 

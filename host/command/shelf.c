@@ -1,8 +1,7 @@
 /* skriemelt shelf: a file of payloads one behind the other, each behind its length in two bytes, read segment by segment as batches. */
 #include "command.h"
 
-#define MOST_LENGTH 65535 /* of two bytes */
-#define ENTRIES 64        /* payloads of a segment; its buffers take about 7 MB */
+#define ENTRIES 64 /* payloads of a segment; its buffers take about 7 MB */
 #define REFUSALS 256
 
 /* A segment: its payloads, and what they are read into. */
@@ -20,31 +19,25 @@ typedef struct totals {
     unsigned long long payloads, refused, bytes, of[REFUSALS];
 } totals;
 
-/* How the reading of a segment ended; past the frames: with a payload that no frame number is left for. */
-typedef enum ending { FULL, AT_END, WITHIN, PAST_FRAMES } ending;
-
 /* Reads the payloads of the next segment, from this frame on. */
 static ending fill_segment(FILE *in, uint64_t frame)
 {
     segment.count = segment.bytes = 0;
     while (segment.count < ENTRIES) {
-        uint8_t head[2];
-        size_t got = fread(head, 1, 2, in), length;
+        size_t length;
+        ending how = input_payload(in, segment.store + segment.bytes, &length);
 
-        if (got < 2)
-            return got == 0 && !ferror(in) ? AT_END : WITHIN;
+        if (how != MORE)
+            return how;
         if (frame + segment.count > MOST_FRAME)
             return PAST_FRAMES;
-        length = 256 * (size_t)head[0] + head[1];
-        if (fread(segment.store + segment.bytes, 1, length, in) != length)
-            return WITHIN;
         segment.starts[segment.count] = segment.bytes;
         segment.lengths[segment.count] = length;
         segment.frames[segment.count] = (uint32_t)(frame + segment.count);
         segment.bytes += length;
         segment.count++;
     }
-    return FULL;
+    return MORE;
 }
 
 static int read_segment(void)
@@ -114,9 +107,9 @@ static int print_shelf(const request *asked, FILE *in, totals *t, ending *how)
             print_entry(asked, i, t);
         progress_clear(&shown);
         print_now();
-        if (*how == FULL)
+        if (*how == MORE)
             progress_show(&shown, t->payloads, t->refused, t->bytes);
-    } while (*how == FULL && !print_failed());
+    } while (*how == MORE && !print_failed());
     progress_end(&shown);
     return 1;
 }

@@ -13,12 +13,14 @@
 static const char general_help[] =
     "usage: skriemelt list [--people] [--trim] [--rate HZ] [--first N] [FILE..]\n"
     "       skriemelt shelf [--trim] [--first N] [--progress] [FILE]\n"
+    "       skriemelt summary [--people] [--rate HZ] [--progress] [FILE]\n"
     "       skriemelt SUBCOMMAND --help\n"
     "       skriemelt --help | --version\n"
     "\n"
     "Reads object audio metadata (OAMD, ETSI TS 103 420).\n"
-    "  list   each FILE is one payload: prints its listing\n"
-    "  shelf  FILE holds payloads one behind the other: prints a line for each, and counts by refusal\n"
+    "  list     each FILE is one payload: prints its listing\n"
+    "  shelf    FILE holds payloads one behind the other: prints a line for each, and counts by refusal\n"
+    "  summary  FILE is as for shelf: counts its records by gain, zone, class and activity, late blocks, and payloads by refusal\n"
     "\n"
     "Exit status: 0 all accepted, 1 something was refused, 2 usage, or a file that cannot be read or written.\n";
 
@@ -41,11 +43,29 @@ static const char shelf_help[] =
     "  --first N   the frame of the first payload; each further payload is the next frame; 0 if it is not given\n"
     "  --progress  progress on standard error, also where that is no terminal\n";
 
+static const char summary_help[] =
+    "usage: skriemelt summary [--people] [--rate HZ] [--progress] [FILE]\n"
+    "\n"
+    "FILE (- or none: standard input) holds payloads one behind the other, each behind its length in 2 bytes, most byte first. Prints what they hold together,\n"
+    "lines key=value, always the same ones: payloads by refusal; of the accepted ones the records by activity, class, zone and gain, the blocks that start\n"
+    "past sample 1,535, and the sum of all ramps in samples. The file may have any length.\n"
+    "  --people    for people: gains in dB and zones by name as bars, with counts and percentages, as wide as the terminal or COLUMNS says\n"
+    "  --rate HZ   samples in a second, for the time of the ramps of --people; 48000 if it is not given, since the payload does not hold it\n"
+    "  --progress  progress on standard error, also where that is no terminal\n";
+
+/* The options that a subcommand may have, a bit each; option_of has their names in this order. */
+enum { PEOPLE = 1, TRIM = 2, RATE = 4, FIRST = 8, PROGRESS = 16 };
+
 static const struct subcommand {
     const char *name, *help;
     int (*run)(const request *asked);
     int most_names; /* -1: any number */
-} subcommands[] = {{"list", list_help, run_list, -1}, {"shelf", shelf_help, run_shelf, 1}};
+    unsigned options;
+} subcommands[] = {
+    {"list", list_help, run_list, -1, PEOPLE | TRIM | RATE | FIRST},
+    {"shelf", shelf_help, run_shelf, 1, TRIM | FIRST | PROGRESS},
+    {"summary", summary_help, run_summary, 1, PEOPLE | RATE | PROGRESS},
+};
 
 static int misuse(const char *what, const char *why)
 {
@@ -73,27 +93,37 @@ static unsigned long long number_of(const char *digits, unsigned long long most,
     return *end == '\0' && errno == 0 && number <= most ? number : otherwise;
 }
 
+/* The option of this name, if the subcommand has it; else 0. */
+static unsigned option_of(const struct subcommand *s, const char *name)
+{
+    static const char *const names[] = {"--people", "--trim", "--rate", "--first", "--progress"};
+    unsigned i;
+
+    for (i = 0; i < sizeof names / sizeof names[0]; i++) {
+        if (strcmp(name, names[i]) == 0)
+            return s->options & 1U << i;
+    }
+    return 0;
+}
+
 /* Takes one option at *arguments, and its value if it has one; whether it is one of this subcommand. */
 static int take_option(const struct subcommand *s, char ***arguments, request *asked)
 {
-    const char *option = **arguments;
-    int lists = s->run == run_list;
+    unsigned option = option_of(s, **arguments);
 
-    if (strcmp(option, "--trim") == 0) {
-        asked->trim = 1;
-    } else if (lists && strcmp(option, "--people") == 0) {
+    if (option == PEOPLE) {
         asked->people = 1;
-    } else if (lists && strcmp(option, "--rate") == 0) {
+    } else if (option == TRIM) {
+        asked->trim = 1;
+    } else if (option == RATE) {
         asked->rate = (unsigned long)number_of(take_value(arguments), ULONG_MAX, 0);
-    } else if (strcmp(option, "--first") == 0) {
+    } else if (option == FIRST) {
         asked->framed = 1;
         asked->first = number_of(take_value(arguments), MOST_FRAME, NO_FRAME);
-    } else if (!lists && strcmp(option, "--progress") == 0) {
+    } else if (option == PROGRESS) {
         asked->progress = 1;
-    } else {
-        return 0;
     }
-    return 1;
+    return option != 0;
 }
 
 /* Runs a subcommand, if what it was asked for goes together. */
@@ -136,7 +166,7 @@ static int run(char **arguments)
     size_t i;
 
     if (arguments[0] == NULL)
-        return misuse("no subcommand", "list or shelf");
+        return misuse("no subcommand", "list, shelf or summary");
     if (strcmp(arguments[0], "--help") == 0) {
         print("%s", general_help);
         return STATUS_ACCEPTED;

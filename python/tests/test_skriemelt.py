@@ -3,9 +3,11 @@ from __future__ import annotations
 
 import array
 import ast
+import collections
 import concurrent.futures
 import ctypes
 import dataclasses
+import itertools
 import math
 import os
 import pathlib
@@ -25,7 +27,7 @@ VECTORS = ROOT / "crates" / "vectors"
 sys.path.insert(0, str(HERE.parent))
 
 import skriemelt  # noqa: E402
-from skriemelt import Bed, Content, ObjectClass, Programme, Record, Refusal, Refused, Tables, Timing, Trim, TrimConfig, TrimMode, Update, Zone  # noqa: E402
+from skriemelt import Bed, Content, ObjectClass, Programme, Record, Refusal, Refused, Summary, Tables, Timing, Trim, TrimConfig, TrimMode, Update, Zone  # noqa: E402
 
 SAMPLE = (ROOT / "samples" / "three-objects.oamd").read_bytes()
 
@@ -203,16 +205,8 @@ class Vectors(Case):
 class Batch(Case):
     """Batches against single reads."""
 
-    def shelf(self):
-        """All vectors behind one another, with their places."""
-        places, at = [], 0
-        for payload in PAYLOADS:
-            places.append((at, len(payload)))
-            at += len(payload)
-        return b"".join(PAYLOADS), places
-
     def test_as_single_reads(self):
-        store, places = self.shelf()
+        store, places = shelf()
         want = list(map(answer_of, PAYLOADS))
         for given in (store, bytearray(store), memoryview(store)):
             self.same(skriemelt.read_batch(given, places), want)
@@ -259,10 +253,113 @@ class Batch(Case):
         for lists in ((two, 2, three, 3, frames, 2), (two, 2, two, 2, frames, 3), (two, 2, two, 2, None, 0)):
             answer = library._read_batch(b"", 0, *lists, 0, 0, None, 0, None, 0, answers, ctypes.sizeof(answers))
             self.assertEqual((answer.refusal, answer.place), (Refusal.LISTS, 2))
-        shelf = skriemelt._Shelf(1, 192, 97)
+        slots = skriemelt._Shelf(1, 192, 97)
         with self.assertRaises(Refused) as caught:
-            shelf.read(library, SAMPLE, [(0, 45, 0)] * 2)
+            slots.read(library, SAMPLE, [(0, 45, 0)] * 2)
         self.assertEqual((caught.exception.number, caught.exception.place), (Refusal.LISTS, 2))
+
+
+def shelf():
+    """All vectors behind one another, with their places."""
+    ends = list(itertools.accumulate(map(len, PAYLOADS)))
+    return b"".join(PAYLOADS), [(end - len(payload), len(payload)) for end, payload in zip(ends, PAYLOADS)]
+
+
+class Summaries(unittest.TestCase):
+    """Summaries against the worked values, and against what is counted from single reads."""
+
+    STORE = SAMPLE + bytes.fromhex("0107c100")
+    ENTRIES = [(0, 45), (45, 3), (45, 4)]
+
+    def counted(self, answers):
+        """What answers hold together, counted one by one."""
+        tables = [answer for answer in answers if isinstance(answer, Tables)]
+        records = [record for each in tables for record in each.records]
+        updates = [update for each in tables for update in each.timing.updates]
+
+        def tally(values, most):
+            found = collections.Counter(values)
+            return tuple(found[value] for value in range(most))
+
+        return Summary(
+            len(records), tally((record.gain for record in records), 66), tally((record.zone for record in records), 6), tally((record.class_ for record in records), 3),
+            tally((record.active for record in records), 2), sum(update.start > 1535 for update in updates), sum(update.ramp for update in updates),
+            tally((answer.number if isinstance(answer, Refused) else 0 for answer in answers), 13),
+        )
+
+    def test_worked(self):
+        got = skriemelt.summarise(self.STORE, self.ENTRIES)
+        self.assertEqual((got.records, got.late, got.ramps, got.active, got.inactive), (6, 0, 0, 5, 1))
+        self.assertEqual({gain: count for gain, count in got.gains_db.items() if count}, {-math.inf: 2, 0.0: 3, 12.0: 1})
+        self.assertEqual(got.by_zone, {zone: 6 if zone is Zone.ALL else 0 for zone in Zone})
+        self.assertEqual(got.by_class, {ObjectClass.BED: 2, ObjectClass.ISF: 0, ObjectClass.DYNAMIC: 4})
+        self.assertEqual({refusal: count for refusal, count in got.by_refusal.items() if count}, {Refusal.ACCEPTED: 2, Refusal.PAST_PAYLOAD: 1})
+        self.assertEqual((got.entries, got.accepted, got.refused), (3, 2, 1))
+        self.assertEqual(got, self.counted(skriemelt.read_batch(self.STORE, self.ENTRIES)))
+
+    def test_keys(self):
+        self.assertEqual(list(Summary().gains_db), [-math.inf, *map(float, range(-49, 16))])
+        self.assertEqual(list(Summary().by_zone), list(Zone))
+        self.assertEqual(list(Summary().by_class), list(ObjectClass))
+        self.assertEqual(list(Summary().by_refusal), list(Refusal)[:13])
+
+    def test_vectors(self):
+        store, places = shelf()
+        want = self.counted(list(map(answer_of, PAYLOADS)))
+        for given in (store, bytearray(store), memoryview(store)):
+            self.assertEqual(skriemelt.summarise(given, places), want)
+        self.assertEqual(skriemelt.summarise(store, reversed(places)), want)
+        self.assertEqual((want.late > 0, want.ramps > 0, want.entries), (True, True, len(PAYLOADS)))
+        for counts in (want.gains, want.zones, want.classes, want.activity):
+            self.assertEqual(sum(counts), want.records)
+
+    def test_parts_add_up(self):
+        store, places = shelf()
+        parts = [skriemelt.summarise(store, places[at:at + 50]) for at in range(0, len(places), 50)]
+        self.assertEqual(sum(parts, Summary()), skriemelt.summarise(store, places))
+        self.assertEqual(parts[0] + Summary(), parts[0])
+        self.assertEqual(parts[0] + parts[1], parts[1] + parts[0])
+        for other in (1, None, ()):
+            self.assertRaises(TypeError, lambda: parts[0] + other)
+
+    def test_more_than_32_bits_add_up(self):
+        most = Summary(records=0xFFFFFFFF, gains=(0xFFFFFFFF,) * 66)
+        self.assertEqual((most + most).records, 2 * 0xFFFFFFFF)
+        self.assertEqual((most + most).gains[65], 2 * 0xFFFFFFFF)
+
+    def test_nothing(self):
+        self.assertEqual(skriemelt.summarise(b"", []), Summary())
+        self.assertEqual(skriemelt.summarise(SAMPLE, iter(())), Summary())
+
+    def test_outside(self):
+        most = (1 << 64) - 1
+        got = skriemelt.summarise(SAMPLE, [(0, 46), (46, 0), (most, most), (1, most), (45, 0)])
+        self.assertEqual((got.by_refusal[Refusal.OUTSIDE], got.by_refusal[Refusal.PAST_PAYLOAD], got.records), (4, 1, 0))
+
+    def test_limits(self):
+        most = skriemelt.MOST_ENTRIES
+        got = skriemelt.summarise(SAMPLE, [(0, 45)] * most)
+        self.assertEqual((got.records, got.accepted, got.active), (6 * most, most, 5 * most))
+        with self.assertRaises(Refused) as caught:
+            skriemelt.summarise(SAMPLE, [(0, 45)] * (most + 1))
+        self.assertEqual((caught.exception.refusal, caught.exception.place), (Refusal.TOO_MANY, 65537))
+
+    def test_lists_that_differ(self):
+        lists = (ctypes.c_uint64 * 65537)()
+        for starts, lengths in ((3, 2), (0, 1), (65537, 65536)):
+            answer = skriemelt.default_library()._summarise(b"", 0, lists, starts, lists, lengths)
+            self.assertEqual((answer.refusal, answer.place, answer.records, sum(answer.payloads)), (Refusal.LISTS, starts, 0, 0))
+
+    def test_entries_that_are_none(self):
+        self.assertRaisesRegex(TypeError, r"entries\[1\]", skriemelt.summarise, SAMPLE, [(0, 1), 5])
+        self.assertRaisesRegex(ValueError, r"entries\[1\]", skriemelt.summarise, SAMPLE, [(0, 1), (-1, 0)])
+
+    def test_values(self):
+        got = skriemelt.summarise(self.STORE, self.ENTRIES)
+        self.assertEqual(pickle.loads(pickle.dumps(got)), got)
+        self.assertEqual(len({got, skriemelt.summarise(self.STORE, self.ENTRIES), Summary()}), 2)
+        with self.assertRaises(dataclasses.FrozenInstanceError):
+            got.records = 7
 
 
 class Frames(Case):
@@ -544,13 +641,13 @@ class NoBytes(unittest.TestCase):
     def test_other_types(self):
         for given in ("01", None, 5, 1.5, [1, 2], (1, 2), {1}, object(), array.array("B", [1, 2]), range(3), (ctypes.c_uint8 * 3)()):
             name = re.escape(type(given).__name__)
-            for call in (skriemelt.read, skriemelt.list_text, lambda store: skriemelt.read_batch(store, []), Record.from_bytes, Trim.from_bytes):
+            for call in (skriemelt.read, skriemelt.list_text, lambda store: skriemelt.read_batch(store, []), lambda store: skriemelt.summarise(store, []), Record.from_bytes, Trim.from_bytes):
                 with self.subTest(given=given), self.assertRaisesRegex(TypeError, f"must be bytes, bytearray or memoryview, not {name}"):
                     call(given)
 
     def test_views_that_do_not_lie_side_by_side(self):
         for view in (memoryview(SAMPLE)[::2], memoryview(SAMPLE)[::-1], memoryview(bytearray(SAMPLE))[1::3]):
-            for call in (skriemelt.read, lambda store: skriemelt.read_batch(store, [(0, 1)])):
+            for call in (skriemelt.read, lambda store: skriemelt.read_batch(store, [(0, 1)]), lambda store: skriemelt.summarise(store, [(0, 1)])):
                 self.assertRaisesRegex(TypeError, "side by side", call, view)
 
     def test_views_of_other_items(self):
@@ -583,6 +680,7 @@ class NoBytes(unittest.TestCase):
         given = bytearray(SAMPLE)
         skriemelt.read(given)
         skriemelt.read_batch(given, [(0, 45)])
+        skriemelt.summarise(given, [(0, 45)])
         self.assertEqual(given, SAMPLE)
         given.append(0)  # no view of it is held
 
@@ -601,6 +699,7 @@ class Interface(unittest.TestCase):
         known.update({"RECORD_" + name.rstrip("_").upper(): at for at, name in enumerate(skriemelt._RECORD_NAMES)})
         known.update({"TRIM_CONFIG_" + name.upper(): at for at, name in enumerate(skriemelt._CONFIG_NAMES)})
         known.update({name: getattr(skriemelt, name) for name in dir(skriemelt) if re.fullmatch(r"(MOST|FRAME|RECORD|TRIM)_[A-Z_]+", name)})
+        known.update({name: getattr(skriemelt, "_" + name) for name in ("GAINS", "ZONES", "CLASSES", "ACTIVITIES", "PAYLOAD_ANSWERS")})
         for name, value in defined.items():
             if name in known:
                 self.assertEqual(known[name], value, name)
@@ -610,10 +709,12 @@ class Interface(unittest.TestCase):
         self.assertGreaterEqual(version, skriemelt.INTERFACE)
 
     def test_layout(self):
-        sizes = {"_Bed": 8, "_Programme": 84, "_Update": 4, "_Timing": 34, "_ReadAnswer": 136, "_WriteAnswer": 16, "_BatchAnswer": 16}
+        sizes = {"_Bed": 8, "_Programme": 84, "_Update": 4, "_Timing": 34, "_ReadAnswer": 136, "_WriteAnswer": 16, "_BatchAnswer": 16, "_Summary": 384}
         self.assertEqual({name: ctypes.sizeof(getattr(skriemelt, name)) for name in sizes}, sizes)
         answer = skriemelt._ReadAnswer
         self.assertEqual([getattr(answer, name).offset for name, _ in answer._fields_], [0, 8, 9, 12, 96, 132])
+        summary = skriemelt._Summary
+        self.assertEqual([getattr(summary, name).offset for name, _ in summary._fields_], [0, 8, 12, 16, 280, 304, 316, 324, 328, 332])
         self.assertEqual((skriemelt._Programme.beds.offset, skriemelt._Timing.updates.offset, skriemelt._WriteAnswer.refusal.offset), (12, 2, 12))
 
     def test_typed(self):
@@ -644,6 +745,7 @@ uint32_t skriemelt_version(void) { return VERSION; }
 void skriemelt_read(void) {}
 void skriemelt_write(void) {}
 void skriemelt_read_batch(void) {}
+void skriemelt_summarise(void) {}
 text_answer skriemelt_list_text(const uint8_t *payload, size_t payload_bytes, uint8_t *text, size_t text_bytes)
 {
     text_answer a = {0, 10, 0}, b = {10, 0, 18};
@@ -714,35 +816,35 @@ class OtherVersion(unittest.TestCase):
         return str(path)
 
     def test_versions_that_do_not_fit(self):
-        for version in (0, 1002, 2003, 2999, 4000, 13000):
+        for version in (0, 1002, 2003, 2999, 3000, 4000, 13000):
             path = self.stub(f"-DVERSION={version}")
             with self.subTest(version=version), mock.patch.dict(os.environ, {"SKRIEMELT_LIBRARY": path}):
                 with self.assertRaises(skriemelt.LibraryError) as caught:
                     skriemelt.read(SAMPLE)
-                for part in (path, f"has version {version} ", "3000 to 3999"):
+                for part in (path, f"has version {version} ", "3001 to 3999"):
                     self.assertIn(part, str(caught.exception))
 
     def test_versions_that_fit(self):
-        for version in (3000, 3001, 3999):
+        for version in (3001, 3002, 3999):
             library = skriemelt.Library(self.stub(f"-DVERSION={version}"))
             self.assertEqual(library.version, version)
             self.assertIn(str(version), repr(library))
 
     def test_listing(self):
-        library = skriemelt.Library(self.stub("-DVERSION=3000"))
+        library = skriemelt.Library(self.stub("-DVERSION=3001"))
         self.assertEqual(skriemelt.list_text(SAMPLE, library=library), "refusal=0\n")
         with self.assertRaises(Refused) as caught:
             skriemelt.list_text(SAMPLE, room=9, library=library)
         self.assertEqual((caught.exception.refusal, caught.exception.place), (Refusal.SHORT_TEXT, 10))
 
     def test_functions_that_are_not_there(self):
-        path = self.stub("-DVERSION=3000", "-DALONE")
+        path = self.stub("-DVERSION=3001", "-DALONE")
         self.assertRaisesRegex(skriemelt.LibraryError, "no function skriemelt_read", skriemelt.Library, path)
-        other = self.stub("-DVERSION=3000", "-Dskriemelt_version=another_version")
+        other = self.stub("-DVERSION=3001", "-Dskriemelt_version=another_version")
         self.assertRaisesRegex(skriemelt.LibraryError, "no function skriemelt_version", skriemelt.Library, pathlib.Path(other))
 
     def test_the_first_that_loads_decides(self):
-        old, fit = self.stub("-DVERSION=2003"), self.stub("-DVERSION=3000")
+        old, fit = self.stub("-DVERSION=2003"), self.stub("-DVERSION=3001")
         with mock.patch.dict(os.environ, {"SKRIEMELT_LIBRARY": ""}):
             self.addCleanup(skriemelt._opened.cache_clear)
             with mock.patch.object(skriemelt, "_candidates", lambda: iter(["/nowhere/lib.so", fit, old])):

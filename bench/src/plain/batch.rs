@@ -67,7 +67,7 @@ pub fn read_batch(
 }
 
 /// A part of the store, if it does not leave it.
-fn part(store: &[u8], start: u64, length: u64) -> Option<&[u8]> {
+pub(super) fn part(store: &[u8], start: u64, length: u64) -> Option<&[u8]> {
     let end = usize::try_from(start.checked_add(length)?).ok()?;
     store.get(usize::try_from(start).ok()?..end)
 }

@@ -1,6 +1,6 @@
 //! The library's functions, linked.
 
-use super::{BatchAnswer, Programme, ReadAnswer, Timing, WriteAnswer};
+use super::{BatchAnswer, Programme, ReadAnswer, Summary, Timing, WriteAnswer};
 use crate::plain::Shelf;
 
 #[link(name = "host", kind = "static")]
@@ -33,6 +33,14 @@ extern "C" {
         answers: *mut ReadAnswer,
         answers_bytes: usize,
     ) -> BatchAnswer;
+    fn skriemelt_summarise(
+        store: *const u8,
+        store_bytes: usize,
+        starts: *const u64,
+        starts_count: usize,
+        lengths: *const u64,
+        lengths_count: usize,
+    ) -> Summary;
     fn skriemelt_write(
         programme: Programme,
         timing: Timing,
@@ -96,6 +104,22 @@ pub fn read_batch(
             trims.len(),
             answers.as_mut_ptr().cast(),
             answers.len(),
+        )
+    }
+}
+
+/// Summarises a segment of payloads with the proved library.
+#[inline]
+pub fn summarise(store: &[u8], starts: &[u64], lengths: &[u64]) -> Summary {
+    // SAFETY: the slices are valid for their lengths, and none is filled.
+    unsafe {
+        skriemelt_summarise(
+            store.as_ptr(),
+            store.len(),
+            starts.as_ptr(),
+            starts.len(),
+            lengths.as_ptr(),
+            lengths.len(),
         )
     }
 }

@@ -1,6 +1,6 @@
 //! The library's functions, asked of host/serve.c, which says how requests and answers are laid out. The command that runs it is in the variable SERVE.
 
-use super::{BatchAnswer, Bed, Programme, ReadAnswer, Timing, Update, WriteAnswer};
+use super::{BatchAnswer, Bed, Programme, ReadAnswer, Summary, Timing, Update, WriteAnswer};
 use crate::plain::Shelf;
 use std::cell::RefCell;
 use std::io::{Read, Write};
@@ -9,6 +9,7 @@ use std::process::{ChildStdin, ChildStdout, Command, Stdio};
 const READ_ANSWER_BYTES: usize = 8 + 1 + 1 + (10 + 9 * 6) + (1 + 8 * 4) + 4;
 const WRITE_ANSWER_BYTES: usize = 8 + 4 + 1;
 const BATCH_ANSWER_BYTES: usize = 8 + 1;
+const SUMMARY_BYTES: usize = 8 + 1 + 4 * (1 + 66 + 6 + 3 + 2 + 1 + 1 + 13);
 
 /// The serving process.
 struct Server {
@@ -105,6 +106,10 @@ impl Answer {
         u64::from_le_bytes(self.take())
     }
 
+    fn counters<const N: usize>(&mut self) -> [u32; N] {
+        std::array::from_fn(|_| self.u32())
+    }
+
     fn programme(&mut self) -> Programme {
         Programme {
             objects: self.u8(),
@@ -188,6 +193,27 @@ pub fn read_batch(
     BatchAnswer {
         place: answer.u64(),
         refusal: answer.u8(),
+    }
+}
+
+/// Summarises a segment of payloads with the proved library.
+pub fn summarise(store: &[u8], starts: &[u64], lengths: &[u64]) -> Summary {
+    let mut request = b"s".to_vec();
+    add_given(&mut request, store);
+    add_list(&mut request, starts);
+    add_list(&mut request, lengths);
+    let mut answer = ask(&request, SUMMARY_BYTES, &mut []);
+    Summary {
+        place: answer.u64(),
+        refusal: answer.u8(),
+        records: answer.u32(),
+        gains: answer.counters(),
+        zones: answer.counters(),
+        classes: answer.counters(),
+        activity: answer.counters(),
+        late: answer.u32(),
+        ramps: answer.u32(),
+        payloads: answer.counters(),
     }
 }
 

@@ -68,5 +68,6 @@ pub enum Refusal {
     NoFit,
     Outside,
     Lists,
+    Many,
     ShortText,
 }

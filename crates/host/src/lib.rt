@@ -3,6 +3,7 @@ ghost use mathlib.Core.Path.{_≡_};
 ghost use Rattle.oamd.specs.Answer.{reading};
 ghost use Rattle.oamd.specs.Batch.{batching};
 ghost use Rattle.form.specs.Answer.{writing};
+ghost use Rattle.summary.specs.Summary.{summing};
 ghost use Rattle.text.specs.Answer.{texted};
 ghost use Rattle.text.specs.Listing.{listing};
 use oamd::BatchAnswer;
@@ -10,14 +11,15 @@ use oamd::Programme;
 use oamd::ReadAnswer;
 use oamd::Timing;
 use oamd::WriteAnswer;
+use summary::Summary;
 use text::TextAnswer;
 
 // The version of this interface: a thousand times the major number, plus the minor.
-const VERSION: u32 = 3000;
+const VERSION: u32 = 3001;
 
 #[no_mangle]
 pub extern "C" fn skriemelt_version() -> u32
-    ensures { λ r. ⌜ r ≡ 3000 ⌝ }
+    ensures { λ r. ⌜ r ≡ 3001 ⌝ }
 {
     VERSION
 }
@@ -96,4 +98,12 @@ pub extern "C" fn skriemelt_list_text(payload: &[u8], text: &mut [u8]) -> TextAn
     ensures { λ r. ⌜ (record { answer = r; buffer = now (text .exit) }) ≡ texted (listing (now (payload .entry))) (now (text .entry)) ⌝ }
 {
     text::list_text(payload, text)
+}
+
+// Sums up a shelf of payloads, each a part of the store. Refused with 13 or 16, all counts are 0.
+#[no_mangle]
+pub extern "C" fn skriemelt_summarise(store: &[u8], starts: &[u64], lengths: &[u64]) -> Summary
+    ensures { λ r. ⌜ r ≡ summing (now (store .entry)) (now (starts .entry)) (now (lengths .entry)) ⌝ }
+{
+    summary::summarise(store, starts, lengths)
 }

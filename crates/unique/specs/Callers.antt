@@ -1,9 +1,10 @@
--- The functions that callers use: `read` of reader (and `refused_with`, which makes an answer of a refusal), `write` of writer, and the five of host.
+-- The functions that callers use: `read` of reader (and `refused_with`, which makes an answer of a refusal), `write` of writer, and the six of host.
 use mathlib.Core.Path.{refl}
 use denote.Ref.{now}
 use Rattle.host.proofs.skriemelt_list_text as skriemelt-list-text
 use Rattle.host.proofs.skriemelt_read as skriemelt-read
 use Rattle.host.proofs.skriemelt_read_batch as skriemelt-read-batch
+use Rattle.host.proofs.skriemelt_summarise as skriemelt-summarise
 use Rattle.host.proofs.skriemelt_version as skriemelt-version
 use Rattle.host.proofs.skriemelt_write as skriemelt-write
 use Rattle.oamd.specs.Answer.{Outcome, reading}
@@ -14,6 +15,7 @@ use Rattle.form.specs.Answer.{Written, writing}
 use Rattle.unique.specs.Batch.{OneBatch, one-read-batch}
 use Rattle.unique.specs.OneAnswer.{ClausesOf, SpecOf, OneAnswer, by-equation, said, result-set, _beside_}
 use Rattle.unique.specs.Sets.{outcome-set, written-set}
+use Rattle.unique.specs.Summary.{OneSummary, one-summarise}
 use Rattle.unique.specs.Text.{OneText, one-list-text}
 
 -- Two answers, each with the bytes that it leaves in the two lent buffers, are the same, buffers too, if the payload's bytes, the frame and the bytes that stood in
@@ -54,8 +56,12 @@ one-skriemelt-write = one-write
 pub one-skriemelt-list-text : OneText (λ M. skriemelt-list-text.clauses) (λ M. skriemelt-list-text.spec)
 one-skriemelt-list-text = one-list-text
 
+-- The contract is that of `summarise`.
+pub one-skriemelt-summarise : OneSummary (λ M. skriemelt-summarise.clauses) (λ M. skriemelt-summarise.spec)
+one-skriemelt-summarise = one-summarise
+
 pub one-skriemelt-version : OneAnswer skriemelt-version.ended (λ M. skriemelt-version.clauses) (λ M. skriemelt-version.spec) (λ κs a. a) (λ κs a r z. r)
-one-skriemelt-version = by-equation (result-set skriemelt-version.ended) (λ w. refl) (λ a. 3000) (λ w κs a r z p. said (λ h. h) (p .holds))
+one-skriemelt-version = by-equation (result-set skriemelt-version.ended) (λ w. refl) (λ a. 3001) (λ w κs a r z p. said (λ h. h) (p .holds))
 
 pub one-refused-with : OneAnswer refused-with.ended (λ M. refused-with.clauses) (λ M. refused-with.spec) (λ κs a. a) (λ κs a r z. r)
 one-refused-with = by-equation (result-set refused-with.ended) (λ w. refl) _ (λ w κs a r z p. said (λ h. h) (p .holds))

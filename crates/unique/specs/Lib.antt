@@ -2,6 +2,7 @@ pub mod OneAnswer
 pub mod Sets
 pub mod Readings
 pub mod Batch
+pub mod Summary
 pub mod Callers
 pub mod Units
 pub mod Bits

@@ -1,6 +1,7 @@
-//! Shelves of payloads read with both: the whole call's answer and three whole buffers, with canaries around them.
+//! Shelves of payloads read with both: the whole call's answer and three whole buffers, with canaries around them. Each is summarised, too.
 
 use crate::lent::Lent;
+use crate::summaries::Summaries;
 use crate::KINDS;
 use skriemelt_bench::gen::rng::Rng;
 use skriemelt_bench::plain::{self, refusal, Shelf, ANSWER_BYTES};
@@ -60,6 +61,7 @@ pub struct Shelves {
     causes: [u64; 4],
     /// Entries by refusal.
     entries: [u64; 14],
+    summaries: Summaries,
 }
 
 impl Shelves {
@@ -71,6 +73,7 @@ impl Shelves {
             calls: 0,
             causes: [0; 4],
             entries: [0; 14],
+            summaries: Summaries::default(),
         }
     }
 
@@ -89,8 +92,16 @@ impl Shelves {
         let draft = self.draft();
         self.waiting.clear();
         self.needs.clear();
-        self.both(&draft)
-            .map_err(|message| format!("{message}\n{}", draft.described()))
+        let result = self.both(&draft).and_then(|()| {
+            let (starts, lengths) = (&draft.starts, &draft.lengths);
+            self.summaries.both(&draft.store, starts, lengths)
+        });
+        result.map_err(|message| format!("{message}\n{}", draft.described()))
+    }
+
+    /// Summarises the longest segments, and longer ones.
+    pub fn limits(&mut self) -> Result<(), String> {
+        self.summaries.limits()
     }
 
     fn draft(&mut self) -> Draft {
@@ -266,5 +277,6 @@ impl Shelves {
         }
         let count = self.entries[refusal::OUTSIDE as usize];
         println!("batch, entries of refusal 12 (leaves the store): {count}");
+        self.summaries.print();
     }
 }

@@ -1,0 +1,9 @@
+pub mod Summary
+pub mod Counting
+pub mod Laws
+pub mod Entries
+pub mod More
+pub mod Calls
+pub mod Promises
+pub mod Sums
+pub mod OfBatch

@@ -1,0 +1,121 @@
+/* skriemelt summary: what a file of payloads holds, one behind the other as on a shelf, summarised segment by segment. */
+#include "command.h"
+
+#define STORE_BYTES (1 << 22) /* of a segment, which so holds 64 payloads or more, and 65,536 of them at the most */
+
+static struct segment {
+    uint8_t store[STORE_BYTES];
+    uint64_t starts[SKRIEMELT_MOST_ENTRIES], lengths[SKRIEMELT_MOST_ENTRIES];
+    size_t count, bytes;
+} segment;
+
+/* Reads the payloads of the next segment, as long as there is room for the longest one. */
+static ending fill_segment(FILE *in)
+{
+    segment.count = segment.bytes = 0;
+    while (segment.count < SKRIEMELT_MOST_ENTRIES && sizeof segment.store - segment.bytes >= MOST_LENGTH) {
+        size_t length;
+        ending how = input_payload(in, segment.store + segment.bytes, &length);
+
+        if (how != MORE)
+            return how;
+        segment.starts[segment.count] = segment.bytes;
+        segment.lengths[segment.count] = length;
+        segment.bytes += length;
+        segment.count++;
+    }
+    return MORE;
+}
+
+static void add(unsigned long long *sums, const uint32_t *counters, size_t count)
+{
+    size_t i;
+
+    for (i = 0; i < count; i++)
+        sums[i] += counters[i];
+}
+
+/* Adds what the segment holds; whether it could be summarised. */
+static int add_segment(holdings *h)
+{
+    skriemelt_summary s = skriemelt_summarise(segment.store, segment.bytes, segment.starts, segment.count, segment.lengths, segment.count);
+
+    if (s.refusal != SKRIEMELT_ACCEPTED) {
+        complain("a segment", skriemelt_refusal_text(s.refusal), 0);
+        return 0;
+    }
+    h->payloads += segment.count;
+    h->accepted += s.payloads[SKRIEMELT_ACCEPTED];
+    h->bytes += 2 * segment.count + segment.bytes;
+    h->records += s.records;
+    h->late += s.late;
+    h->ramps += s.ramps;
+    add(h->gains, s.gains, SKRIEMELT_GAINS);
+    add(h->zones, s.zones, SKRIEMELT_ZONES);
+    add(h->classes, s.classes, SKRIEMELT_CLASSES);
+    add(h->activity, s.activity, SKRIEMELT_ACTIVITIES);
+    add(h->answers, s.payloads, SKRIEMELT_PAYLOAD_ANSWERS);
+    return 1;
+}
+
+/* Adds segment by segment. Whether all could be summarised up to where `how` says: the end of the file, or within a payload. */
+static int add_file(const request *asked, FILE *in, holdings *h, ending *how)
+{
+    progress shown;
+
+    progress_start(&shown, in, asked->progress);
+    shown.shared = 0; /* nothing else is written before the end */
+    do {
+        *how = fill_segment(in);
+        if (!add_segment(h))
+            return 0;
+        if (*how == MORE)
+            progress_show(&shown, h->payloads, h->payloads - h->accepted, h->bytes);
+    } while (*how == MORE);
+    progress_end(&shown);
+    return 1;
+}
+
+/* A line key=NUMBER,COUNT for each counter. */
+static void print_each(const char *key, const unsigned long long *counters, unsigned first, unsigned end)
+{
+    unsigned i;
+
+    for (i = first; i < end; i++)
+        print("%s=%u,%llu\n", key, i, counters[i]);
+}
+
+/* Always the same lines, so that two summaries can be held line against line. */
+static void print_lines(const holdings *h)
+{
+    print("payloads=%llu\naccepted=%llu\nrefused=%llu\n", h->payloads, h->accepted, h->payloads - h->accepted);
+    print_each("refusal", h->answers, SKRIEMELT_ACCEPTED + 1, SKRIEMELT_PAYLOAD_ANSWERS);
+    print("records=%llu\nactive=%llu\ninactive=%llu\n", h->records, h->activity[1], h->activity[0]);
+    print("bed=%llu\nisf=%llu\ndynamic=%llu\n", h->classes[SKRIEMELT_CLASS_BED], h->classes[SKRIEMELT_CLASS_ISF], h->classes[SKRIEMELT_CLASS_DYNAMIC]);
+    print("late=%llu\nramps=%llu\n", h->late, h->ramps);
+    print_each("zone", h->zones, 0, SKRIEMELT_ZONES);
+    print_each("gain", h->gains, 0, SKRIEMELT_GAINS);
+}
+
+int run_summary(const request *asked)
+{
+    static holdings h;
+    const char *name = asked->name_count == 0 ? "-" : asked->names[0];
+    FILE *in = input_open(name);
+    ending how = AT_END;
+    char where[80];
+
+    if (in == NULL)
+        return STATUS_FAILED;
+    if (!add_file(asked, in, &h, &how) || !input_close(in, name))
+        return STATUS_FAILED;
+    if (how == WITHIN) {
+        snprintf(where, sizeof where, "ends within payload %llu, and is not summarised", h.payloads);
+        return complain(input_title(name), where, 0);
+    }
+    if (asked->people)
+        print_chart(&h, asked->rate);
+    else
+        print_lines(&h);
+    return h.accepted == h.payloads ? STATUS_ACCEPTED : STATUS_REFUSED;
+}
