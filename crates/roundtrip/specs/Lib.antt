@@ -16,3 +16,4 @@ pub mod Ranges
 pub mod Longest
 pub mod LongestReached
 pub mod Time
+pub mod Entries

@@ -16,7 +16,8 @@ use Rattle.summary.specs.Summary.{mostEntries, tally, tallies, total, jo
 use Rattle.summary.specs.Summary.{bytesOfRecords, column, usedUpdates, updatesOf, isLate, rampLength, summaryOf}
 use Rattle.summary.specs.Counting.{bumped, allBumped, Counted, Low}
 use Rattle.summary.specs.Laws.{length-tallies, bumped-tallies, all-bumped-tallies, low-tallies, total-append}
-use Rattle.summary.specs.Entries.{Alike, Ranged, entry-alike, column-alike, entry-ranged, mostRecords}
+use Rattle.roundtrip.specs.Entries.{Alike, entry-alike}
+use Rattle.summary.specs.Entries.{Ranged, column-alike, entry-ranged, mostRecords}
 use Rattle.summary.specs.More.{map-append, joined-more, length-column, column-long, Bounded, bounded, alone-ranged, all-ranged, length-outcomes, outcomes-next}
 
 -- what is counted, put together

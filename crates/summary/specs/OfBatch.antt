@@ -16,7 +16,8 @@ use Rattle.oamd.specs.Batch.{answerAt}
 use Rattle.demands.specs.Promises.{Call, batched, Roomy, slot, startOf, lengthOf, frameOf, entryOf, InTypes}
 use Rattle.demands.specs.Batch.{batch-entry, place-says}
 use Rattle.summary.specs.Summary.{tallies, total, joined, zeros, alone, outcomes, refusalOf, acceptedOf, recordsOf, column, usedUpdates, updatesOf, isLate, rampLength, summaryOf}
-use Rattle.summary.specs.Entries.{Alike, entry-alike, column-alike}
+use Rattle.roundtrip.specs.Entries.{Alike, entry-alike}
+use Rattle.summary.specs.Entries.{column-alike}
 use Rattle.summary.specs.More.{column-long}
 
 -- ---- lists of outcomes that are alike
