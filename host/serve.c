@@ -10,6 +10,12 @@
  *                                                              answer: place, refusal, the bytes of the three buffers
  *   request s, store, starts, lengths                          answer: place, refusal, all counters
  *   request w, programme, timing, frame, records, trim, buffer answer: place, length, refusal, the bytes of the buffer
+ *   request c, store, starts, lengths, frames, text buffer     answer: place, length (8 bytes), refusal, the bytes of the buffer
+ *   request C, the same, with the buffer of the update before in front of the text buffer
+ *                                                              answer: the same, the bytes of both buffers
+ *   request t, text, buffers of lines and records              answer: place, frames and bytes (8 bytes each), refusal, the bytes of both buffers
+ *   request T, text, buffers of the update before, lines and records
+ *                                                              answer: the same, the bytes of the three buffers
  * A buffer is sent as it is lent and answered whole. It is lent at an address that leaves the remainder `skew` by 16, with canaries around it.
  * Exit status: 0 at the end of the input; 1 for a request that is not one, or a call that changed a canary or what it may only look at.
  */
@@ -341,6 +347,68 @@ static void serve_summary(void)
     put_counters(a.payloads, SKRIEMELT_PAYLOAD_ANSWERS);
 }
 
+/* Writes a catalogue, behind an update or with none before. */
+static void serve_catalogue(int behind)
+{
+    static given store;
+    static list starts, lengths;
+    static frame_list frames;
+    static lent before, text;
+    skriemelt_catalogue_answer a;
+
+    get_given(&store);
+    get_list(&starts);
+    get_list(&lengths);
+    get_frames(&frames);
+    if (behind)
+        get_lent(&before);
+    get_lent(&text);
+    if (behind)
+        a = skriemelt_catalogue_write_on(store.bytes, store.length, starts.numbers, starts.length, lengths.numbers, lengths.length, frames.numbers, frames.length,
+                                         (skriemelt_catalogue_before *)(void *)before.bytes, before.length, text.bytes, text.length);
+    else
+        a = skriemelt_catalogue_write(store.bytes, store.length, starts.numbers, starts.length, lengths.numbers, lengths.length, frames.numbers, frames.length, text.bytes,
+                                      text.length);
+    hold_given(&store);
+    hold_list(&starts);
+    hold_list(&lengths);
+    hold_frames(&frames);
+    put(a.place, 8);
+    put(a.length, 8);
+    put(a.refusal, 1);
+    if (behind)
+        put_lent(&before);
+    put_lent(&text);
+}
+
+/* Reads a catalogue back, behind an update or with none before. */
+static void serve_back(int behind)
+{
+    static given text;
+    static lent before, lines, records;
+    skriemelt_back_answer a;
+
+    get_given(&text);
+    if (behind)
+        get_lent(&before);
+    get_lent(&lines);
+    get_lent(&records);
+    if (behind)
+        a = skriemelt_catalogue_read_on(text.bytes, text.length, (skriemelt_catalogue_before *)(void *)before.bytes, before.length,
+                                        (skriemelt_catalogue_frame *)(void *)lines.bytes, lines.length, records.bytes, records.length);
+    else
+        a = skriemelt_catalogue_read(text.bytes, text.length, (skriemelt_catalogue_frame *)(void *)lines.bytes, lines.length, records.bytes, records.length);
+    hold_given(&text);
+    put(a.place, 8);
+    put(a.frames, 8);
+    put(a.bytes, 8);
+    put(a.refusal, 1);
+    if (behind)
+        put_lent(&before);
+    put_lent(&lines);
+    put_lent(&records);
+}
+
 static void serve_write(void)
 {
     static given records, trim;
@@ -380,6 +448,10 @@ int main(void)
             serve_summary();
         else if (request == 'w')
             serve_write();
+        else if (request == 'c' || request == 'C')
+            serve_catalogue(request == 'C');
+        else if (request == 't' || request == 'T')
+            serve_back(request == 'T');
         else
             stop("an unknown request");
         if (fflush(stdout) != 0)

@@ -3,8 +3,8 @@
  * reads, each entry in a frame of its own. Each buffer lies between canaries, and is held whole to what is expected of it: slots, answers with their padding, and what stands behind the last of them.
  * Arguments: samples/three-objects.oamd, crates/vectors/data/payloads.
  */
-#include "lent.h"
-#include "test.h"
+#include "lending.h"
+#include "sample.h"
 
 #define MOST_ENTRIES 8
 #define ANSWER_BYTES 136
@@ -29,60 +29,12 @@ typedef struct shelf {
     size_t starts_count, lengths_count, frames_count, record_slot, trim_slot;
 } shelf;
 
-/* A buffer of `room` bytes between canaries, and how all of it should be behind the call. */
-typedef struct lending {
-    uint8_t *all, *expected;
-    size_t skew, room;
-} lending;
-
 typedef struct buffers {
     lending records, trims, answers;
 } buffers;
 
 /* The sample, and the four bytes of the requirements behind it. */
 static uint8_t store[49];
-
-/* What it gives its records, as README.md lists them, but for their times. Its programme is of dynamic objects only, the first an LFE object; its updates start at 0 and 32. */
-static const uint8_t sample_records[144] = {
-    1, 0, 0x32, 0x02, 0x1F, 0x1F, 0x40, 0, 0, 0, 0, 0, 1, 0, 0, 0, 0, 0, 0, 0, 0, 0, 0, 0,
-    1, 0, 0x3E, 0x04, 0x1F, 0x1F, 0x40, 0, 0, 0, 0, 0, 1, 0, 0, 0, 0, 0, 0, 0, 0, 0, 0, 0,
-    1, 2, 0x32, 0x20, 0x0B, 0x0C, 0x4D, 0, 0, 0, 0, 0, 1, 0, 0, 0, 0, 0, 0, 0, 0, 0, 0, 0,
-    1, 2, 0x32, 0x20, 0x0B, 0x0C, 0x4D, 0, 0, 0, 0, 0, 1, 0, 0, 0, 0, 0, 0, 0, 0, 0, 0, 0,
-    0, 2, 0x00, 0x00, 0x1F, 0x1F, 0x40, 0, 0, 0, 0, 0, 1, 0, 0, 0, 0, 0, 0, 0, 0, 0, 0, 0,
-    1, 2, 0x00, 0x00, 0x09, 0x08, 0x39, 0, 0, 0, 0, 0, 1, 0, 0, 0, 0, 0, 0, 0, 0, 0, 0, 0,
-};
-
-static void *room_for(size_t bytes)
-{
-    void *p = malloc(bytes ? bytes : 1);
-
-    if (p == NULL)
-        exit(2);
-    return p;
-}
-
-static lending lend(size_t skew, size_t room)
-{
-    lending l = {NULL, NULL, skew, room};
-
-    l.all = room_for(SIDE + skew + room + SIDE);
-    l.expected = room_for(SIDE + skew + room + SIDE);
-    lent(l.all, skew, room);
-    lent(l.expected, skew, room);
-    return l;
-}
-
-/* Where a byte of the buffer is expected. */
-static uint8_t *expect(const lending *l, size_t at)
-{
-    return l->expected + SIDE + l->skew + at;
-}
-
-/* Holds the buffer and its canaries to what is expected. */
-static void hold(const lending *l, const char *what)
-{
-    check(memcmp(l->all, l->expected, SIDE + l->skew + l->room + SIDE) == 0, what);
-}
 
 /* Buffers with these rooms; the answers stay aligned. */
 static buffers lend_all(size_t skew, size_t records, size_t trims, size_t answers)
@@ -97,26 +49,9 @@ static buffers lend_all(size_t skew, size_t records, size_t trims, size_t answer
 
 static void give_back(buffers *b)
 {
-    lending *each[3];
-    size_t i;
-
-    each[0] = &b->records;
-    each[1] = &b->trims;
-    each[2] = &b->answers;
-    for (i = 0; i < 3; i++) {
-        free(each[i]->all);
-        free(each[i]->expected);
-    }
-}
-
-/* A copy of its own, of just its length, so that the address sanitizer sees a step out of it. */
-static void *copy_of(const void *from, size_t bytes)
-{
-    void *to = room_for(bytes);
-
-    if (bytes > 0)
-        memcpy(to, from, bytes);
-    return to;
+    give_one_back(&b->records);
+    give_one_back(&b->trims);
+    give_one_back(&b->answers);
 }
 
 /* The frames of the entries, in this order and over again. */
@@ -135,8 +70,8 @@ static skriemelt_batch_answer call(const shelf *s, const buffers *b)
     uint32_t *frames = copy_of(s->frames, 4 * s->frames_count);
     const lending *r = &b->records, *t = &b->trims, *p = &b->answers;
     skriemelt_batch_answer a = skriemelt_read_batch(
-        bytes, s->store_bytes, starts, s->starts_count, lengths, s->lengths_count, frames, s->frames_count, s->record_slot, s->trim_slot, r->all + SIDE + r->skew, r->room,
-        t->all + SIDE + t->skew, t->room, (skriemelt_read_answer *)(void *)(p->all + SIDE + p->skew), p->room);
+        bytes, s->store_bytes, starts, s->starts_count, lengths, s->lengths_count, frames, s->frames_count, s->record_slot, s->trim_slot, bytes_in(r), r->room,
+        bytes_in(t), t->room, (skriemelt_read_answer *)(void *)bytes_in(p), p->room);
 
     check(s->store_bytes == 0 || memcmp(bytes, s->store, s->store_bytes) == 0, "the store stays");
     check(s->starts_count == 0 || memcmp(starts, s->starts, 8 * s->starts_count) == 0, "the starts stay");
@@ -171,24 +106,6 @@ static void refused(const shelf *s, buffers *b, const char *what)
     check(untouched(b->trims.all, b->trims.skew, b->trims.room, 0), what);
     check(untouched(b->answers.all, b->answers.skew, b->answers.room, 0), what);
     give_back(b);
-}
-
-/* A number, least byte first. */
-static void lay(uint8_t *to, uint64_t value, size_t bytes)
-{
-    for (; bytes > 0; bytes--, value >>= 8)
-        *to++ = (uint8_t)(value & 255);
-}
-
-/* The sample's records in a frame: their blocks start at 0 and 32. */
-static void lay_sample(uint8_t *to, uint32_t frame)
-{
-    size_t i;
-
-    for (i = 0; i < 6; i++) {
-        memcpy(to + 32 * i, sample_records + 24 * i, 24);
-        lay(to + 32 * i + 24, UINT64_C(1536) * frame + 32 * (i % 2), 8);
-    }
 }
 
 /* What entry i leaves: all of its answer, and if it is accepted the first bytes of its slots. */

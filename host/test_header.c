@@ -9,7 +9,7 @@ static int near(double a, double b)
 /* Each refusal has a sentence of its own; a number that is none has one too. */
 static void sentences(void)
 {
-    static const unsigned refusals[] = {0, 1, 2, 3, 4, 5, 6, 7, 8, 9, 10, 11, 12, 13, 16, 18};
+    static const unsigned refusals[] = {0, 1, 2, 3, 4, 5, 6, 7, 8, 9, 10, 11, 12, 13, 16, 17, 18};
     const size_t count = sizeof refusals / sizeof refusals[0];
     size_t i, j;
 
@@ -41,6 +41,7 @@ static int is_refused(uint8_t number)
     case SKRIEMELT_OUTSIDE:
     case SKRIEMELT_LISTS:
     case SKRIEMELT_TOO_MANY:
+    case SKRIEMELT_BAD_LINE:
     case SKRIEMELT_SHORT_TEXT:
         return 1;
     }
@@ -61,6 +62,21 @@ static void places(void)
     check(skriemelt_record(&a, records, 3, 0) == NULL && skriemelt_record(&a, records, 0, 2) == NULL, "no such record");
     a.timing.blocks = 0;
     check(skriemelt_record(&a, records, 0, 0) == NULL, "no blocks, no record");
+}
+
+static void record_bytes(void)
+{
+    skriemelt_catalogue_frame line;
+
+    memset(&line, 0, sizeof line);
+    check(skriemelt_catalogue_record_bytes(&line) == 0, "a refused frame has no records");
+    line.objects = 3;
+    check(skriemelt_catalogue_record_bytes(&line) == 0, "a frame without blocks has no records");
+    line.blocks = 2;
+    check(skriemelt_catalogue_record_bytes(&line) == 192, "a record for each object and block");
+    line.objects = 159;
+    line.blocks = 8;
+    check(skriemelt_catalogue_record_bytes(&line) == 40704, "the most records");
 }
 
 static void numbers(void)
@@ -162,14 +178,15 @@ static void counts(void)
 int main(void)
 {
     sentences();
-    check(is_refused(0) == 0 && is_refused(16) == 1 && is_refused(18) == 1 && is_refused(14) == -1, "a switch over the enum");
+    check(is_refused(0) == 0 && is_refused(16) == 1 && is_refused(17) == 1 && is_refused(18) == 1 && is_refused(14) == -1, "a switch over the enum");
     places();
+    record_bytes();
     numbers();
     times();
     channels();
     counts();
     check(SKRIEMELT_VERSION == 1000 * SKRIEMELT_VERSION_MAJOR + SKRIEMELT_VERSION_MINOR, "the version's parts");
-    check(strcmp(SKRIEMELT_VERSION_STRING, "3.1") == 0, "the version's text");
+    check(strcmp(SKRIEMELT_VERSION_STRING, "3.2") == 0, "the version's text");
 #ifndef SKRIEMELT_TOO_LONG
     check(0, "the names are macros too");
 #endif

@@ -15,6 +15,10 @@ static void sizes(void)
     SIZE(skriemelt_batch_answer, 16);
     SIZE(skriemelt_text_answer, 16);
     SIZE(skriemelt_summary, 384);
+    SIZE(skriemelt_catalogue_answer, 24);
+    SIZE(skriemelt_back_answer, 32);
+    SIZE(skriemelt_catalogue_frame, 40);
+    SIZE(skriemelt_catalogue_before, 3817);
 }
 
 static void offsets(void)
@@ -63,10 +67,30 @@ static void offsets(void)
     AT(skriemelt_summary, payloads, 332);
 }
 
+static void catalogue_offsets(void)
+{
+    AT(skriemelt_catalogue_answer, place, 0);
+    AT(skriemelt_catalogue_answer, length, 8);
+    AT(skriemelt_catalogue_answer, refusal, 16);
+    AT(skriemelt_back_answer, place, 0);
+    AT(skriemelt_back_answer, frames, 8);
+    AT(skriemelt_back_answer, bytes, 16);
+    AT(skriemelt_back_answer, refusal, 24);
+    AT(skriemelt_catalogue_frame, frame, 0);
+    AT(skriemelt_catalogue_frame, refusal, 4);
+    AT(skriemelt_catalogue_frame, objects, 5);
+    AT(skriemelt_catalogue_frame, blocks, 6);
+    AT(skriemelt_catalogue_frame, zero, 7);
+    AT(skriemelt_catalogue_frame, updates, 8);
+    AT(skriemelt_catalogue_before, objects, 0);
+    AT(skriemelt_catalogue_before, rows, 1);
+}
+
 int main(void)
 {
     sizes();
     offsets();
+    catalogue_offsets();
     check(skriemelt_version() == SKRIEMELT_VERSION, "version");
     check(SKRIEMELT_RECORD_BYTES == SKRIEMELT_RECORD_PRECISE_Z + 1, "what the payload gives ends with the code of z");
     check(SKRIEMELT_RECORD_TIME == SKRIEMELT_RECORD_BYTES, "the time follows");
@@ -78,6 +102,7 @@ int main(void)
     check(SKRIEMELT_TRIM_FIXED == SKRIEMELT_TRIM_PER_OBJECT + 1, "the flags of the objects are last");
     check(SKRIEMELT_CLASSES == SKRIEMELT_CLASS_DYNAMIC + 1, "a summary counts every class");
     check(SKRIEMELT_PAYLOAD_ANSWERS == SKRIEMELT_OUTSIDE + 1, "a summary counts every answer of a payload");
+    check(SKRIEMELT_BEFORE_BYTES == 1 + SKRIEMELT_RECORD_BYTES * SKRIEMELT_MOST_OBJECTS, "an update before has a count, and a row for each object");
     check(SKRIEMELT_MOST_TRIM_BYTES == SKRIEMELT_TRIM_FIXED + SKRIEMELT_MOST_OBJECTS, "the longest trim table");
     return finish("test_layout");
 }

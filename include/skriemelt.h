@@ -8,19 +8,20 @@
  *
  * Slices. A slice is passed as two arguments: a pointer to its first byte, and its length in bytes. A pointer with length 0 may be NULL. A pointer with a
  * length above 0 must point to that many bytes; it needs no alignment. Bytes of every sort are fine in a payload, in records and in a trim table, and every
- * length is fine for them. What a call fills must not overlap any other slice of that call. The lists of a batch or summary are slices of numbers: their length is a
- * count, and they are aligned as arrays of their numbers are.
+ * length is fine for them, as it is for a catalogue's text. What a call fills must not overlap any other slice of that call. The lists of a batch, summary or catalogue are slices of
+ * numbers: their length is a count, and they are aligned as arrays of their numbers are.
  *
  * Tables. The programme and the timing are passed and answered by value. Values of every sort are fine in them.
  *
  * Refusals. A refused call leaves every byte of its lent buffers (read: the records and the trim table, batch: these of all entries and the answers, write:
- * the payload, listing: the text) as it came, and all fields of its answer but refusal and place, and with SKRIEMELT_PAST_PAYLOAD the missing bits, are 0. An
- * accepted read writes the first 32 * objects * blocks bytes of the record buffer, the first 94 + objects bytes of the trim buffer, and no others; an accepted write writes the first
- * `length` bytes of its buffer and no others. What a batch writes is said at its call. A summary is lent nothing; refused, all its counters are 0.
+ * the payload, listing: the text, catalogue: the text, or the lines and records read back from it, and the update before) as it came, and all fields of its answer but refusal and place,
+ * and with SKRIEMELT_PAST_PAYLOAD the missing bits, are 0. An accepted read writes the first 32 * objects * blocks bytes of the record buffer, the first 94 + objects bytes of the trim
+ * buffer, and no others; an accepted write writes the first `length` bytes of its buffer and no others. What a batch writes and what the calls of a catalogue write is said there. A summary
+ * is lent nothing; refused, all its counters are 0.
  *
- * Threads. Every call works on its arguments and its own stack alone (a read: about 32 kB, a batch: about 35 kB, a summary: about 75 kB, a write: about 1 kB, a listing: about 75 kB). Calls may run at once in
- * several threads, as long as no two are lent the same buffer to be filled. What a call only looks at (read: the payload, batch and summary: the store and the lists, write: the
- * records and the trim table, listing: the payload) may be shared.
+ * Threads. Every call works on its arguments and its own stack alone (a read: about 32 kB, a batch: about 35 kB, a summary: about 75 kB, a write: about 1 kB, a listing: about 75 kB, a catalogue,
+ * written: about 95 kB, read back: about 45 kB). Calls may run at once in several threads, as long as no two are lent the same buffer to be filled; an update before is one. What a call only looks at
+ * (read: the payload, batch, summary and catalogue: the store and the lists, write: the records and the trim table, listing: the payload, catalogue read back: the text) may be shared.
  *
  * There and back. A payload that is read and written again may have other bytes: the written form is the one form of the tables, and what is not in the tables
  * (unknown elements, reserved data, alternate ids, how a value was coded) is gone. Read again, it gives the same tables and no unknown element.
@@ -43,10 +44,10 @@ extern "C" {
 #endif
 
 /* The version of this interface: a thousand times the major number, plus the minor. A program built for a lower minor number of the same major one still works. */
-#define SKRIEMELT_VERSION 3001
+#define SKRIEMELT_VERSION 3002
 #define SKRIEMELT_VERSION_MAJOR 3
-#define SKRIEMELT_VERSION_MINOR 1
-#define SKRIEMELT_VERSION_STRING "3.1"
+#define SKRIEMELT_VERSION_MINOR 2
+#define SKRIEMELT_VERSION_STRING "3.2"
 
 /* A result that must not be dropped: the refusal stands in it. */
 #if defined(__GNUC__)
@@ -75,7 +76,8 @@ extern "C" {
 #define SKRIEMELT_MOST_BEDS 9
 #define SKRIEMELT_MOST_UNKNOWN 46
 #define SKRIEMELT_MOST_TEXT_BYTES 100000  /* the listing of every payload fits */
-#define SKRIEMELT_MOST_ENTRIES 65536      /* payloads of a summary; more are refused with 16. A batch may have any number */
+#define SKRIEMELT_MOST_ENTRIES 65536      /* payloads of a summary; more are refused with 16. A batch or catalogue may have any number */
+#define SKRIEMELT_MOST_FRAME_TEXT_BYTES 338558 /* the lines of every frame fit, in a catalogue that is written and in one that can be read back */
 
 /* Samples of a frame. A block may start past its end: that start is not folded into the next frame. */
 #define SKRIEMELT_FRAME_SAMPLES 1536
@@ -83,7 +85,8 @@ extern "C" {
 /*
  * Refusals. Where it says "bit", the place is a bit position counted from 0 at the top bit of the payload's first byte. A read is refused with 1 to 9, a write with
  * 10 or 11; 10 comes first. An entry of a batch is refused with 12 or as a read is, 12 first; a whole batch with 13; a summary with 13 or 16, 13 first; a listing with
- * 18. The numbers between are not given. `switch ((skriemelt_refusal)answer.refusal)` lets the compiler say which case is missing.
+ * 18. Writing a catalogue is refused with 13, then 9 for the update before, then 18; reading it back with 9 for the update before, then 17, then 9 for the records, then 9 for the lines. The
+ * numbers between are not given. `switch ((skriemelt_refusal)answer.refusal)` lets the compiler say which case is missing.
  */
 typedef enum skriemelt_refusal {
     SKRIEMELT_ACCEPTED = 0,        /* place 0 */
@@ -96,14 +99,17 @@ typedef enum skriemelt_refusal {
     SKRIEMELT_SECOND_ELEMENT = 6,  /* a second known element of the same id; place: first bit of its id */
     SKRIEMELT_EXTENDED_EARLY = 7,  /* an extended object element before any object element; place: first bit of its id */
     SKRIEMELT_PAST_ELEMENT = 8,    /* a field of a known element passes the element's declared end; place: first bit of that field */
-    SKRIEMELT_NO_ROOM = 9,         /* the record buffer is too short, or, if that is not, the trim buffer; place: bytes needed */
+    SKRIEMELT_NO_ROOM = 9,         /* a buffer is too short: a read's for the records, or, if that is not, for the trim table; a catalogue's for the update before, and read
+                                      back, if that is not, for the records, or, if that is not, for the lines; place: bytes needed */
     SKRIEMELT_NOT_VALID = 10,      /* not valid: programme, timing or too few record bytes, place 0; a record, by its own bytes or by its time, place: 1 + index of
                                       the first bad one; the trim table or too few bytes of it, place: 1 + number of records */
     SKRIEMELT_NO_FIT = 11,         /* the form is longer than the payload buffer or 4,096 bytes; place: bytes needed */
-    SKRIEMELT_OUTSIDE = 12,        /* start and length leave the store; place: the start, in bytes */
+    SKRIEMELT_OUTSIDE = 12,        /* start and length leave the store; place: the start, in bytes; of an entry alone, in a batch, summary or catalogue */
     SKRIEMELT_LISTS = 13,          /* the lists differ in length, or, in a batch, slots or answers of all entries do not fit; place: the number of starts */
     SKRIEMELT_TOO_MANY = 16,       /* a summary of more than 65,536 payloads; place: their number */
-    SKRIEMELT_SHORT_TEXT = 18      /* the text is longer than the text buffer; place: bytes needed */
+    SKRIEMELT_BAD_LINE = 17,       /* a catalogue's text has a line that cannot stand there, or lines are missing at its end; place: the number of the first such line, from 1,
+                                      one past the last where lines are missing */
+    SKRIEMELT_SHORT_TEXT = 18      /* the text, of a listing or a catalogue, is longer than the text buffer; place: bytes needed */
 } skriemelt_refusal;
 
 /* The names are macros too, as they were before there was the enum: #ifdef finds them. */
@@ -122,6 +128,7 @@ typedef enum skriemelt_refusal {
 #define SKRIEMELT_OUTSIDE SKRIEMELT_OUTSIDE
 #define SKRIEMELT_LISTS SKRIEMELT_LISTS
 #define SKRIEMELT_TOO_MANY SKRIEMELT_TOO_MANY
+#define SKRIEMELT_BAD_LINE SKRIEMELT_BAD_LINE
 #define SKRIEMELT_SHORT_TEXT SKRIEMELT_SHORT_TEXT
 
 /*
@@ -305,6 +312,41 @@ typedef struct skriemelt_summary {
     uint32_t payloads[SKRIEMELT_PAYLOAD_ANSWERS]; /* payloads by refusal, 0 the accepted ones; 9, 10 and 11 stay 0, since there is always room */
 } skriemelt_summary;
 
+/* What the writing of a catalogue answers, beside the text. On a refusal the length is 0. */
+typedef struct skriemelt_catalogue_answer {
+    uint64_t place;  /* see the refusals above; at most 2^64 - 1, if more bytes are needed */
+    uint64_t length; /* bytes of the text */
+    uint8_t refusal; /* SKRIEMELT_ACCEPTED, whatever the payloads were answered, SKRIEMELT_LISTS, SKRIEMELT_NO_ROOM or SKRIEMELT_SHORT_TEXT */
+} skriemelt_catalogue_answer;
+
+/* What the reading back of a catalogue answers, beside the lines and the records. On a refusal frames and bytes are 0. */
+typedef struct skriemelt_back_answer {
+    uint64_t place;  /* see the refusals above; at most 2^64 - 1, if more bytes are needed */
+    uint64_t frames; /* frames of the text */
+    uint64_t bytes;  /* bytes of their records */
+    uint8_t refusal; /* SKRIEMELT_ACCEPTED, whether or not frames of the text are refused ones, SKRIEMELT_NO_ROOM or SKRIEMELT_BAD_LINE */
+} skriemelt_back_answer;
+
+/* A frame of a catalogue: what its line and the lines of its updates hold. */
+typedef struct skriemelt_catalogue_frame {
+    uint32_t frame;  /* the frame's number */
+    uint8_t refusal; /* of its payload: SKRIEMELT_ACCEPTED, 1 to 8, or SKRIEMELT_OUTSIDE; its place is not in a catalogue */
+    uint8_t objects; /* 1 to 159; refused: 0 */
+    uint8_t blocks;  /* 0 to 8; refused: 0 */
+    uint8_t zero;    /* 0 */
+    skriemelt_update updates[SKRIEMELT_MOST_BLOCKS]; /* those from blocks on are 0 */
+} skriemelt_catalogue_frame;
+
+/*
+ * The update before, as one call of a catalogue leaves it for the next: the records of the last update so far, without their times. All bytes 0: there is none yet. Other bytes than
+ * a call has left are taken as they stand, a count above 159 as 159.
+ */
+#define SKRIEMELT_BEFORE_BYTES 3817
+typedef struct skriemelt_catalogue_before {
+    uint8_t objects; /* of that update; 0: there is none */
+    uint8_t rows[SKRIEMELT_RECORD_BYTES * SKRIEMELT_MOST_OBJECTS]; /* the first SKRIEMELT_RECORD_BYTES bytes of each object's record, object by object */
+} skriemelt_catalogue_before;
+
 SKRIEMELT_HAS_SIZE(skriemelt_bed, 8);
 SKRIEMELT_HAS_SIZE(skriemelt_programme, 84);
 SKRIEMELT_HAS_SIZE(skriemelt_update, 4);
@@ -314,6 +356,10 @@ SKRIEMELT_HAS_SIZE(skriemelt_write_answer, 16);
 SKRIEMELT_HAS_SIZE(skriemelt_batch_answer, 16);
 SKRIEMELT_HAS_SIZE(skriemelt_text_answer, 16);
 SKRIEMELT_HAS_SIZE(skriemelt_summary, 384);
+SKRIEMELT_HAS_SIZE(skriemelt_catalogue_answer, 24);
+SKRIEMELT_HAS_SIZE(skriemelt_back_answer, 32);
+SKRIEMELT_HAS_SIZE(skriemelt_catalogue_frame, 40);
+SKRIEMELT_HAS_SIZE(skriemelt_catalogue_before, SKRIEMELT_BEFORE_BYTES);
 
 /* The version of the library; it equals SKRIEMELT_VERSION of the header that belongs to it. */
 SKRIEMELT_MUST_USE
@@ -403,6 +449,93 @@ skriemelt_write_answer skriemelt_write(skriemelt_programme programme, skriemelt_
 SKRIEMELT_MUST_USE
 skriemelt_text_answer skriemelt_list_text(const uint8_t *payload, size_t payload_bytes, uint8_t *text, size_t text_bytes);
 
+/*
+ * Writes the catalogue of a segment of payloads, n = starts_count of them, given as in a batch: payload i is bytes starts[i] to starts[i] + lengths[i] - 1 of the store, of frame
+ * frames[i]. The text holds what skriemelt_read gives for each by itself, with room enough, and of that what has changed from update to update. Payloads may overlap, repeat and
+ * stand in any order, and so may frames. A start and length that leave the store are a frame refused with SKRIEMELT_OUTSIDE. Every input is answered: there is nothing to check
+ * beforehand.
+ *
+ * The text. Lines of ASCII, each ended by LF, byte 10, the last too. A line is pairs key=number parted by commas, the numbers decimal without leading zeros. For each payload in the
+ * order of the lists:
+ *
+ *     frame=F,refusal=R             it was refused, with R of 1 to 8 or 12; or it was not:
+ *     frame=F,objects=O,blocks=B    and then B times, in the order of the blocks:
+ *     start=S,ramp=P                an update, and its entries, J rising:
+ *     object=J,KEY=V,..             object J, 0 to O - 1, with at least one field, in the order of a record's bytes
+ *
+ * KEY is the name of a byte of a record, from SKRIEMELT_RECORD_ACTIVE to SKRIEMELT_RECORD_PRECISE_Z, in small letters (active, class, .., precise_z), and V that byte. Where an
+ * update has as many objects as the update before, an object has an entry if one of these 24 bytes is another than in the update before, with those that are; there may be none.
+ * Else, and in the first update, every object has one, with all 24. The update before is the one before it in its frame; of a frame's first, the last one of the nearest frame before
+ * that has one, in the order of the lists: refused frames and frames without blocks are passed over. The refusal's place, the programme, the trim table and unknown elements are not
+ * in the text.
+ *
+ * The text has `length` bytes, and no byte 0 ends it. A frame takes SKRIEMELT_MOST_FRAME_TEXT_BYTES at the most; without payloads the text is empty. A buffer that is too short is
+ * SKRIEMELT_SHORT_TEXT with the bytes needed as the place, so with text NULL and length 0 the length can be asked for. Accepted, the text is the first bytes of the buffer, and no
+ * other byte changes. The buffer need not be cleared.
+ *
+ * SKRIEMELT_LISTS with place n: lengths_count or frames_count is not n; before SKRIEMELT_SHORT_TEXT. n may be 0.
+ *
+ * The text and the update before must overlap neither one another nor the store or the lists. The records are laid on the call's own stack, which takes about 95 kB: more than a
+ * small thread may have.
+ */
+SKRIEMELT_MUST_USE
+skriemelt_catalogue_answer skriemelt_catalogue_write(const uint8_t *store, size_t store_bytes, const uint64_t *starts, size_t starts_count, const uint64_t *lengths,
+                                                     size_t lengths_count, const uint32_t *frames, size_t frames_count, uint8_t *text, size_t text_bytes);
+
+/*
+ * The same for a segment behind others: its first update is held to the update before that the call before has left in `before`, and the last update of this segment is left there
+ * for the next call. With `before` all 0 it is skriemelt_catalogue_write. So a long segment is written in parts, part by part with the same `before`, and the texts one behind the
+ * other are the text of the whole.
+ *
+ * before_bytes is sizeof(skriemelt_catalogue_before) or more. Accepted, the count and the rows of the last update are laid on the front of `before`, and no other byte of it changes;
+ * where the segment has no update, those that came. Refused, `before` stays as it came, so the call can be made again with a longer text buffer.
+ *
+ * SKRIEMELT_NO_ROOM with place SKRIEMELT_BEFORE_BYTES: before_bytes is below that; behind SKRIEMELT_LISTS and before SKRIEMELT_SHORT_TEXT.
+ */
+SKRIEMELT_MUST_USE
+skriemelt_catalogue_answer skriemelt_catalogue_write_on(const uint8_t *store, size_t store_bytes, const uint64_t *starts, size_t starts_count, const uint64_t *lengths,
+                                                        size_t lengths_count, const uint32_t *frames, size_t frames_count, skriemelt_catalogue_before *before,
+                                                        size_t before_bytes, uint8_t *text, size_t text_bytes);
+
+/*
+ * Reads a catalogue's text back: a line for each of its frames, and the records of all its updates. Every text is answered: there is nothing to check beforehand, and no byte 0 need
+ * end it.
+ *
+ * What is written. lines[i] is frame i of the text, whole. The records lie frame after frame, SKRIEMELT_RECORD_STRIDE * objects * blocks bytes each
+ * (skriemelt_catalogue_record_bytes), and in a frame as a read leaves them, objects outermost, with the times of that frame: of a text that was written, exactly what the reads of
+ * its payloads gave. `frames` lines and `bytes` bytes of records are written, and no other byte changes. The buffers need not be cleared.
+ *
+ * SKRIEMELT_BAD_LINE with the number of a line, from 1, as the place: the first line of the text that cannot stand there. That is one
+ *   - that is none of the four above, to the byte: another key or order, a key twice, too few or too many pairs, a leading zero, a blank, a sign, a CR; or the last, without its LF;
+ *   - out of place: `start` without an update to come, `frame` with one to come, `object` before the first `start` of its frame or with an object not above the one before; in an
+ *     update that lists every field `object` with another object than the next, or without one of the fields, `start` or `frame` before the last object;
+ *   - with a number that can never stand there: a frame above 4,294,967,295, a refusal but 1 to 8 and 12, objects but 1 to 159, blocks above 8, a start above 2,047, a ramp above
+ *     2,048, an object that the frame has not, a byte that no record has there, taken by itself (z 49 to 79, the others from 0 to what is said at the places in a record);
+ *   - that lists a field which did not change, unless the update lists every field.
+ * Where the text ends with lines missing, the place is one past its last line. The empty text is good. Of a text that is accepted there is no other spelling.
+ *
+ * SKRIEMELT_NO_ROOM, behind SKRIEMELT_BAD_LINE: the record buffer is too short, place the bytes that it needs; if it is not, lines_bytes is below sizeof(skriemelt_catalogue_frame)
+ * for each frame, place that number of bytes. So with records NULL and length 0 the one length can be asked for, and then with lines NULL and length 0 the other. A text of 15 bytes
+ * more can need 5,088 bytes of records more: for a text from elsewhere ask first, or read it in pieces.
+ *
+ * Lines and records must overlap neither one another nor the text or the update before. The call's stack takes about 45 kB: more than a small thread may have.
+ */
+SKRIEMELT_MUST_USE
+skriemelt_back_answer skriemelt_catalogue_read(const uint8_t *text, size_t text_bytes, skriemelt_catalogue_frame *lines, size_t lines_bytes, uint8_t *records,
+                                               size_t records_bytes);
+
+/*
+ * The same for a text behind others, with `before` as in skriemelt_catalogue_write_on; with `before` all 0 it is skriemelt_catalogue_read. So a long text is read in pieces, cut
+ * where a line of a frame begins ("frame="), piece by piece with the same `before`: their lines and records one behind the other are those of the whole. The place of a
+ * SKRIEMELT_BAD_LINE is counted in its piece. A piece of m frames needs at most m * SKRIEMELT_MOST_RECORD_BYTES bytes of records, and has at most m * SKRIEMELT_MOST_FRAME_TEXT_BYTES
+ * bytes, if it can be accepted.
+ *
+ * SKRIEMELT_NO_ROOM with place SKRIEMELT_BEFORE_BYTES: before_bytes is below that; before SKRIEMELT_BAD_LINE. No records and no lines need just so many bytes.
+ */
+SKRIEMELT_MUST_USE
+skriemelt_back_answer skriemelt_catalogue_read_on(const uint8_t *text, size_t text_bytes, skriemelt_catalogue_before *before, size_t before_bytes,
+                                                  skriemelt_catalogue_frame *lines, size_t lines_bytes, uint8_t *records, size_t records_bytes);
+
 /* A sentence for a refusal; never NULL. */
 SKRIEMELT_INLINE const char *skriemelt_refusal_text(unsigned refusal)
 {
@@ -416,12 +549,13 @@ SKRIEMELT_INLINE const char *skriemelt_refusal_text(unsigned refusal)
     case SKRIEMELT_SECOND_ELEMENT: return "an element comes a second time";
     case SKRIEMELT_EXTENDED_EARLY: return "an extended object element comes before any object element";
     case SKRIEMELT_PAST_ELEMENT: return "a field passes the end that its element declares";
-    case SKRIEMELT_NO_ROOM: return "the buffer for the records or for the trim table is too short";
+    case SKRIEMELT_NO_ROOM: return "the buffer for the records, for the trim table, or for the lines or the update before of a catalogue is too short";
     case SKRIEMELT_NOT_VALID: return "the programme, the timing, a record, its time or the trim table is not valid";
     case SKRIEMELT_NO_FIT: return "the written form is longer than its buffer or than 4,096 bytes";
     case SKRIEMELT_OUTSIDE: return "the payload does not lie within the store";
     case SKRIEMELT_LISTS: return "the lists differ in length, or the slots or answers of a batch do not fit their buffers";
     case SKRIEMELT_TOO_MANY: return "there are more than 65,536 payloads";
+    case SKRIEMELT_BAD_LINE: return "a line of the catalogue cannot stand where it stands, or lines are missing at its end";
     case SKRIEMELT_SHORT_TEXT: return "the text is longer than its buffer";
     }
     return "no refusal of this library";
@@ -433,6 +567,12 @@ SKRIEMELT_INLINE const uint8_t *skriemelt_record(const skriemelt_read_answer *an
     if (object >= answer->programme.objects || block >= answer->timing.blocks)
         return NULL;
     return records + SKRIEMELT_RECORD_STRIDE * ((size_t)object * answer->timing.blocks + block);
+}
+
+/* How many bytes of records a frame of a catalogue has: those of the next frame begin behind them. */
+SKRIEMELT_INLINE size_t skriemelt_catalogue_record_bytes(const skriemelt_catalogue_frame *line)
+{
+    return (size_t)SKRIEMELT_RECORD_STRIDE * line->objects * line->blocks;
 }
 
 /* A record's time in samples from the first sample of frame 0: when its block starts. */

@@ -14,18 +14,26 @@
     answers = skriemelt.read_batch(store, [(0, 45), (45, 12)], frames=[7, 8])  # Tables or Refused, in order
     summary = skriemelt.summarise(store, [(0, 45), (45, 12)])  # counts over all of them
     print(summary.gains_db[0.0], summary.by_zone[skriemelt.Zone.ALL], summary.active, summary.refused)
+    text = skriemelt.write_catalogue(store, [(0, 45), (45, 12)], frames=[7, 8])  # what changed from update to update, lines of key=value
+    for frame in skriemelt.read_catalogue(text):          # and every record back
+        print(frame.frame, frame.refusal, frame.updates, [record.time for record in frame.records])
 
 Fields hold the numbers of include/skriemelt.h under its names, so that nothing is lost between a read and a write; properties say what they mean. Objects
-are frozen: `dataclasses.replace` gives changed ones. What the library reads is proved; this module hands it bytes and names what it answers.
+but Before are frozen: `dataclasses.replace` gives changed ones. What the library reads is proved; this module hands it bytes and names what it answers.
 
 Tables have a frame, and each record in them the time of its block in that frame. Nobody needs to work times out: Tables give every record that is put into them its time, by their
 frame and timing, so that they can be made by hand, moved to another frame or given another timing with `dataclasses.replace`, and written. The payload does not depend on the frame.
+
+A catalogue has a line for each frame, with its refusal or its counts, under it one for each update, and under that one for each object that is not as it was in the update before, with the fields that changed; the first update,
+and one with another number of objects than the update before, has every field of every object. A catalogue too long for one call is written, and read, in pieces that each begin with a frame: a `Before`, given to one call after the other,
+carries the update before from piece to piece.
 
 The library is looked for when the first call needs it. The environment variable SKRIEMELT_LIBRARY names it (a path, or a name for the loader); if that is
 not set, it is looked for beside this file, as libskriemelt.so.3 where the loader looks, and by ctypes.util.find_library. Its version must have the major
 number of INTERFACE and be INTERFACE at least; otherwise, and where there is none, LibraryError says what was looked for and found.
 
-Calls may run at once in several threads: nothing is kept between them but the loaded library. Bytes are used in place; a bytearray or a memoryview is copied first, so it may change during the call.
+Calls may run at once in several threads: nothing is kept between them but the loaded library, and what a Before holds, which is given to one call at a time. Bytes are used in place; a bytearray or a memoryview
+is copied first, so it may change during the call, and a str is encoded.
 """
 from __future__ import annotations
 
@@ -40,13 +48,13 @@ from dataclasses import astuple, dataclass, field, fields, replace
 from typing import Any, Dict, Iterable, Iterator, List, Optional, Sequence, Tuple, Union
 
 __all__ = [
-    "Bed", "Content", "FRAME_SAMPLES", "INTERFACE", "Library", "LibraryError", "MOST_BEDS", "MOST_BLOCKS", "MOST_ENTRIES", "MOST_OBJECTS", "MOST_PAYLOAD_BYTES",
+    "Bed", "Before", "CatalogueFrame", "Content", "FRAME_SAMPLES", "INTERFACE", "Library", "LibraryError", "MOST_BEDS", "MOST_BLOCKS", "MOST_ENTRIES", "MOST_FRAME_TEXT_BYTES", "MOST_OBJECTS", "MOST_PAYLOAD_BYTES",
     "MOST_RECORD_BYTES", "MOST_TEXT_BYTES", "MOST_TRIM_BYTES", "MOST_UNKNOWN", "ObjectClass", "Programme", "RECORD_BYTES", "RECORD_STRIDE", "RECORD_TIME",
     "Record", "Refusal", "Refused", "Summary", "TRIM_CONFIGS", "TRIM_CONFIG_STRIDE", "TRIM_FIXED", "Tables", "Timing", "Trim", "TrimCarried", "TrimConfig", "TrimMode", "Update", "Zone", "default_library",
-    "list_text", "read", "read_batch", "summarise", "write",
+    "list_text", "read", "read_batch", "read_catalogue", "summarise", "write", "write_catalogue",
 ]
 
-INTERFACE = 3001  # the version of the C interface that is needed: a thousand times the major number, plus the minor
+INTERFACE = 3002  # the version of the C interface that is needed: a thousand times the major number, plus the minor
 
 MOST_PAYLOAD_BYTES = 4096
 MOST_RECORD_BYTES = 40960
@@ -57,6 +65,7 @@ MOST_BEDS = 9
 MOST_UNKNOWN = 46
 MOST_TEXT_BYTES = 100000  # the listing of every payload fits
 MOST_ENTRIES = 65536  # payloads of a summary
+MOST_FRAME_TEXT_BYTES = 338558  # all lines of a frame in a catalogue fit
 FRAME_SAMPLES = 1536  # samples of a frame
 RECORD_STRIDE = 32  # bytes of a record: those that the payload gives, and its time
 RECORD_BYTES = 24
@@ -98,6 +107,7 @@ class Refusal(enum.IntEnum):
     OUTSIDE = 12
     LISTS = 13
     TOO_MANY = 16
+    BAD_LINE = 17
     SHORT_TEXT = 18
 
 
@@ -163,12 +173,13 @@ _MEANINGS = {
     Refusal.OUTSIDE: ("start and length leave the store", "the start in bytes"),
     Refusal.LISTS: ("the lists differ in length, or the slots or answers of a batch do not fit", "the number of starts"),
     Refusal.TOO_MANY: ("there are more than 65,536 payloads", "their number"),
+    Refusal.BAD_LINE: ("a line of the catalogue cannot stand where it does", "the number of that line, from 1; one past the last if lines are missing at the end"),
     Refusal.SHORT_TEXT: ("the text is longer than its room", "the bytes needed"),
 }
 
 
 class Refused(Exception):
-    """A payload or tables that were refused.
+    """A payload, tables, lists or a text that were refused.
 
     number: the refusal's number, see Refusal. place: where, see `place_means`. missing: with PAST_PAYLOAD the bits that were missing at the place, else 0.
     detail: what the place stands for, where the call knows more than the number says.
@@ -231,18 +242,23 @@ def _packed(values: Tuple[Any, ...], names: Sequence[str], what: str) -> bytes:
     return bytes([value if type(value) is int and 0 <= value <= 255 else _number(value, 255, f"{what}.{name}") for value, name in zip(values, names)])
 
 
-def _bytes_of(value: Any, name: str) -> bytes:
+def _bytes_of(value: Any, name: str, types: str = "bytes, bytearray or memoryview") -> bytes:
     """The bytes of what is given, in place if it is of type bytes, else a copy. A subclass may answer another length than it has, so it is copied too."""
     if type(value) is bytes:
         return value
     if not isinstance(value, (bytes, bytearray, memoryview)):
-        raise TypeError(f"{name} must be bytes, bytearray or memoryview, not {type(value).__name__}")
+        raise TypeError(f"{name} must be {types}, not {type(value).__name__}")
     with memoryview(value) as view:
         if view.itemsize != 1 or view.ndim != 1:
             raise TypeError(f"{name} is a memoryview of {view.ndim} dimensions and items of {view.itemsize} bytes; one row of bytes is needed, see memoryview.cast")
         if not view.c_contiguous:
             raise TypeError(f"{name} is a memoryview whose bytes do not lie side by side (step {view.strides[0]}); bytes() of it makes a copy that does")
         return view.tobytes()
+
+
+def _text_bytes(text: Any) -> bytes:
+    """The bytes of a text, one for each character of a str. A character beyond ASCII becomes a question mark: neither stands in any catalogue, and neither ends a line, so the same line is bad."""
+    return str.encode(text, "ascii", "replace") if isinstance(text, str) else _bytes_of(text, "text", "str, bytes, bytearray or memoryview")
 
 
 # ---- tables
@@ -549,11 +565,21 @@ class Tables:
 
     def record(self, number: int, block: int) -> Record:
         """The record of an object and a block; IndexError if there is none."""
-        if not 0 <= number < self.objects:
-            raise IndexError(f"object {number} of {self.objects}")
-        if not 0 <= block < self.blocks:
-            raise IndexError(f"block {block} of {self.blocks}")
-        return self.records[number * self.blocks + block]
+        return self.records[_record_index(number, self.objects, block, self.blocks)]
+
+
+def _record_index(number: int, objects: int, block: int, blocks: int) -> int:
+    """Where the record of an object and a block stands."""
+    if not 0 <= number < objects:
+        raise IndexError(f"object {number} of {objects}")
+    if not 0 <= block < blocks:
+        raise IndexError(f"block {block} of {blocks}")
+    return number * blocks + block
+
+
+def _records_of(raw: bytes) -> Tuple[Record, ...]:
+    """The records of the library's bytes, with the library's own times."""
+    return tuple(Record.from_bytes(raw[at:at + RECORD_STRIDE]) for at in range(0, len(raw), RECORD_STRIDE))
 
 
 def _times(frame: Any, timing: Timing) -> Tuple[int, ...]:
@@ -648,6 +674,78 @@ def _sum(a: Any, b: Any) -> Any:
     return tuple(map(operator.add, a, b)) if isinstance(a, tuple) else a + b
 
 
+# ---- the catalogue
+
+_BEFORE_BYTES = 1 + RECORD_BYTES * MOST_OBJECTS
+
+
+@dataclass
+class Before:
+    """The update before, with which a catalogue's next update is compared. `Before()` is that of a catalogue's beginning: none.
+
+    Made once and given to one call of write_catalogue after the other, or of read_catalogue, it joins their pieces to one catalogue. An accepted call puts its last update into it, if it has any; one that raises
+    leaves it as it was. Two are equal that hold the same update, and `copy` gives one that goes its own way from there. What it holds is the library's, but for `objects`.
+    """
+
+    _held: bytes = field(default=b"\0", init=False)  # the number of objects, and the first 24 bytes of each one's record
+
+    @property
+    def objects(self) -> int:
+        """The number of objects of the update before; 0 if there is none yet."""
+        return self._held[0]
+
+    def copy(self) -> Before:
+        """Another one that holds the same."""
+        other = Before()
+        other._held = self._held
+        return other
+
+    def __repr__(self) -> str:
+        return f"<skriemelt.Before, objects {self.objects}>"
+
+    def _lent(self) -> Any:
+        """The buffer that a call is lent."""
+        return (ctypes.c_uint8 * _BEFORE_BYTES)(*self._held)
+
+    def _keep(self, lent: Any) -> None:
+        """What an accepted call has left in its buffer."""
+        self._held = bytes(lent[:1 + RECORD_BYTES * lent[0]])
+
+
+def _before_of(before: Optional[Before]) -> Before:
+    if before is not None and not isinstance(before, Before):
+        raise TypeError(f"before must be a Before, not {type(before).__name__}")
+    return Before() if before is None else before
+
+
+@dataclass(frozen=True)
+class CatalogueFrame:
+    """What a catalogue says of one frame. A refused frame has no objects and no blocks.
+
+    The records are kept as bytes and made when they are first asked for, so that a long catalogue takes 32 bytes a record.
+    """
+
+    frame: int  # the number of the frame, 0 to 4,294,967,295
+    refusal: int = 0  # see Refusal; its place is not in the catalogue
+    objects: int = 0  # object count, 1 to 159; 0 if refused
+    updates: Tuple[Update, ...] = ()  # one for each block
+    record_bytes: bytes = b""  # the bytes of all records, as in Tables
+
+    @property
+    def blocks(self) -> int:
+        """The number of blocks."""
+        return len(self.updates)
+
+    @functools.cached_property
+    def records(self) -> Tuple[Record, ...]:
+        """The records, each with its time, objects outermost as in Tables: object o and block b at o * blocks + b."""
+        return _records_of(self.record_bytes)
+
+    def record(self, number: int, block: int) -> Record:
+        """The record of an object and a block; IndexError if there is none."""
+        return self.records[_record_index(number, self.objects, block, self.blocks)]
+
+
 # ---- the C interface
 
 
@@ -706,12 +804,33 @@ class _Summary(ctypes.Structure):
     ]
 
 
+class _CatalogueAnswer(ctypes.Structure):
+    _fields_ = [("place", ctypes.c_uint64), ("length", ctypes.c_uint64), ("refusal", ctypes.c_uint8)]
+
+
+class _BackAnswer(ctypes.Structure):
+    _fields_ = [("place", ctypes.c_uint64), ("frames", ctypes.c_uint64), ("bytes", ctypes.c_uint64), ("refusal", ctypes.c_uint8)]
+
+
+class _CatalogueFrame(ctypes.Structure):
+    _fields_ = [
+        ("frame", ctypes.c_uint32),
+        ("refusal", ctypes.c_uint8),
+        ("objects", ctypes.c_uint8),
+        ("blocks", ctypes.c_uint8),
+        ("zero", ctypes.c_uint8),
+        ("updates", _Update * MOST_BLOCKS),
+    ]
+
+
 _SLICE = [ctypes.c_void_p, ctypes.c_size_t]
 _READ = (_ReadAnswer, _SLICE + [ctypes.c_uint32] + _SLICE * 2)
 _WRITE = (_WriteAnswer, [_Programme, _Timing, ctypes.c_uint32] + _SLICE * 3)
 _READ_BATCH = (_BatchAnswer, _SLICE * 4 + [ctypes.c_size_t] * 2 + _SLICE * 3)
 _SUMMARISE = (_Summary, _SLICE * 3)
 _LIST_TEXT = (_WriteAnswer, _SLICE * 2)
+_WRITE_CATALOGUE = (_CatalogueAnswer, _SLICE * 6)
+_READ_CATALOGUE = (_BackAnswer, _SLICE * 4)
 _SONAME = f"libskriemelt.so.{INTERFACE // 1000}"
 
 
@@ -736,6 +855,8 @@ class Library:
         self._read_batch = self._function("skriemelt_read_batch", *_READ_BATCH)
         self._summarise = self._function("skriemelt_summarise", *_SUMMARISE)
         self._list_text = self._function("skriemelt_list_text", *_LIST_TEXT)
+        self._write_catalogue = self._function("skriemelt_catalogue_write_on", *_WRITE_CATALOGUE)
+        self._read_catalogue = self._function("skriemelt_catalogue_read_on", *_READ_CATALOGUE)
 
     def _function(self, name: str, result: Any, arguments: List[Any]) -> Any:
         try:
@@ -795,8 +916,7 @@ def _tables_of(answer: Any, frame: int, records_at: int, trim_at: int) -> Tables
     beds = tuple(Bed(bed.assignment, bed.lfeonly, bed.standard) for bed in given.beds[:given.bedcount])
     numbers = {name: getattr(given, name) for name in _PROGRAMME_NAMES if name != "bedcount"}
     updates = tuple(Update(update.start, update.ramp) for update in timing.updates[:timing.blocks])
-    raw = ctypes.string_at(records_at, RECORD_STRIDE * given.objects * timing.blocks)
-    records = tuple(Record.from_bytes(raw[at:at + RECORD_STRIDE]) for at in range(0, len(raw), RECORD_STRIDE))
+    records = _records_of(ctypes.string_at(records_at, RECORD_STRIDE * given.objects * timing.blocks))
     trim = Trim.from_bytes(ctypes.string_at(trim_at, TRIM_FIXED + given.objects))
     tables = Tables(Programme(beds=beds, **numbers), Timing(updates), (), trim, answer.unknown, frame)
     object.__setattr__(tables, "records", records)  # as they are: their times are the library's own
@@ -840,9 +960,20 @@ def _listed(entries: Iterable[Tuple[int, int]]) -> List[Tuple[int, int]]:
     return listed
 
 
+def _frame_numbers(frames: Iterable[int]) -> List[int]:
+    return [_number(frame, _MOST_FRAME, f"frames[{index}]") for index, frame in enumerate(frames)]
+
+
+def _c_lists(entries: List[Tuple[int, int]]) -> Tuple[Any, int, Any, int]:
+    """The starts and the lengths of entries, each with their number."""
+    count = len(entries)
+    starts, lengths = ((ctypes.c_uint64 * count)(*[entry[part] for entry in entries]) for part in (0, 1))
+    return starts, count, lengths, count
+
+
 def _framed(entries: List[Tuple[int, int]], frames: Optional[Iterable[int]]) -> List[_Entry]:
     """The entries of a batch, each with its frame; 0 where none are given."""
-    numbers = [0] * len(entries) if frames is None else [_number(frame, _MOST_FRAME, f"frames[{index}]") for index, frame in enumerate(frames)]
+    numbers = [0] * len(entries) if frames is None else _frame_numbers(frames)
     if len(numbers) != len(entries):
         raise ValueError(f"there are {len(numbers)} frames for {len(entries)} entries")
     return [(start, length, frame) for (start, length), frame in zip(entries, numbers)]
@@ -903,9 +1034,8 @@ def summarise(store: BytesLike, entries: Iterable[Tuple[int, int]], *, library: 
     Refused with TOO_MANY for more than MOST_ENTRIES of them. Longer lists are summarised in parts, and the summaries added up: `sum(parts, Summary())`.
     """
     data, listed = _bytes_of(store, "store"), _listed(entries)
-    lib, count = library or default_library(), len(listed)
-    starts, lengths = ((ctypes.c_uint64 * count)(*[entry[part] for entry in listed]) for part in (0, 1))
-    answer = lib._summarise(data, len(data), starts, count, lengths, count)
+    lib = library or default_library()
+    answer = lib._summarise(data, len(data), *_c_lists(listed))
     if answer.refusal:
         raise Refused(answer.refusal, answer.place)
     values = {name: getattr(answer, name) for name in _SUMMARY_NAMES}
@@ -969,3 +1099,63 @@ def list_text(payload: BytesLike, *, room: int = MOST_TEXT_BYTES, library: Optio
     if answer.refusal:
         raise Refused(answer.refusal, answer.place)
     return ctypes.string_at(text, answer.length).decode("ascii")
+
+
+def write_catalogue(
+    store: BytesLike,
+    entries: Iterable[Tuple[int, int]],
+    frames: Optional[Iterable[int]] = None,
+    before: Optional[Before] = None,
+    *,
+    library: Optional[Library] = None,
+) -> str:
+    """The catalogue of payloads, each a start and a length within one store, in bytes, as in `read_batch`, and each of a frame: without frames those from 0 on, in every call.
+
+    Refused with LISTS if there are not as many frames as entries. A refused payload has its line, too; OUTSIDE if start and length leave the store. Lines end in a line feed, the last too, so the texts of
+    parts of the lists, written with the same `before`, one behind the other are the text of the whole.
+    """
+    data, listed = _bytes_of(store, "store"), _listed(entries)
+    numbers, carried = _frame_numbers(range(len(listed)) if frames is None else frames), _before_of(before)
+    lib, lent = library or default_library(), carried._lent()
+    c_frames = (ctypes.c_uint32 * len(numbers))(*numbers)
+    call = functools.partial(lib._write_catalogue, data, len(data), *_c_lists(listed), c_frames, len(c_frames), lent, len(lent))
+    text = _buffer(0)
+    answer = call(text, 0)
+    if answer.refusal == Refusal.SHORT_TEXT:
+        text = _buffer(answer.place)
+        answer = call(text, len(text))
+    if answer.refusal:
+        raise Refused(answer.refusal, answer.place)
+    written = str(text, "ascii")
+    carried._keep(lent)
+    return written
+
+
+def read_catalogue(text: Union[str, BytesLike], before: Optional[Before] = None, *, library: Optional[Library] = None) -> List[CatalogueFrame]:
+    """What the text of a catalogue says of each frame, in the order of its lines.
+
+    Refused with BAD_LINE if a line is not of the form that a catalogue has, or cannot stand where it does; the place is the number of the first such line, from 1. Of a str, a line with characters beyond ASCII is such a line.
+    A catalogue has one spelling. A carriage return, too, makes a line bad; text mode would hide it, so a file is opened with mode "rb".
+    A long text is read in pieces, each from the beginning of a frame's line to that of another, with the same `before`; lines are counted in each piece anew.
+    """
+    data, carried = _text_bytes(text), _before_of(before)
+    lib, lent = library or default_library(), carried._lent()
+    call = functools.partial(lib._read_catalogue, data, len(data), lent, len(lent))
+    lines, records = (_CatalogueFrame * 0)(), _buffer(0)
+    answer = call(lines, 0, records, 0)
+    if answer.refusal == Refusal.NO_ROOM:  # for the records, unless there are none: then for the lines already, and this room is not used
+        records = _buffer(answer.place)
+        answer = call(lines, 0, records, len(records))
+    if answer.refusal == Refusal.NO_ROOM:
+        lines = (_CatalogueFrame * (answer.place // ctypes.sizeof(_CatalogueFrame)))()
+        answer = call(lines, ctypes.sizeof(lines), records, len(records))
+    if answer.refusal:
+        raise Refused(answer.refusal, answer.place)
+    frames, at = [], ctypes.addressof(records)
+    for line in lines:
+        updates = tuple(Update(update.start, update.ramp) for update in line.updates[:line.blocks])
+        raw = ctypes.string_at(at, RECORD_STRIDE * line.objects * line.blocks)
+        frames.append(CatalogueFrame(line.frame, line.refusal, line.objects, updates, raw))
+        at += len(raw)
+    carried._keep(lent)
+    return frames

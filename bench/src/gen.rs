@@ -5,6 +5,7 @@
 
 mod damage;
 mod draft;
+pub mod edges;
 mod extended;
 pub mod marks;
 mod object;
@@ -13,6 +14,7 @@ mod programme;
 mod render;
 pub mod rng;
 mod tables;
+pub mod texts;
 mod timing;
 mod trim;
 mod trim_tables;

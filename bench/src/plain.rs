@@ -6,6 +6,7 @@
 mod assignment;
 mod batch;
 mod bits;
+mod catalogue;
 mod extended;
 mod object;
 mod put;
@@ -24,6 +25,8 @@ use reader::{Scratch, Tables};
 use record::times;
 
 pub use batch::{answer_bytes, read_batch, BatchAnswer, Shelf, ANSWER_BYTES};
+pub use catalogue::{read_catalogue, read_catalogue_on, write_catalogue, write_catalogue_on};
+pub use catalogue::{BackAnswer, CatalogueAnswer, BEFORE_BYTES, LINE_BYTES};
 pub use record::{Record, FRAME_SAMPLES, RECORD_BYTES, RECORD_STRIDE};
 pub use summary::{summarise, Summary, MAX_ENTRIES};
 
@@ -59,6 +62,8 @@ pub mod refusal {
     pub const OUTSIDE: u32 = 12;
     pub const LISTS: u32 = 13;
     pub const MANY: u32 = 16;
+    pub const BAD_LINE: u32 = 17;
+    pub const SHORT_TEXT: u32 = 18;
 }
 
 /// One bed instance (5.5.3). 8 bytes, aligned to 4: assignment at 0, lfeonly at

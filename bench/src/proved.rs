@@ -90,6 +90,45 @@ pub struct Summary {
     pub payloads: [u32; 13],
 }
 
+/// skriemelt_catalogue_answer.
+#[repr(C)]
+#[derive(Clone, Copy, Debug)]
+pub struct CatalogueAnswer {
+    pub place: u64,
+    pub length: u64,
+    pub refusal: u8,
+}
+
+/// skriemelt_back_answer.
+#[repr(C)]
+#[derive(Clone, Copy, Debug)]
+pub struct BackAnswer {
+    pub place: u64,
+    pub frames: u64,
+    pub bytes: u64,
+    pub refusal: u8,
+}
+
+/// skriemelt_catalogue_frame.
+#[repr(C)]
+#[derive(Clone, Copy, Debug)]
+pub struct CatalogueFrame {
+    pub frame: u32,
+    pub refusal: u8,
+    pub objects: u8,
+    pub blocks: u8,
+    pub zero: u8,
+    pub updates: [Update; 8],
+}
+
+/// skriemelt_catalogue_before.
+#[repr(C)]
+#[derive(Clone, Copy, Debug)]
+pub struct CatalogueBefore {
+    pub objects: u8,
+    pub rows: [u8; 3816],
+}
+
 const _: () = {
     use core::mem::{align_of, offset_of, size_of};
     assert!(size_of::<Bed>() == 8 && align_of::<Bed>() == 4);
@@ -122,6 +161,20 @@ const _: () = {
     assert!(offset_of!(Summary, zones) == 280 && offset_of!(Summary, classes) == 304);
     assert!(offset_of!(Summary, activity) == 316 && offset_of!(Summary, late) == 324);
     assert!(offset_of!(Summary, ramps) == 328 && offset_of!(Summary, payloads) == 332);
+    assert!(size_of::<CatalogueAnswer>() == 24 && align_of::<CatalogueAnswer>() == 8);
+    assert!(offset_of!(CatalogueAnswer, place) == 0 && offset_of!(CatalogueAnswer, length) == 8);
+    assert!(offset_of!(CatalogueAnswer, refusal) == 16);
+    assert!(size_of::<BackAnswer>() == 32 && align_of::<BackAnswer>() == 8);
+    assert!(offset_of!(BackAnswer, place) == 0 && offset_of!(BackAnswer, frames) == 8);
+    assert!(offset_of!(BackAnswer, bytes) == 16 && offset_of!(BackAnswer, refusal) == 24);
+    assert!(size_of::<CatalogueFrame>() == 40 && align_of::<CatalogueFrame>() == 4);
+    assert!(offset_of!(CatalogueFrame, frame) == 0 && offset_of!(CatalogueFrame, refusal) == 4);
+    assert!(offset_of!(CatalogueFrame, objects) == 5 && offset_of!(CatalogueFrame, blocks) == 6);
+    assert!(offset_of!(CatalogueFrame, zero) == 7 && offset_of!(CatalogueFrame, updates) == 8);
+    assert!(size_of::<CatalogueFrame>() == plain::LINE_BYTES);
+    assert!(size_of::<CatalogueBefore>() == 3817 && align_of::<CatalogueBefore>() == 1);
+    assert!(offset_of!(CatalogueBefore, objects) == 0 && offset_of!(CatalogueBefore, rows) == 1);
+    assert!(size_of::<CatalogueBefore>() == plain::BEFORE_BYTES);
 };
 
 #[cfg(not(feature = "served"))]
@@ -130,9 +183,12 @@ mod linked;
 mod served;
 
 #[cfg(not(feature = "served"))]
-pub use linked::{read, read_batch, summarise, version, write};
+use linked as library;
 #[cfg(feature = "served")]
-pub use served::{read, read_batch, summarise, version, write};
+use served as library;
+
+pub use library::{read, read_batch, summarise, version, write};
+pub use library::{read_catalogue, read_catalogue_on, write_catalogue, write_catalogue_on};
 
 impl From<&plain::Programme> for Programme {
     fn from(p: &plain::Programme) -> Self {
@@ -192,6 +248,29 @@ impl Summary {
             late: self.late,
             ramps: self.ramps,
             payloads: self.payloads,
+        }
+    }
+}
+
+impl CatalogueAnswer {
+    /// The same answer in the plain writer's types, every field of it.
+    pub fn plain(&self) -> plain::CatalogueAnswer {
+        plain::CatalogueAnswer {
+            refusal: self.refusal.into(),
+            place: self.place,
+            length: self.length,
+        }
+    }
+}
+
+impl BackAnswer {
+    /// The same answer in the plain reader's types, every field of it.
+    pub fn plain(&self) -> plain::BackAnswer {
+        plain::BackAnswer {
+            refusal: self.refusal.into(),
+            place: self.place,
+            frames: self.frames,
+            bytes: self.bytes,
         }
     }
 }

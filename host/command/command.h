@@ -15,7 +15,7 @@
 typedef struct request {
     int people;         /* list: a table for people, not the listing; summary: bars, not lines key=value */
     int trim;           /* the trim table's fields too */
-    int progress;       /* shelf, summary: progress on standard error, terminal or not */
+    int progress;       /* all but list: progress on standard error, terminal or not */
     unsigned long rate; /* samples in a second, for milliseconds */
     int framed;         /* the first frame was given */
     uint64_t first;     /* the frame of the first payload; those behind it count on */
@@ -45,17 +45,22 @@ int complain(const char *what, const char *why, int error);
 __attribute__((format(printf, 1, 2)))
 #endif
 void print(const char *format, ...);
-void print_bytes(const uint8_t *bytes, size_t count);
-void print_name(const char *key, const char *name); /* a line key=name; what would break the line is written \xHH */
-void print_now(void);                               /* writes what is kept */
+void print_bytes(const uint8_t *bytes, size_t count); /* whole lines, of any length together */
+void print_name(const char *key, const char *name);   /* a line key=name; what would break the line is written \xHH */
+void print_now(void);                                 /* writes what is kept */
 int print_failed(void);
 int print_end(void); /* writes what is kept and closes; whether all was written */
 
 /* input.c: files, "-" and standard input. */
-const char *input_title(const char *name);   /* the name for messages */
-FILE *input_open(const char *name);          /* NULL: complained of */
-int input_close(FILE *in, const char *name); /* whether all that was asked for could be read; else complained of */
+const char *input_name(const request *asked); /* the one file that was asked for */
+const char *input_title(const char *name);    /* the name for messages */
+FILE *input_open(const char *name);           /* NULL: complained of */
+int input_close(FILE *in, const char *name);  /* whether all that was asked for could be read; else complained of */
 int input_is_standard(const char *name);
+
+/* A file that is gone through twice. Of one that cannot be, a pipe, a copy is made first, in a temporary file, with progress. */
+FILE *input_open_twice(const request *asked, const char *name, fpos_t *begin); /* NULL: complained of */
+int input_again(FILE *in, const char *name, const fpos_t *begin);              /* back to where it began; whether it is there, else complained of */
 
 /* Files of payloads one behind the other, each behind its length in two bytes, most byte first. */
 #define MOST_LENGTH 65535 /* of two bytes */
@@ -63,12 +68,26 @@ int input_is_standard(const char *name);
 /* How the reading of some of them ended; past the frames: with a payload that no frame number is left for. */
 typedef enum ending { MORE, AT_END, WITHIN, PAST_FRAMES } ending;
 
-ending input_payload(FILE *in, uint8_t *payload, size_t *payload_bytes); /* the next payload, into room for the longest; MORE if there was one */
+/* A part of such a file, which is given to one call; there is room for 64 payloads, however long they are. */
+typedef struct segment {
+    uint8_t store[64 * MOST_LENGTH];
+    uint64_t starts[SKRIEMELT_MOST_ENTRIES], lengths[SKRIEMELT_MOST_ENTRIES];
+    uint32_t frames[SKRIEMELT_MOST_ENTRIES];
+    size_t count, bytes;
+} segment;
 
-/* list.c, shelf.c, summary.c: the status. */
+/* The next payloads, `most` of them if there is room, the first of them of this frame; MORE if no end was met. */
+ending input_segment(FILE *in, segment *s, size_t most, uint64_t frame);
+
+/* Complains of a file that ended otherwise than behind a payload, with that payload's number and what is therefore not done ("": all was done). STATUS_FAILED. */
+int input_broken(const char *name, ending how, unsigned long long payload, const char *therefore);
+
+/* list.c, shelf.c, summary.c, catalogue.c, records.c: the status. */
 int run_list(const request *asked);
 int run_shelf(const request *asked);
 int run_summary(const request *asked);
+int run_catalogue(const request *asked);
+int run_records(const request *asked);
 
 /* people.c, trim.c: what was read. */
 const char *zone_name(unsigned zone);
@@ -87,7 +106,7 @@ typedef struct holdings {
 /* chart.c: these in words and bars. */
 void print_chart(const holdings *h, unsigned long rate);
 
-/* progress.c: how far a file of payloads has been read, on standard error. */
+/* progress.c: how far a file has been read, on standard error. */
 typedef struct progress {
     int shown, terminal;      /* terminal: standard error is one */
     int shared;               /* standard output is a terminal too: the lines go there */
@@ -96,7 +115,10 @@ typedef struct progress {
 } progress;
 
 void progress_start(progress *p, FILE *in, int always);
-void progress_show(progress *p, unsigned long long payloads, unsigned long long refused, unsigned long long bytes);
+#if defined(__GNUC__)
+__attribute__((format(printf, 3, 4)))
+#endif
+void progress_show(progress *p, unsigned long long bytes, const char *format, ...); /* what was done so far, and with how many bytes of the file */
 void progress_clear(const progress *p); /* before lines are written to the same terminal */
 void progress_end(const progress *p);
 

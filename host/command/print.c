@@ -26,18 +26,25 @@ static void fail(int error)
     complain("standard output", "cannot be written", error);
 }
 
+static void write_all(const void *bytes, size_t count)
+{
+    const char *from = bytes;
+
+    while (!failed && count > 0) {
+        ssize_t n = write(STDOUT_FILENO, from, count);
+
+        if (n >= 0) {
+            from += n;
+            count -= (size_t)n;
+        } else if (errno != EINTR) {
+            fail(errno);
+        }
+    }
+}
+
 void print_now(void)
 {
-    size_t written = 0;
-
-    while (!failed && written < kept_bytes) {
-        ssize_t n = write(STDOUT_FILENO, kept + written, kept_bytes - written);
-
-        if (n >= 0)
-            written += (size_t)n;
-        else if (errno != EINTR)
-            fail(errno);
-    }
+    write_all(kept, kept_bytes);
     kept_bytes = 0;
 }
 
@@ -53,7 +60,8 @@ void print_bytes(const uint8_t *bytes, size_t count)
     if (failed)
         return;
     if (count > ROOM - kept_bytes) {
-        fail(ENOBUFS);
+        print_now();
+        write_all(bytes, count);
         return;
     }
     memcpy(kept + kept_bytes, bytes, count);

@@ -1,7 +1,8 @@
-/* How far a file of payloads has been read. */
+/* How far a file has been read. */
 #define _POSIX_C_SOURCE 200112L
 #include "command.h"
 
+#include <stdarg.h>
 #include <sys/stat.h>
 #include <time.h>
 #include <unistd.h>
@@ -32,16 +33,21 @@ void progress_start(progress *p, FILE *in, int always)
         p->whole = (unsigned long long)file.st_size;
 }
 
-void progress_show(progress *p, unsigned long long payloads, unsigned long long refused, unsigned long long bytes)
+void progress_show(progress *p, unsigned long long bytes, const char *format, ...)
 {
     double now = seconds(), rate;
+    va_list arguments;
 
     /* on a terminal that has the lines as well it is shown anew below each of their segments */
     if (!p->shown || (!p->shared && now - p->last < BETWEEN))
         return;
     p->last = now;
     rate = (double)bytes / (now - p->began > LEAST ? now - p->began : LEAST);
-    fprintf(stderr, "%s%llu payloads, %llu refused, %.1f", p->terminal ? "\r" : "", payloads, refused, (double)bytes / MEGABYTE);
+    fputs(p->terminal ? "\r" : "", stderr);
+    va_start(arguments, format);
+    vfprintf(stderr, format, arguments);
+    va_end(arguments);
+    fprintf(stderr, ", %.1f", (double)bytes / MEGABYTE);
     if (p->whole >= bytes && p->whole > 0)
         fprintf(stderr, " of %.1f MB, %.1f MB/s, %.0f s left", (double)p->whole / MEGABYTE, rate / MEGABYTE, (double)(p->whole - bytes) / rate);
     else

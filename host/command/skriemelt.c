@@ -3,10 +3,12 @@
 #include "command.h"
 
 #include <errno.h>
+#include <fcntl.h>
 #include <limits.h>
 #include <signal.h>
 #include <stdlib.h>
 #include <string.h>
+#include <unistd.h>
 
 #define USUAL_RATE 48000
 
@@ -14,13 +16,17 @@ static const char general_help[] =
     "usage: skriemelt list [--people] [--trim] [--rate HZ] [--first N] [FILE..]\n"
     "       skriemelt shelf [--trim] [--first N] [--progress] [FILE]\n"
     "       skriemelt summary [--people] [--rate HZ] [--progress] [FILE]\n"
+    "       skriemelt catalogue [--first N] [--progress] [FILE]\n"
+    "       skriemelt records [--progress] [TEXT]\n"
     "       skriemelt SUBCOMMAND --help\n"
     "       skriemelt --help | --version\n"
     "\n"
     "Reads object audio metadata (OAMD, ETSI TS 103 420).\n"
-    "  list     each FILE is one payload: prints its listing\n"
-    "  shelf    FILE holds payloads one behind the other: prints a line for each, and counts by refusal\n"
-    "  summary  FILE is as for shelf: counts its records by gain, zone, class and activity, late blocks, and payloads by refusal\n"
+    "  list       each FILE is one payload: prints its listing\n"
+    "  shelf      FILE holds payloads one behind the other: prints a line for each, and counts by refusal\n"
+    "  summary    FILE is as for shelf: counts its records by gain, zone, class and activity, late blocks, and payloads by refusal\n"
+    "  catalogue  FILE is as for shelf: prints its catalogue, what has changed from update to update\n"
+    "  records    TEXT is a catalogue: prints all records again, as listings\n"
     "\n"
     "Exit status: 0 all accepted, 1 something was refused, 2 usage, or a file that cannot be read or written.\n";
 
@@ -53,6 +59,23 @@ static const char summary_help[] =
     "  --rate HZ   samples in a second, for the time of the ramps of --people; 48000 if it is not given, since the payload does not hold it\n"
     "  --progress  progress on standard error, also where that is no terminal\n";
 
+static const char catalogue_help[] =
+    "usage: skriemelt catalogue [--first N] [--progress] [FILE]\n"
+    "\n"
+    "FILE (- or none: standard input) holds payloads one behind the other, each behind its length in 2 bytes, most byte first. Prints their catalogue: for each\n"
+    "frame a line with its number and its refusal, or its counts of objects and blocks; for each update one with start and ramp, and one for each object that has\n"
+    "changed, with the fields that have. Nothing is printed of a file that ends within a payload. The file may have any length.\n"
+    "  --first N   the frame of the first payload; each further payload is the next frame; 0 if it is not given\n"
+    "  --progress  progress on standard error, also where that is no terminal\n";
+
+static const char records_help[] =
+    "usage: skriemelt records [--progress] [TEXT]\n"
+    "\n"
+    "TEXT (- or none: standard input) is a catalogue, as 'skriemelt catalogue' prints it. Prints for each of its frames a line frame=N, and the lines of the frame's\n"
+    "listing that a catalogue holds: refusal, objects, blocks, each block, and each record, with the times of that frame. Nothing is printed of a text that has a line\n"
+    "which cannot stand where it stands, or ends too early: exit status 1, and a message with the line's number. The text may have any length.\n"
+    "  --progress  progress on standard error, also where that is no terminal\n";
+
 /* The options that a subcommand may have, a bit each; option_of has their names in this order. */
 enum { PEOPLE = 1, TRIM = 2, RATE = 4, FIRST = 8, PROGRESS = 16 };
 
@@ -65,6 +88,8 @@ static const struct subcommand {
     {"list", list_help, run_list, -1, PEOPLE | TRIM | RATE | FIRST},
     {"shelf", shelf_help, run_shelf, 1, TRIM | FIRST | PROGRESS},
     {"summary", summary_help, run_summary, 1, PEOPLE | RATE | PROGRESS},
+    {"catalogue", catalogue_help, run_catalogue, 1, FIRST | PROGRESS},
+    {"records", records_help, run_records, 1, PROGRESS},
 };
 
 static int misuse(const char *what, const char *why)
@@ -166,7 +191,7 @@ static int run(char **arguments)
     size_t i;
 
     if (arguments[0] == NULL)
-        return misuse("no subcommand", "list, shelf or summary");
+        return misuse("no subcommand", "list, shelf, summary, catalogue or records");
     if (strcmp(arguments[0], "--help") == 0) {
         print("%s", general_help);
         return STATUS_ACCEPTED;
@@ -182,10 +207,22 @@ static int run(char **arguments)
     return misuse(arguments[0], arguments[0][0] == '-' ? "no such option" : "no such subcommand");
 }
 
+/* Gives a standard stream that is closed to a file that cannot be used as that, so that no other file gets its number; using it then is an error, as it was. */
+static void occupy_streams(void)
+{
+    int stream;
+
+    for (stream = STDIN_FILENO; stream <= STDERR_FILENO; stream++) {
+        if (fcntl(stream, F_GETFD) == -1)
+            open("/dev/null", stream == STDIN_FILENO ? O_WRONLY : O_RDONLY);
+    }
+}
+
 int main(int argc, char **argv)
 {
     int status;
 
+    occupy_streams();
     /* a closed pipe is then an error of a write, which is told */
     signal(SIGPIPE, SIG_IGN);
     if (skriemelt_version() != SKRIEMELT_VERSION)

@@ -1,31 +1,7 @@
 /* skriemelt summary: what a file of payloads holds, one behind the other as on a shelf, summarised segment by segment. */
 #include "command.h"
 
-#define STORE_BYTES (1 << 22) /* of a segment, which so holds 64 payloads or more, and 65,536 of them at the most */
-
-static struct segment {
-    uint8_t store[STORE_BYTES];
-    uint64_t starts[SKRIEMELT_MOST_ENTRIES], lengths[SKRIEMELT_MOST_ENTRIES];
-    size_t count, bytes;
-} segment;
-
-/* Reads the payloads of the next segment, as long as there is room for the longest one. */
-static ending fill_segment(FILE *in)
-{
-    segment.count = segment.bytes = 0;
-    while (segment.count < SKRIEMELT_MOST_ENTRIES && sizeof segment.store - segment.bytes >= MOST_LENGTH) {
-        size_t length;
-        ending how = input_payload(in, segment.store + segment.bytes, &length);
-
-        if (how != MORE)
-            return how;
-        segment.starts[segment.count] = segment.bytes;
-        segment.lengths[segment.count] = length;
-        segment.bytes += length;
-        segment.count++;
-    }
-    return MORE;
-}
+static segment part;
 
 static void add(unsigned long long *sums, const uint32_t *counters, size_t count)
 {
@@ -38,15 +14,15 @@ static void add(unsigned long long *sums, const uint32_t *counters, size_t count
 /* Adds what the segment holds; whether it could be summarised. */
 static int add_segment(holdings *h)
 {
-    skriemelt_summary s = skriemelt_summarise(segment.store, segment.bytes, segment.starts, segment.count, segment.lengths, segment.count);
+    skriemelt_summary s = skriemelt_summarise(part.store, part.bytes, part.starts, part.count, part.lengths, part.count);
 
     if (s.refusal != SKRIEMELT_ACCEPTED) {
         complain("a segment", skriemelt_refusal_text(s.refusal), 0);
         return 0;
     }
-    h->payloads += segment.count;
+    h->payloads += part.count;
     h->accepted += s.payloads[SKRIEMELT_ACCEPTED];
-    h->bytes += 2 * segment.count + segment.bytes;
+    h->bytes += 2 * part.count + part.bytes;
     h->records += s.records;
     h->late += s.late;
     h->ramps += s.ramps;
@@ -66,11 +42,11 @@ static int add_file(const request *asked, FILE *in, holdings *h, ending *how)
     progress_start(&shown, in, asked->progress);
     shown.shared = 0; /* nothing else is written before the end */
     do {
-        *how = fill_segment(in);
+        *how = input_segment(in, &part, SKRIEMELT_MOST_ENTRIES, 0); /* a summary has no frames */
         if (!add_segment(h))
             return 0;
         if (*how == MORE)
-            progress_show(&shown, h->payloads, h->payloads - h->accepted, h->bytes);
+            progress_show(&shown, h->bytes, "%llu payloads, %llu refused", h->payloads, h->payloads - h->accepted);
     } while (*how == MORE);
     progress_end(&shown);
     return 1;
@@ -100,19 +76,16 @@ static void print_lines(const holdings *h)
 int run_summary(const request *asked)
 {
     static holdings h;
-    const char *name = asked->name_count == 0 ? "-" : asked->names[0];
+    const char *name = input_name(asked);
     FILE *in = input_open(name);
     ending how = AT_END;
-    char where[80];
 
     if (in == NULL)
         return STATUS_FAILED;
     if (!add_file(asked, in, &h, &how) || !input_close(in, name))
         return STATUS_FAILED;
-    if (how == WITHIN) {
-        snprintf(where, sizeof where, "ends within payload %llu, and is not summarised", h.payloads);
-        return complain(input_title(name), where, 0);
-    }
+    if (how != AT_END)
+        return input_broken(name, how, h.payloads, ", and is not summarised");
     if (asked->people)
         print_chart(&h, asked->rate);
     else

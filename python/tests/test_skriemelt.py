@@ -5,6 +5,7 @@ import array
 import ast
 import collections
 import concurrent.futures
+import copy
 import ctypes
 import dataclasses
 import itertools
@@ -12,11 +13,13 @@ import math
 import os
 import pathlib
 import pickle
+import random
 import re
 import shutil
 import subprocess
 import sys
 import tempfile
+import tracemalloc
 import typing
 import unittest
 from unittest import mock
@@ -27,7 +30,7 @@ VECTORS = ROOT / "crates" / "vectors"
 sys.path.insert(0, str(HERE.parent))
 
 import skriemelt  # noqa: E402
-from skriemelt import Bed, Content, ObjectClass, Programme, Record, Refusal, Refused, Summary, Tables, Timing, Trim, TrimConfig, TrimMode, Update, Zone  # noqa: E402
+from skriemelt import Bed, Before, CatalogueFrame, Content, ObjectClass, Programme, Record, Refusal, Refused, Summary, Tables, Timing, Trim, TrimConfig, TrimMode, Update, Zone  # noqa: E402
 
 SAMPLE = (ROOT / "samples" / "three-objects.oamd").read_bytes()
 
@@ -362,6 +365,489 @@ class Summaries(unittest.TestCase):
             got.records = 7
 
 
+KEYS = (
+    "active class gain priority x y z distance width depth height zone elevation screen screen_factor screen_depth snap divergence divergence_mode divergence_value "
+    "precise precise_x precise_y precise_z"
+).split()
+HIGHEST = (1, 2, 65, 32, 62, 62, 79, 17, 31, 31, 31, 5, 1, 1, 7, 3, 1, 1, 2, 63, 7, 3, 3, 3)  # of each of these fields; the lowest is 0, but 49 for z
+
+# The records of the README's listing, bytes 7 to 23 of which are alike.
+REST = (
+    "distance=0,width=0,depth=0,height=0,zone=0,elevation=1,screen=0,screen_factor=0,screen_depth=0,snap=0,"
+    "divergence=0,divergence_mode=0,divergence_value=0,precise=0,precise_x=0,precise_y=0,precise_z=0"
+)
+WORKED = [
+    "frame=7,objects=3,blocks=2",
+    "start=0,ramp=0",
+    "object=0,active=1,class=0,gain=50,priority=2,x=31,y=31,z=64," + REST,  # 01 00 32 02 1f 1f 40
+    "object=1,active=1,class=2,gain=50,priority=32,x=11,y=12,z=77," + REST,  # 01 02 32 20 0b 0c 4d
+    "object=2,active=0,class=2,gain=0,priority=0,x=31,y=31,z=64," + REST,  # 00 02 00 00 1f 1f 40
+    "start=32,ramp=0",
+    "object=0,gain=62,priority=4",  # 3e 04
+    "object=2,active=1,x=9,y=8,z=57",  # 01, 09 08 39; object 1 stays as it was
+    "frame=8,refusal=2",
+    "frame=9,objects=1,blocks=0",
+]
+
+
+def text_of(lines):
+    return "".join(line + "\n" for line in lines)
+
+
+def catalogue_of(frames):
+    """The catalogue of frames, laid as its form is defined."""
+    lines, rows = [], []
+    for frame in frames:
+        if frame.refusal:
+            lines.append(f"frame={frame.frame},refusal={frame.refusal}")
+            continue
+        lines.append(f"frame={frame.frame},objects={frame.objects},blocks={frame.blocks}")
+        for block, update in enumerate(frame.updates):
+            lines.append(f"start={update.start},ramp={update.ramp}")
+            now = [frame.record(number, block).raw[:24] for number in range(frame.objects)]
+            for number, (row, was) in enumerate(zip(now, rows if len(rows) == len(now) else [[None] * 24] * len(now))):
+                pairs = [f"{key}={value}" for key, value, other in zip(KEYS, row, was) if value != other]
+                lines += [",".join([f"object={number}"] + pairs)] if pairs else []
+            rows = now
+    return text_of(lines)
+
+
+def frame_of(answer, frame):
+    """What a catalogue says of what a single read answers."""
+    if isinstance(answer, Refused):
+        return CatalogueFrame(frame, answer.number)
+    return CatalogueFrame(frame, 0, answer.objects, answer.timing.updates, answer.record_bytes)
+
+
+class Catalogues(Case):
+    """Catalogues against the worked text, and against what single reads give."""
+
+    STORE, ENTRIES = Summaries.STORE, Summaries.ENTRIES
+
+    def bad(self, text):
+        """The number of the line that a text is refused for, the same for a str and for bytes."""
+        places = []
+        for given in (text, text.encode("utf-8", "surrogatepass")) if isinstance(text, str) else (text,):
+            with self.assertRaises(Refused) as caught:
+                skriemelt.read_catalogue(given)
+            self.assertEqual(caught.exception.number, Refusal.BAD_LINE)
+            places.append(caught.exception.place)
+        self.assertEqual(len(set(places)), 1)
+        return places[0]
+
+    def with_line(self, number, *lines):
+        """The worked text with other lines for one."""
+        return text_of(WORKED[:number - 1] + list(lines) + WORKED[number:])
+
+    def test_worked(self):
+        text = skriemelt.write_catalogue(self.STORE, self.ENTRIES, [7, 8, 9])
+        self.assertIs(type(text), str)
+        self.assertEqual(text.splitlines(), WORKED)
+        self.assertEqual(text, text_of(WORKED))
+        self.assertEqual(len(text), 936)
+        self.assertEqual(skriemelt.write_catalogue(bytearray(self.STORE), iter(self.ENTRIES), frames=range(7, 10)), text)
+        self.assertEqual(skriemelt.write_catalogue(memoryview(self.STORE), self.ENTRIES, iter((7, 8, 9))), text)
+
+    def test_worked_back(self):
+        first, second, third = skriemelt.read_catalogue(text_of(WORKED))
+        self.assertEqual((first.frame, first.refusal, first.objects, first.blocks), (7, 0, 3, 2))
+        self.assertEqual(first.updates, (Update(0, 0), Update(32, 0)))
+        self.assertEqual([record.time for record in first.records], [10752, 10784] * 3)
+        tables = skriemelt.read(SAMPLE, 7)
+        self.assertEqual(first.records, tables.records)
+        self.assertEqual(first.record_bytes, tables.record_bytes)
+        self.assertEqual(first.record(1, 1), Record(1, ObjectClass.DYNAMIC, 50, 32, 11, 12, 77))
+        self.assertEqual(first.record(2, 1), Record(1, ObjectClass.DYNAMIC, 0, 0, 9, 8, 57))
+        self.assertEqual(first.record(0, 1).raw.hex(), "01003e041f1f400000000000010000000000000000000000202a000000000000")
+        self.assertEqual(second, CatalogueFrame(8, Refusal.PAST_PAYLOAD))
+        self.assertEqual((second.objects, second.blocks, second.updates, second.records), (0, 0, (), ()))
+        self.assertEqual(third, CatalogueFrame(9, 0, 1))
+        self.assertEqual((third.blocks, third.updates, third.records), (0, (), ()))
+
+    def test_every_type_of_text_gives_the_same(self):
+        class Text(str):
+            def encode(self, *arguments):
+                return b""
+
+            def __len__(self):
+                return 4000
+
+        text = text_of(WORKED)
+        data, want = text.encode("ascii"), skriemelt.read_catalogue(text)
+        for given in (data, bytearray(data), memoryview(data), memoryview(b"\n" + data + b"\n")[1:-1], Text(text)):
+            self.assertEqual(skriemelt.read_catalogue(given), want)
+        for given in (None, 5, [text], text_of, array.array("B", data)):
+            with self.assertRaisesRegex(TypeError, f"text must be str, bytes, bytearray or memoryview, not {type(given).__name__}"):
+                skriemelt.read_catalogue(given)
+        self.assertRaisesRegex(TypeError, "side by side", skriemelt.read_catalogue, memoryview(data)[::2])
+
+    def test_frames(self):
+        last = (1 << 32) - 1
+        sample = (0, 45)
+        text = skriemelt.write_catalogue(SAMPLE, [sample] * 3)
+        self.assertEqual([frame.frame for frame in skriemelt.read_catalogue(text)], [0, 1, 2])
+        self.assertEqual(text, skriemelt.write_catalogue(SAMPLE, [sample] * 3, [0, 1, 2]))
+        frames = [last, 5, 5, 0]
+        back = skriemelt.read_catalogue(skriemelt.write_catalogue(SAMPLE, [sample] * 4, frames))
+        self.assertEqual(back, [frame_of(skriemelt.read(SAMPLE, frame), frame) for frame in frames])
+        self.assertEqual(back[0].record(0, 1).time, last * 1536 + 32)
+        for bad in (-1, 1 << 32):
+            self.assertRaisesRegex(ValueError, r"frames\[1\] is", skriemelt.write_catalogue, SAMPLE, [sample] * 2, [0, bad])
+        self.assertRaisesRegex(TypeError, r"frames\[0\] must be an integer", skriemelt.write_catalogue, SAMPLE, [sample], ["7"])
+
+    def test_lists_that_differ(self):
+        for frames in ([], [7], [7, 8, 9]):
+            before = Before()
+            with self.assertRaises(Refused) as caught:
+                skriemelt.write_catalogue(SAMPLE, [(0, 45)] * 2, frames, before)
+            self.assertEqual((caught.exception.refusal, caught.exception.place), (Refusal.LISTS, 2))
+            self.assertIn("place 2 (the number of starts)", str(caught.exception))
+            self.assertEqual(before, Before())
+        self.assertRaisesRegex(TypeError, r"entries\[1\]", skriemelt.write_catalogue, SAMPLE, [(0, 1), 5])
+        self.assertRaisesRegex(ValueError, r"entries\[1\]", skriemelt.write_catalogue, SAMPLE, [(0, 1), (-1, 0)])
+
+    def test_rooms(self):
+        library, lent, text = skriemelt.default_library(), (ctypes.c_uint8 * 3817)(), text_of(WORKED).encode("ascii")
+        numbers, frames, out = (ctypes.c_uint64 * 3)(0, 45, 45), (ctypes.c_uint32 * 3)(7, 8, 9), (ctypes.c_uint8 * 936)()
+        store, lists = (self.STORE, len(self.STORE)), (numbers, 3, (ctypes.c_uint64 * 3)(45, 3, 4), 3, frames, 3)
+        for before_room, room, want in ((3817, 935, (18, 936, 0)), (3817, 0, (18, 936, 0)), (3816, 0, (9, 3817, 0)), (3817, 936, (0, 0, 936))):
+            answer = library._write_catalogue(*store, *lists, lent, before_room, out, room)
+            self.assertEqual((answer.refusal, answer.place, answer.length), want)
+        self.assertEqual(bytes(out), text)
+        lent, lines, records = (ctypes.c_uint8 * 3817)(), (skriemelt._CatalogueFrame * 3)(), (ctypes.c_uint8 * 192)()
+        cases = ((3816, 0, 0, (9, 3817, 0, 0)), (3817, 0, 191, (9, 192, 0, 0)), (3817, 120, 0, (9, 192, 0, 0)), (3817, 119, 192, (9, 120, 0, 0)), (3817, 120, 192, (0, 0, 3, 192)))
+        for before_room, line_room, record_room, want in cases:
+            answer = library._read_catalogue(text, len(text), lent, before_room, lines, line_room, records, record_room)
+            self.assertEqual((answer.refusal, answer.place, answer.frames, answer.bytes), want)
+
+    def test_form(self):
+        text = text_of(WORKED)
+        self.assertEqual(self.bad(text[:-1]), 10)
+        self.assertEqual(self.bad(text + "\n"), 11)
+        self.assertEqual(self.bad("\n" + text), 1)
+        self.assertEqual(self.bad(text.replace("\n", "\r\n", 1)), 1)
+        self.assertEqual(self.bad(text.replace("\n", "\r\n")), 1)
+        self.assertEqual(self.bad(text + "\0"), 11)
+        self.assertEqual(self.bad("frame"), 1)
+        cases = {
+            1: ["frame=07,objects=3,blocks=2", " frame=7,objects=3,blocks=2", "frame=7, objects=3,blocks=2", "frame=7,objects=3", "frame=7,blocks=2,objects=3",
+                "frame=+7,objects=3,blocks=2", "frame=7,objects=3,blocks=2,"],
+            2: ["start=0", "start=0,ramp=", "start=,ramp=0", "start=0,ramp=0 ", "ramp=0,start=0", "start=0,ramp=00", "Start=0,ramp=0", "start=0,ramp=0,ramp=0"],
+            3: [WORKED[2] + ",", WORKED[2] + ",precise_z=0", WORKED[2].replace(",snap=0", ""), WORKED[2].replace("class=0,", "class=0,class=0,")],
+            7: ["object=0", "object=0,", "object=0,gain=062,priority=4", "object=0,priority=4,gain=62", "object=0,gain=62,gain=62,priority=4",
+                "object=0,gain=0x3e", "object=0,volume=62", "gain=62,object=0"],
+            9: ["frame=8", "frame=8,refusal=", "frame=8,refusal=2,place=18", "frame=8,objects=1,blocks=0,refusal=2", "# frame=8,refusal=2"],
+        }
+        for number, lines in cases.items():
+            for line in lines:
+                with self.subTest(line=line):
+                    self.assertEqual(self.bad(self.with_line(number, line)), number)
+
+    def test_place(self):
+        self.assertEqual(self.bad(self.with_line(5)), 5)
+        self.assertEqual(self.bad(self.with_line(4)), 4)
+        self.assertEqual(self.bad(self.with_line(1)), 1)
+        self.assertEqual(self.bad(self.with_line(2)), 2)
+        self.assertEqual(self.bad(self.with_line(6)), 6)
+        self.assertEqual(self.bad(self.with_line(6, "start=32,ramp=0", "start=32,ramp=0")), 7)
+        self.assertEqual(self.bad(self.with_line(7, "object=2,active=1")), 8)
+        self.assertEqual(self.bad(self.with_line(8, "object=0,x=9")), 8)
+        self.assertEqual(self.bad(self.with_line(8, "object=3,x=9")), 8)
+        self.assertEqual(self.bad(self.with_line(9, "start=0,ramp=0")), 9)
+        self.assertEqual(self.bad(self.with_line(9, "frame=8,refusal=2", "start=0,ramp=0")), 10)
+        self.assertEqual(self.bad(text_of(WORKED) + "start=0,ramp=0\n"), 11)
+        self.assertEqual(self.bad(text_of(WORKED) + "object=0,gain=1\n"), 11)
+
+    def test_lines_missing_at_the_end(self):
+        for count in range(1, 6):
+            self.assertEqual(self.bad(text_of(WORKED[:count])), count + 1)
+        for count in range(6, 11):
+            self.assertEqual(skriemelt.read_catalogue(text_of(WORKED[:count]))[0].updates, (Update(0, 0), Update(32, 0)))
+        only = skriemelt.read_catalogue(text_of(WORKED[:6]))[0]
+        self.assertEqual([only.record(number, 1) for number in range(3)], [only.record(number, 0) for number in range(3)])
+        self.assertEqual([record.time for record in only.records], [10752, 10784] * 3)
+
+    def test_no_change(self):
+        self.assertEqual(self.bad(self.with_line(7, "object=0,gain=50,priority=4")), 7)
+        self.assertEqual(self.bad(self.with_line(7, "object=0,gain=62,priority=2")), 7)
+        self.assertEqual(self.bad(self.with_line(8, "object=1,precise_z=0")), 8)
+        self.assertEqual(len(skriemelt.read_catalogue(self.with_line(7))), 3)
+        self.assertEqual(self.bad(text_of(WORKED[:6] + WORKED[2:5])), 7)
+
+    def test_values(self):
+        for old, highest, above in (("frame=7", "frame=4294967295", "frame=4294967296"), ("objects=3", "objects=159", "objects=160"), ("blocks=2", "blocks=8", "blocks=9")):
+            first = WORKED[0]
+            self.assertEqual(self.bad(first.replace(old, highest) + "\n"), 2)
+            self.assertEqual(self.bad(first.replace(old, above) + "\n"), 1)
+        self.assertEqual(self.bad("frame=7,objects=0,blocks=0\n"), 1)
+        self.assertEqual(self.bad("frame=18446744073709551623,objects=1,blocks=0\n"), 1)
+        for refusal in range(20):
+            text = f"frame=0,refusal={refusal}\n"
+            if refusal in (1, 2, 3, 4, 5, 6, 7, 8, 12):
+                self.assertEqual(skriemelt.read_catalogue(text), [CatalogueFrame(0, refusal)])
+            else:
+                self.assertEqual(self.bad(text), 1)
+        self.assertEqual(skriemelt.read_catalogue(self.with_line(6, "start=2047,ramp=2048"))[0].updates[1], Update(2047, 2048))
+        self.assertEqual(self.bad(self.with_line(6, "start=2048,ramp=0")), 6)
+        self.assertEqual(self.bad(self.with_line(6, "start=0,ramp=2049")), 6)
+
+    def test_values_of_fields(self):
+        def one(values):
+            pairs = [f"{key}={value}" for key, value in zip(KEYS, values)]
+            return text_of(["frame=0,objects=1,blocks=1", "start=0,ramp=0", ",".join(["object=0"] + pairs)])
+
+        lowest = [49 if key == "z" else 0 for key in KEYS]
+        for values in (lowest, list(HIGHEST)):
+            self.assertEqual(skriemelt.read_catalogue(one(values))[0].records[0].raw, bytes(values) + bytes(8))
+        for at, key in enumerate(KEYS):
+            with self.subTest(key=key):
+                self.assertEqual(self.bad(one([value + (at == index) for index, value in enumerate(HIGHEST)])), 3)
+                self.assertEqual(self.bad(one([value - (at == index) for index, value in enumerate(lowest)])), 3)
+                self.assertEqual(self.bad(one([value + 256 * (at == index) for index, value in enumerate(HIGHEST)])), 3)
+
+    def test_beyond_ascii(self):
+        for strange in ("\u0662", "\uff12", "\xb2", "\x85", "\u2028", "\u2029", "\u010a", "\u0a0a", "\u200b", "\ud83d", "\U0001f50a", "\U000f0a0a", "\0", "\v", "\f", "\x1c", "?"):
+            with self.subTest(strange=strange):
+                for number, line in enumerate(WORKED, 1):
+                    self.assertEqual(self.bad(self.with_line(number, line + strange)), number)
+                    self.assertEqual(self.bad(self.with_line(number, line[:5] + strange * 3 + line[5:])), number)
+                    self.assertEqual(self.bad(self.with_line(number, strange + line)), number)
+                self.assertEqual(self.bad(text_of(WORKED) + strange), 11)
+                self.assertEqual(self.bad(text_of(WORKED).replace("\n", strange)), 1)
+        self.assertEqual(self.bad("\ufeff" + text_of(WORKED)), 1)
+        for byte in (*range(0x80, 0x100), *range(10), *range(11, 32)):
+            self.assertEqual(self.bad(self.with_line(9, "frame=8,refusal=2@").encode("ascii").replace(b"@", bytes([byte]))), 9)
+
+    def test_message(self):
+        with self.assertRaises(Refused) as caught:
+            skriemelt.read_catalogue(self.with_line(7, "object=0,gain=66"))
+        refused = caught.exception
+        self.assertEqual((refused.number, refused.refusal, refused.place, refused.missing), (17, Refusal.BAD_LINE, 7, 0))
+        for part in ("refusal 17: a line of the catalogue", "place 7 (the number of that line, from 1;"):
+            self.assertIn(part, str(refused))
+
+    def test_nothing(self):
+        before = Before()
+        self.assertEqual(skriemelt.write_catalogue(b"", []), "")
+        self.assertEqual(skriemelt.write_catalogue(SAMPLE, iter(()), iter(()), before), "")
+        for nothing in ("", b"", bytearray()):
+            self.assertEqual(skriemelt.read_catalogue(nothing, before), [])
+        self.assertEqual(before, Before())
+
+    def test_outside(self):
+        most = (1 << 64) - 1
+        text = skriemelt.write_catalogue(SAMPLE, [(0, 46), (46, 0), (most, most), (1, most), (45, 0)])
+        self.assertEqual(text, text_of([f"frame={frame},refusal={12 if frame < 4 else 2}" for frame in range(5)]))
+        self.assertEqual([frame.refusal for frame in skriemelt.read_catalogue(text)], [Refusal.OUTSIDE] * 4 + [Refusal.PAST_PAYLOAD])
+
+    def test_vectors(self):
+        store, places = shelf()
+        last = (1 << 32) - 1
+        for numbers in (range(len(places)), range(last, last - len(places), -1)):
+            answers = [answer_of(payload, number) for payload, number in zip(PAYLOADS, numbers)]
+            for step in (1, -1):
+                want = list(map(frame_of, answers[::step], numbers[::step]))
+                text = skriemelt.write_catalogue(store, places[::step], numbers[::step])
+                self.same(text.splitlines(), catalogue_of(want).splitlines())
+                back = skriemelt.read_catalogue(text)
+                self.same(back, want)
+                self.same(skriemelt.read_catalogue(text.encode("ascii")), want)
+                self.same([frame.records for frame in back], [() if isinstance(answer, Refused) else answer.records for answer in answers[::step]])
+
+    def test_each_vector(self):
+        for number, payload in enumerate(PAYLOADS):
+            with self.subTest(vector=number):
+                want = [frame_of(answer_of(payload, 1000), 1000)]
+                text = skriemelt.write_catalogue(payload, [(0, len(payload))], [1000])
+                self.same([text], [catalogue_of(want)])
+                self.same(skriemelt.read_catalogue(text), want)
+                self.assertLessEqual(len(text), skriemelt.MOST_FRAME_TEXT_BYTES)
+
+    def test_no_second_spelling(self):
+        """Damaged texts: what is taken all the same is the text of what it gives."""
+        chance, taken = random.Random(13), 0
+        for _ in range(4000):
+            lines = [*WORKED, "frame=10,objects=3,blocks=1", "start=5,ramp=7", "object=1,gain=9,snap=1"]
+            at = chance.randrange(len(lines))
+            place = chance.randrange(len(lines[at]) + 1)
+            lines[at] = lines[at][:place] + chance.choice(["", *"0123456789=,x\n\r \u0661"]) + lines[at][place + chance.randrange(3):]
+            text = text_of(lines)
+            try:
+                frames = skriemelt.read_catalogue(text)
+            except Refused as refused:
+                self.assertEqual(refused.number, Refusal.BAD_LINE)
+                self.assertGreater(refused.place, at)  # the lines before are as they were
+            else:
+                self.assertEqual(catalogue_of(frames), text)
+                taken += 1
+        self.assertGreater(taken, 100)
+
+    def test_threads(self):
+        store, places = shelf()
+        want = skriemelt.write_catalogue(store, places)
+        frames = skriemelt.read_catalogue(want)
+        with concurrent.futures.ThreadPoolExecutor(8) as pool:
+            texts = [pool.submit(skriemelt.write_catalogue, store, places) for _ in range(8)]
+            backs = [pool.submit(skriemelt.read_catalogue, want) for _ in range(8)]
+            self.assertEqual({text.result() for text in texts}, {want})
+            for back in backs:
+                self.same(back.result(), frames)
+
+    def test_no_more_copies_than_needed(self):
+        def most(call):
+            tracemalloc.start()
+            self.addCleanup(tracemalloc.stop)
+            call()
+            peak = tracemalloc.get_traced_memory()[1]
+            tracemalloc.stop()
+            return peak
+
+        store, little = SAMPLE + bytes(1 << 22), 1 << 18
+        text = "frame=0,refusal=2\n" * (1 << 17) + "frame"
+        data = text.encode("ascii")
+        self.assertLess(most(lambda: skriemelt.write_catalogue(store, [(0, 45)])), little)
+        self.assertLess(most(lambda: self.assertRaises(Refused, skriemelt.read_catalogue, data)), little)
+        self.assertLess(most(lambda: self.assertRaises(Refused, skriemelt.read_catalogue, text)), len(text) + little)
+        head, every = ["frame=0,objects=159,blocks=8"], [f"object={number}," + WORKED[2].split(",", 1)[1] for number in range(159)]
+        data = text_of(head + ["start=0,ramp=0"] + every + ["start=0,ramp=0"] * 7 + (head + ["start=0,ramp=0"] * 8) * 20).encode("ascii")
+        self.assertLess(most(lambda: skriemelt.read_catalogue(data)), 2 * 32 * 159 * 8 * 21 + little)
+
+    def test_the_given_bytes_stay(self):
+        store, text = bytearray(SAMPLE), bytearray(text_of(WORKED), "ascii")
+        skriemelt.write_catalogue(store, [(0, 45)])
+        skriemelt.read_catalogue(text)
+        self.assertEqual((store, text), (SAMPLE, text_of(WORKED).encode("ascii")))
+        store.append(0)  # no view of them is held
+        text.append(0)
+
+    def test_frames_as_values(self):
+        frame = skriemelt.read_catalogue(text_of(WORKED))[0]
+        again = pickle.loads(pickle.dumps(frame))
+        self.assertEqual((again, again.records), (frame, frame.records))
+        self.assertIs(frame.records, frame.records)
+        self.assertEqual(len({frame, again, CatalogueFrame(7)}), 2)
+        self.assertEqual(CatalogueFrame(7), CatalogueFrame(7, 0, 0, (), b""))
+        with self.assertRaises(dataclasses.FrozenInstanceError):
+            frame.refusal = 2
+        for pair in ((3, 0), (0, 2), (-1, 0), (0, -1)):
+            self.assertRaises(IndexError, frame.record, *pair)
+        self.assertRaisesRegex(IndexError, "object 0 of 0", CatalogueFrame(8, 2).record, 0, 0)
+        tables = skriemelt.read(SAMPLE)
+        made = dataclasses.replace(tables, timing=Timing(frame.updates), records=frame.records, frame=frame.frame)
+        self.assertEqual(skriemelt.write(made), skriemelt.write(tables))
+
+
+class Carried(Case):
+    """Catalogues in pieces, with the update before carried over."""
+
+    STORE, ENTRIES = Summaries.STORE, Summaries.ENTRIES
+
+    def cut(self, text):
+        """The text of each frame."""
+        return re.findall(r"frame=.*\n(?:[so].*\n)*", text)
+
+    def test_two_calls_against_one(self):
+        one, frames = Before(), [7, 8, 9]
+        want = skriemelt.write_catalogue(self.STORE, self.ENTRIES, frames, one)
+        self.assertEqual(want, text_of(WORKED))
+        for at in range(4):
+            there, back = Before(), Before()
+            parts = [skriemelt.write_catalogue(self.STORE, self.ENTRIES[part], frames[part], before=there) for part in (slice(0, at), slice(at, 3))]
+            self.assertEqual("".join(parts), want)
+            self.assertEqual(there, one)
+            self.assertEqual([frame for part in parts for frame in skriemelt.read_catalogue(part, back)], skriemelt.read_catalogue(want))
+            self.assertEqual(back, one)
+
+    def test_what_is_carried(self):
+        before = Before()
+        first = skriemelt.write_catalogue(SAMPLE, [(0, 45)], [0], before)
+        self.assertEqual(first, text_of(["frame=0,objects=3,blocks=2"] + WORKED[1:8]))
+        # The next frame is the same payload: its first update takes back what its second has changed.
+        want = text_of(["frame=1,objects=3,blocks=2", "start=0,ramp=0", "object=0,gain=50,priority=2", "object=2,active=0,x=31,y=31,z=64"] + WORKED[5:8])
+        self.assertEqual(skriemelt.write_catalogue(SAMPLE, [(0, 45)], [1], before), want)
+        self.assertEqual(skriemelt.write_catalogue(SAMPLE, [(0, 45)] * 2), first + want)
+        back = Before()
+        skriemelt.read_catalogue(first, back)
+        self.assertEqual(back, before)
+        self.assertEqual(skriemelt.read_catalogue(want, back), [frame_of(skriemelt.read(SAMPLE, 1), 1)])
+        self.assertEqual(back, before)
+        with self.assertRaises(Refused) as caught:
+            skriemelt.read_catalogue(want)
+        self.assertEqual((caught.exception.refusal, caught.exception.place), (Refusal.BAD_LINE, 3))
+        with self.assertRaises(Refused) as caught:
+            skriemelt.read_catalogue(first, back)
+        self.assertEqual((caught.exception.refusal, caught.exception.place), (Refusal.BAD_LINE, 3))
+        self.assertEqual(back, before)
+
+    def test_vectors_in_pieces(self):
+        store, places = shelf()
+        frames, whole = range(100, 100 + len(places)), Before()
+        want = skriemelt.write_catalogue(store, places, frames, whole)
+        back = skriemelt.read_catalogue(want)
+        for step in (1, 2, 7, 100):
+            there, again, parts, read = Before(), Before(), [], []
+            for at in range(0, len(places), step):
+                parts.append(skriemelt.write_catalogue(store, places[at:at + step], frames[at:at + step], there))
+                read += skriemelt.read_catalogue(parts[-1], again)
+                self.assertEqual(there, again)
+            self.same(["".join(parts)], [want])
+            if step == 1:
+                self.same(parts, self.cut(want))
+            self.same(read, back)
+            self.assertEqual(there, whole)
+
+    def test_frames_without_updates_are_passed_over(self):
+        before = Before()
+        self.assertEqual(before.objects, 0)
+        skriemelt.write_catalogue(self.STORE, self.ENTRIES[1:], before=before)
+        self.assertEqual(before, Before())
+        skriemelt.write_catalogue(self.STORE, self.ENTRIES, before=before)
+        self.assertEqual(before.objects, 3)
+        held = before.copy()
+        skriemelt.read_catalogue("frame=1,refusal=12\nframe=2,objects=159,blocks=0\n", before)
+        self.assertEqual((before, before.objects), (held, 3))
+
+    def test_what_is_left_of_longer_updates_does_not_count(self):
+        many, one = skriemelt.write(dataclasses.replace(small(20, 1), records=(Record(1, 2, 60, 32),) * 20)), skriemelt.write(small(1, 1))
+        before, alone = Before(), Before()
+        skriemelt.write_catalogue(many, [(0, len(many))], before=before)
+        self.assertEqual(before.objects, 20)
+        text = skriemelt.write_catalogue(one, [(0, len(one))], before=before)
+        self.assertEqual(skriemelt.write_catalogue(one, [(0, len(one))], before=alone), text)
+        self.assertEqual((before, before.objects), (alone, 1))
+
+    def test_refused_calls_change_nothing(self):
+        before = Before()
+        skriemelt.write_catalogue(SAMPLE, [(0, 45)], before=before)
+        held = before.copy()
+        later = "frame=1,objects=1,blocks=1\nstart=0,ramp=0\n" + "object=0," + WORKED[2].split(",", 1)[1] + "\n"
+        for text in (later + "\n", later + "frame=2,objects=1,blocks=1\n", later[:-1]):
+            self.assertRaises(Refused, skriemelt.read_catalogue, text, before)
+            self.assertEqual(before, held)
+        self.assertRaises(Refused, skriemelt.write_catalogue, SAMPLE[:3], [(0, 3)], [], before)
+        self.assertRaises(TypeError, skriemelt.write_catalogue, SAMPLE, [(0, 45), None], None, before)
+        self.assertEqual(before, held)
+        skriemelt.read_catalogue(later, before)
+        self.assertEqual(before.objects, 1)
+        self.assertNotEqual(before, held)
+
+    def test_before_as_a_value(self):
+        before = Before()
+        skriemelt.read_catalogue(text_of(WORKED), before)
+        for other in (before.copy(), copy.copy(before), copy.deepcopy(before), pickle.loads(pickle.dumps(before))):
+            self.assertIsNot(other, before)
+            self.assertEqual((other, other.objects), (before, 3))
+            skriemelt.read_catalogue("frame=10,objects=3,blocks=1\nstart=0,ramp=0\nobject=1,gain=49\n", other)
+            self.assertNotEqual(other, before)
+        self.assertNotEqual(before, Before())
+        self.assertNotEqual(Before(), b"\0")
+        self.assertIn("objects 3", repr(before))
+        self.assertRaises(TypeError, hash, before)
+        for bad in (b"", bytes(3817), 0, "", [], Before):
+            self.assertRaisesRegex(TypeError, "before must be a Before", skriemelt.read_catalogue, "", bad)
+            self.assertRaisesRegex(TypeError, "before must be a Before", skriemelt.write_catalogue, b"", [], [], bad)
+
+
 class Frames(Case):
     """Frames, and the time of each record."""
 
@@ -641,13 +1127,15 @@ class NoBytes(unittest.TestCase):
     def test_other_types(self):
         for given in ("01", None, 5, 1.5, [1, 2], (1, 2), {1}, object(), array.array("B", [1, 2]), range(3), (ctypes.c_uint8 * 3)()):
             name = re.escape(type(given).__name__)
-            for call in (skriemelt.read, skriemelt.list_text, lambda store: skriemelt.read_batch(store, []), lambda store: skriemelt.summarise(store, []), Record.from_bytes, Trim.from_bytes):
+            lists = [lambda store, call=call: call(store, []) for call in (skriemelt.read_batch, skriemelt.summarise, skriemelt.write_catalogue)]
+            for call in (skriemelt.read, skriemelt.list_text, *lists, Record.from_bytes, Trim.from_bytes):
                 with self.subTest(given=given), self.assertRaisesRegex(TypeError, f"must be bytes, bytearray or memoryview, not {name}"):
                     call(given)
 
     def test_views_that_do_not_lie_side_by_side(self):
         for view in (memoryview(SAMPLE)[::2], memoryview(SAMPLE)[::-1], memoryview(bytearray(SAMPLE))[1::3]):
-            for call in (skriemelt.read, lambda store: skriemelt.read_batch(store, [(0, 1)]), lambda store: skriemelt.summarise(store, [(0, 1)])):
+            lists = [lambda store, call=call: call(store, [(0, 1)]) for call in (skriemelt.read_batch, skriemelt.summarise, skriemelt.write_catalogue)]
+            for call in (skriemelt.read, *lists):
                 self.assertRaisesRegex(TypeError, "side by side", call, view)
 
     def test_views_of_other_items(self):
@@ -699,7 +1187,7 @@ class Interface(unittest.TestCase):
         known.update({"RECORD_" + name.rstrip("_").upper(): at for at, name in enumerate(skriemelt._RECORD_NAMES)})
         known.update({"TRIM_CONFIG_" + name.upper(): at for at, name in enumerate(skriemelt._CONFIG_NAMES)})
         known.update({name: getattr(skriemelt, name) for name in dir(skriemelt) if re.fullmatch(r"(MOST|FRAME|RECORD|TRIM)_[A-Z_]+", name)})
-        known.update({name: getattr(skriemelt, "_" + name) for name in ("GAINS", "ZONES", "CLASSES", "ACTIVITIES", "PAYLOAD_ANSWERS")})
+        known.update({name: getattr(skriemelt, "_" + name) for name in ("GAINS", "ZONES", "CLASSES", "ACTIVITIES", "PAYLOAD_ANSWERS", "BEFORE_BYTES")})
         for name, value in defined.items():
             if name in known:
                 self.assertEqual(known[name], value, name)
@@ -709,12 +1197,16 @@ class Interface(unittest.TestCase):
         self.assertGreaterEqual(version, skriemelt.INTERFACE)
 
     def test_layout(self):
-        sizes = {"_Bed": 8, "_Programme": 84, "_Update": 4, "_Timing": 34, "_ReadAnswer": 136, "_WriteAnswer": 16, "_BatchAnswer": 16, "_Summary": 384}
+        sizes = {"_Bed": 8, "_Programme": 84, "_Update": 4, "_Timing": 34, "_ReadAnswer": 136, "_WriteAnswer": 16, "_BatchAnswer": 16, "_Summary": 384,
+                 "_CatalogueAnswer": 24, "_BackAnswer": 32, "_CatalogueFrame": 40}
         self.assertEqual({name: ctypes.sizeof(getattr(skriemelt, name)) for name in sizes}, sizes)
         answer = skriemelt._ReadAnswer
         self.assertEqual([getattr(answer, name).offset for name, _ in answer._fields_], [0, 8, 9, 12, 96, 132])
         summary = skriemelt._Summary
         self.assertEqual([getattr(summary, name).offset for name, _ in summary._fields_], [0, 8, 12, 16, 280, 304, 316, 324, 328, 332])
+        line = skriemelt._CatalogueFrame
+        self.assertEqual([getattr(line, name).offset for name, _ in line._fields_], [0, 4, 5, 6, 7, 8])
+        self.assertEqual((skriemelt._CatalogueAnswer.refusal.offset, skriemelt._BackAnswer.refusal.offset, skriemelt._BEFORE_BYTES), (16, 24, 3817))
         self.assertEqual((skriemelt._Programme.beds.offset, skriemelt._Timing.updates.offset, skriemelt._WriteAnswer.refusal.offset), (12, 2, 12))
 
     def test_typed(self):
@@ -746,6 +1238,8 @@ void skriemelt_read(void) {}
 void skriemelt_write(void) {}
 void skriemelt_read_batch(void) {}
 void skriemelt_summarise(void) {}
+void skriemelt_catalogue_write_on(void) {}
+void skriemelt_catalogue_read_on(void) {}
 text_answer skriemelt_list_text(const uint8_t *payload, size_t payload_bytes, uint8_t *text, size_t text_bytes)
 {
     text_answer a = {0, 10, 0}, b = {10, 0, 18};
@@ -816,35 +1310,37 @@ class OtherVersion(unittest.TestCase):
         return str(path)
 
     def test_versions_that_do_not_fit(self):
-        for version in (0, 1002, 2003, 2999, 3000, 4000, 13000):
+        for version in (0, 1002, 2003, 2999, 3000, 3001, 4000, 13000):
             path = self.stub(f"-DVERSION={version}")
             with self.subTest(version=version), mock.patch.dict(os.environ, {"SKRIEMELT_LIBRARY": path}):
                 with self.assertRaises(skriemelt.LibraryError) as caught:
                     skriemelt.read(SAMPLE)
-                for part in (path, f"has version {version} ", "3001 to 3999"):
+                for part in (path, f"has version {version} ", "3002 to 3999"):
                     self.assertIn(part, str(caught.exception))
 
     def test_versions_that_fit(self):
-        for version in (3001, 3002, 3999):
+        for version in (3002, 3003, 3999):
             library = skriemelt.Library(self.stub(f"-DVERSION={version}"))
             self.assertEqual(library.version, version)
             self.assertIn(str(version), repr(library))
 
     def test_listing(self):
-        library = skriemelt.Library(self.stub("-DVERSION=3001"))
+        library = skriemelt.Library(self.stub("-DVERSION=3002"))
         self.assertEqual(skriemelt.list_text(SAMPLE, library=library), "refusal=0\n")
         with self.assertRaises(Refused) as caught:
             skriemelt.list_text(SAMPLE, room=9, library=library)
         self.assertEqual((caught.exception.refusal, caught.exception.place), (Refusal.SHORT_TEXT, 10))
 
     def test_functions_that_are_not_there(self):
-        path = self.stub("-DVERSION=3001", "-DALONE")
+        path = self.stub("-DVERSION=3002", "-DALONE")
         self.assertRaisesRegex(skriemelt.LibraryError, "no function skriemelt_read", skriemelt.Library, path)
-        other = self.stub("-DVERSION=3001", "-Dskriemelt_version=another_version")
+        fewer = self.stub("-DVERSION=3002", "-Dskriemelt_catalogue_read_on=another_read_on")
+        self.assertRaisesRegex(skriemelt.LibraryError, "no function skriemelt_catalogue_read_on", skriemelt.Library, fewer)
+        other = self.stub("-DVERSION=3002", "-Dskriemelt_version=another_version")
         self.assertRaisesRegex(skriemelt.LibraryError, "no function skriemelt_version", skriemelt.Library, pathlib.Path(other))
 
     def test_the_first_that_loads_decides(self):
-        old, fit = self.stub("-DVERSION=2003"), self.stub("-DVERSION=3001")
+        old, fit = self.stub("-DVERSION=2003"), self.stub("-DVERSION=3002")
         with mock.patch.dict(os.environ, {"SKRIEMELT_LIBRARY": ""}):
             self.addCleanup(skriemelt._opened.cache_clear)
             with mock.patch.object(skriemelt, "_candidates", lambda: iter(["/nowhere/lib.so", fit, old])):

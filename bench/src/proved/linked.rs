@@ -1,5 +1,6 @@
 //! The library's functions, linked.
 
+use super::{BackAnswer, CatalogueAnswer, CatalogueBefore, CatalogueFrame};
 use super::{BatchAnswer, Programme, ReadAnswer, Summary, Timing, WriteAnswer};
 use crate::plain::Shelf;
 
@@ -41,6 +42,50 @@ extern "C" {
         lengths: *const u64,
         lengths_count: usize,
     ) -> Summary;
+    fn skriemelt_catalogue_write(
+        store: *const u8,
+        store_bytes: usize,
+        starts: *const u64,
+        starts_count: usize,
+        lengths: *const u64,
+        lengths_count: usize,
+        frames: *const u32,
+        frames_count: usize,
+        text: *mut u8,
+        text_bytes: usize,
+    ) -> CatalogueAnswer;
+    fn skriemelt_catalogue_write_on(
+        store: *const u8,
+        store_bytes: usize,
+        starts: *const u64,
+        starts_count: usize,
+        lengths: *const u64,
+        lengths_count: usize,
+        frames: *const u32,
+        frames_count: usize,
+        before: *mut CatalogueBefore,
+        before_bytes: usize,
+        text: *mut u8,
+        text_bytes: usize,
+    ) -> CatalogueAnswer;
+    fn skriemelt_catalogue_read(
+        text: *const u8,
+        text_bytes: usize,
+        lines: *mut CatalogueFrame,
+        lines_bytes: usize,
+        records: *mut u8,
+        records_bytes: usize,
+    ) -> BackAnswer;
+    fn skriemelt_catalogue_read_on(
+        text: *const u8,
+        text_bytes: usize,
+        before: *mut CatalogueBefore,
+        before_bytes: usize,
+        lines: *mut CatalogueFrame,
+        lines_bytes: usize,
+        records: *mut u8,
+        records_bytes: usize,
+    ) -> BackAnswer;
     fn skriemelt_write(
         programme: Programme,
         timing: Timing,
@@ -120,6 +165,96 @@ pub fn summarise(store: &[u8], starts: &[u64], lengths: &[u64]) -> Summary {
             starts.len(),
             lengths.as_ptr(),
             lengths.len(),
+        )
+    }
+}
+
+/// Writes the catalogue of a segment with the proved library.
+pub fn write_catalogue(
+    store: &[u8],
+    starts: &[u64],
+    lengths: &[u64],
+    frames: &[u32],
+    text: &mut [u8],
+) -> CatalogueAnswer {
+    // SAFETY: the slices are valid for their lengths, and the text overlaps none.
+    unsafe {
+        skriemelt_catalogue_write(
+            store.as_ptr(),
+            store.len(),
+            starts.as_ptr(),
+            starts.len(),
+            lengths.as_ptr(),
+            lengths.len(),
+            frames.as_ptr(),
+            frames.len(),
+            text.as_mut_ptr(),
+            text.len(),
+        )
+    }
+}
+
+/// Writes the catalogue of a segment behind an update with the proved library.
+pub fn write_catalogue_on(
+    store: &[u8],
+    starts: &[u64],
+    lengths: &[u64],
+    frames: &[u32],
+    before: &mut [u8],
+    text: &mut [u8],
+) -> CatalogueAnswer {
+    // SAFETY: the slices are valid for their lengths, and those to be filled overlap none.
+    unsafe {
+        skriemelt_catalogue_write_on(
+            store.as_ptr(),
+            store.len(),
+            starts.as_ptr(),
+            starts.len(),
+            lengths.as_ptr(),
+            lengths.len(),
+            frames.as_ptr(),
+            frames.len(),
+            before.as_mut_ptr().cast(),
+            before.len(),
+            text.as_mut_ptr(),
+            text.len(),
+        )
+    }
+}
+
+/// Reads a catalogue's text back with the proved library. The lines are bytes here: the library writes them one by one, at any alignment.
+pub fn read_catalogue(text: &[u8], lines: &mut [u8], records: &mut [u8]) -> BackAnswer {
+    // SAFETY: the slices are valid for their lengths, and those to be filled overlap none.
+    unsafe {
+        skriemelt_catalogue_read(
+            text.as_ptr(),
+            text.len(),
+            lines.as_mut_ptr().cast(),
+            lines.len(),
+            records.as_mut_ptr(),
+            records.len(),
+        )
+    }
+}
+
+/// Reads a catalogue's text back behind an update with the proved library.
+pub fn read_catalogue_on(
+    text: &[u8],
+    before: &mut [u8],
+    lines: &mut [u8],
+    records: &mut [u8],
+) -> BackAnswer {
+    // SAFETY: the slices are valid for their lengths, and those to be filled overlap none.
+    unsafe {
+        skriemelt_catalogue_read_on(
+            text.as_ptr(),
+            text.len(),
+            before.as_mut_ptr().cast(),
+            before.len(),
+            lines.as_mut_ptr().cast(),
+            lines.len(),
+            records.as_mut_ptr(),
+            records.len(),
         )
     }
 }

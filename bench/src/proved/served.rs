@@ -1,6 +1,7 @@
 //! The library's functions, asked of host/serve.c, which says how requests and answers are laid out. The command that runs it is in the variable SERVE.
 
-use super::{BatchAnswer, Bed, Programme, ReadAnswer, Summary, Timing, Update, WriteAnswer};
+use super::{BackAnswer, BatchAnswer, CatalogueAnswer};
+use super::{Bed, Programme, ReadAnswer, Summary, Timing, Update, WriteAnswer};
 use crate::plain::Shelf;
 use std::cell::RefCell;
 use std::io::{Read, Write};
@@ -9,6 +10,8 @@ use std::process::{ChildStdin, ChildStdout, Command, Stdio};
 const READ_ANSWER_BYTES: usize = 8 + 1 + 1 + (10 + 9 * 6) + (1 + 8 * 4) + 4;
 const WRITE_ANSWER_BYTES: usize = 8 + 4 + 1;
 const BATCH_ANSWER_BYTES: usize = 8 + 1;
+const CATALOGUE_ANSWER_BYTES: usize = 8 + 8 + 1;
+const BACK_ANSWER_BYTES: usize = 8 + 8 + 8 + 1;
 const SUMMARY_BYTES: usize = 8 + 1 + 4 * (1 + 66 + 6 + 3 + 2 + 1 + 1 + 13);
 
 /// The serving process.
@@ -170,6 +173,12 @@ fn add_list(request: &mut Vec<u8>, list: &[u64]) {
     request.extend(list.iter().flat_map(|number| number.to_le_bytes()));
 }
 
+/// Adds a list of frames, as its length and 4 bytes for each.
+fn add_frames(request: &mut Vec<u8>, frames: &[u32]) {
+    add_number(request, frames.len());
+    request.extend(frames.iter().flat_map(|frame| frame.to_le_bytes()));
+}
+
 /// Reads a shelf of payloads with the proved library.
 pub fn read_batch(
     shelf: &Shelf,
@@ -181,8 +190,7 @@ pub fn read_batch(
     add_given(&mut request, shelf.store);
     add_list(&mut request, shelf.starts);
     add_list(&mut request, shelf.lengths);
-    add_number(&mut request, shelf.frames.len());
-    request.extend(shelf.frames.iter().flat_map(|frame| frame.to_le_bytes()));
+    add_frames(&mut request, shelf.frames);
     request.extend((shelf.record_slot as u64).to_le_bytes());
     request.extend((shelf.trim_slot as u64).to_le_bytes());
     add_lent(&mut request, records);
@@ -215,6 +223,91 @@ pub fn summarise(store: &[u8], starts: &[u64], lengths: &[u64]) -> Summary {
         ramps: answer.u32(),
         payloads: answer.counters(),
     }
+}
+
+/// A request for the catalogue of a segment, without the buffers.
+fn catalogue_request(
+    letter: u8,
+    store: &[u8],
+    starts: &[u64],
+    lengths: &[u64],
+    frames: &[u32],
+) -> Vec<u8> {
+    let mut request = vec![letter];
+    add_given(&mut request, store);
+    add_list(&mut request, starts);
+    add_list(&mut request, lengths);
+    add_frames(&mut request, frames);
+    request
+}
+
+/// Sends such a request with its buffers.
+fn ask_catalogue(mut request: Vec<u8>, buffers: &mut [&mut [u8]]) -> CatalogueAnswer {
+    for buffer in buffers.iter() {
+        add_lent(&mut request, buffer);
+    }
+    let mut answer = ask(&request, CATALOGUE_ANSWER_BYTES, buffers);
+    CatalogueAnswer {
+        place: answer.u64(),
+        length: answer.u64(),
+        refusal: answer.u8(),
+    }
+}
+
+/// Writes the catalogue of a segment with the proved library.
+pub fn write_catalogue(
+    store: &[u8],
+    starts: &[u64],
+    lengths: &[u64],
+    frames: &[u32],
+    text: &mut [u8],
+) -> CatalogueAnswer {
+    let request = catalogue_request(b'c', store, starts, lengths, frames);
+    ask_catalogue(request, &mut [text])
+}
+
+/// Writes the catalogue of a segment behind an update with the proved library.
+pub fn write_catalogue_on(
+    store: &[u8],
+    starts: &[u64],
+    lengths: &[u64],
+    frames: &[u32],
+    before: &mut [u8],
+    text: &mut [u8],
+) -> CatalogueAnswer {
+    let request = catalogue_request(b'C', store, starts, lengths, frames);
+    ask_catalogue(request, &mut [before, text])
+}
+
+/// Sends a text that is to be read back, and the buffers of that request.
+fn ask_back(letter: u8, text: &[u8], buffers: &mut [&mut [u8]]) -> BackAnswer {
+    let mut request = vec![letter];
+    add_given(&mut request, text);
+    for buffer in buffers.iter() {
+        add_lent(&mut request, buffer);
+    }
+    let mut answer = ask(&request, BACK_ANSWER_BYTES, buffers);
+    BackAnswer {
+        place: answer.u64(),
+        frames: answer.u64(),
+        bytes: answer.u64(),
+        refusal: answer.u8(),
+    }
+}
+
+/// Reads a catalogue's text back with the proved library.
+pub fn read_catalogue(text: &[u8], lines: &mut [u8], records: &mut [u8]) -> BackAnswer {
+    ask_back(b't', text, &mut [lines, records])
+}
+
+/// Reads a catalogue's text back behind an update with the proved library.
+pub fn read_catalogue_on(
+    text: &[u8],
+    before: &mut [u8],
+    lines: &mut [u8],
+    records: &mut [u8],
+) -> BackAnswer {
+    ask_back(b'T', text, &mut [before, lines, records])
 }
 
 /// Writes tables with the proved library.

@@ -2,6 +2,8 @@
 
 #![allow(dead_code)]
 
+pub mod catalogue;
+
 use skriemelt_bench::plain::{read, Answer};
 
 /// The bits as bytes, the last one filled up with zeros.

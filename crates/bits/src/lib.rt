@@ -69,5 +69,6 @@ pub enum Refusal {
     Outside,
     Lists,
     Many,
+    BadLine,
     ShortText,
 }

@@ -22,6 +22,7 @@ pub fn number(r: Refusal) -> u8
         Refusal::Outside => 12,
         Refusal::Lists => 13,
         Refusal::Many => 16,
+        Refusal::BadLine => 17,
         Refusal::ShortText => 18,
     }
 }

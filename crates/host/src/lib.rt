@@ -4,8 +4,12 @@ ghost use Rattle.oamd.specs.Answer.{reading};
 ghost use Rattle.oamd.specs.Batch.{batching};
 ghost use Rattle.form.specs.Answer.{writing};
 ghost use Rattle.summary.specs.Summary.{summing};
+ghost use Rattle.catalogue.specs.Answer.{cataloguing, readingBack};
+ghost use Rattle.catalogue.specs.Calls.{cataloguingAlone, readingBackAlone};
 ghost use Rattle.text.specs.Answer.{texted};
 ghost use Rattle.text.specs.Listing.{listing};
+use catalogue::BackAnswer;
+use catalogue::CatalogueAnswer;
 use oamd::BatchAnswer;
 use oamd::Programme;
 use oamd::ReadAnswer;
@@ -15,11 +19,11 @@ use summary::Summary;
 use text::TextAnswer;
 
 // The version of this interface: a thousand times the major number, plus the minor.
-const VERSION: u32 = 3001;
+const VERSION: u32 = 3002;
 
 #[no_mangle]
 pub extern "C" fn skriemelt_version() -> u32
-    ensures { λ r. ⌜ r ≡ 3001 ⌝ }
+    ensures { λ r. ⌜ r ≡ 3002 ⌝ }
 {
     VERSION
 }
@@ -106,4 +110,70 @@ pub extern "C" fn skriemelt_summarise(store: &[u8], starts: &[u64], lengths: &[u
     ensures { λ r. ⌜ r ≡ summing (now (store .entry)) (now (starts .entry)) (now (lengths .entry)) ⌝ }
 {
     summary::summarise(store, starts, lengths)
+}
+
+// Lays the catalogue of a segment of frames. Accepted: the text is the first bytes of the lent buffer, and no other byte of it changes. Refused: none changes.
+#[no_mangle]
+pub extern "C" fn skriemelt_catalogue_write(
+    store: &[u8],
+    starts: &[u64],
+    lengths: &[u64],
+    frames: &[u32],
+    text: &mut [u8],
+) -> CatalogueAnswer
+    ensures { λ r. ⌜
+        (record { answer = r; text = now (text .exit) })
+        ≡ cataloguingAlone (now (store .entry)) (now (starts .entry)) (now (lengths .entry)) (now (frames .entry)) (now (text .entry))
+        ⌝ }
+{
+    catalogue::write_catalogue(store, starts, lengths, frames, text)
+}
+
+// The same behind other calls, with the update before as the last of them left it. Accepted: it is the last update of this one. Refused: it stays.
+#[no_mangle]
+pub extern "C" fn skriemelt_catalogue_write_on(
+    store: &[u8],
+    starts: &[u64],
+    lengths: &[u64],
+    frames: &[u32],
+    before: &mut [u8],
+    text: &mut [u8],
+) -> CatalogueAnswer
+    ensures { λ r. ⌜
+        (record { answer = r; before = now (before .exit); text = now (text .exit) })
+        ≡ cataloguing (now (store .entry)) (now (starts .entry)) (now (lengths .entry)) (now (frames .entry)) (now (before .entry)) (now (text .entry))
+        ⌝ }
+{
+    catalogue::write_catalogue_on(store, starts, lengths, frames, before, text)
+}
+
+// Reads a catalogue back. Accepted: the frames' lines and the records are the first bytes of their lent buffers, and no other byte of these changes. Refused: none changes.
+#[no_mangle]
+pub extern "C" fn skriemelt_catalogue_read(
+    text: &[u8],
+    lines: &mut [u8],
+    records: &mut [u8],
+) -> BackAnswer
+    ensures { λ r. ⌜
+        (record { answer = r; lines = now (lines .exit); records = now (records .exit) })
+        ≡ readingBackAlone (now (text .entry)) (now (lines .entry)) (now (records .entry))
+        ⌝ }
+{
+    catalogue::read_catalogue(text, lines, records)
+}
+
+// The same behind other pieces of a text, with the update before as the last of them left it.
+#[no_mangle]
+pub extern "C" fn skriemelt_catalogue_read_on(
+    text: &[u8],
+    before: &mut [u8],
+    lines: &mut [u8],
+    records: &mut [u8],
+) -> BackAnswer
+    ensures { λ r. ⌜
+        (record { answer = r; before = now (before .exit); lines = now (lines .exit); records = now (records .exit) })
+        ≡ readingBack (now (text .entry)) (now (before .entry)) (now (lines .entry)) (now (records .entry))
+        ⌝ }
+{
+    catalogue::read_catalogue_on(text, before, lines, records)
 }

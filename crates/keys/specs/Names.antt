@@ -1,4 +1,4 @@
--- The key names of the listing as bytes, each with its sign of equality, for the definitions: those of the constants in src/lib.rt.
+-- The key names of the listing and of the catalogue as bytes, each with its sign of equality, for the definitions: those of the constants in src/lib.rt.
 use Prim.Native.Nat.{ℕ}
 use Prim.Native.Char.{code}
 use Prim.Native.String.{String, [] as empty, _∷_ as _before_}
@@ -41,3 +41,15 @@ blockKey = ascii "block="
 
 abbrev pub recordKey : List ℕ
 recordKey = ascii "record="
+
+abbrev pub frameKey : List ℕ
+frameKey = ascii "frame="
+
+abbrev pub startKey : List ℕ
+startKey = ascii "start="
+
+abbrev pub rampKey : List ℕ
+rampKey = ascii "ramp="
+
+abbrev pub objectKey : List ℕ
+objectKey = ascii "object="

@@ -54,7 +54,7 @@ few-fit t v few =
 -- ---- a programme for each class
 
 -- without beds
-abbrev bedless : ℕ → ℕ → ℕ → ℕ → Programme
+abbrev pub bedless : ℕ → ℕ → ℕ → ℕ → Programme
 bedless objects dynonly lfe content = record {
   objects = objects;
   dynonly = dynonly;

@@ -16,10 +16,12 @@ use units::ByteCount;
 mod laying; // laying.rt: bytes, numbers and lines laid from a position on
 mod listing; // listing.rt: the lines of the listing
 
+pub use laying::lay_byte;
 pub use laying::lay_bytes;
 pub use laying::lay_decimal;
 pub use laying::lay_hex;
 pub use laying::lay_line;
+pub use laying::lay_number;
 
 // What a call that lays a text answers: on a refusal the length is 0.
 #[repr(C)]

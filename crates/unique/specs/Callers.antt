@@ -1,6 +1,10 @@
--- The functions that callers use: `read` of reader (and `refused_with`, which makes an answer of a refusal), `write` of writer, and the six of host.
+-- The functions that callers use: `read` of reader (and `refused_with`, which makes an answer of a refusal), `write` of writer, and the ten of host.
 use mathlib.Core.Path.{refl}
 use denote.Ref.{now}
+use Rattle.host.proofs.skriemelt_catalogue_read as skriemelt-catalogue-read
+use Rattle.host.proofs.skriemelt_catalogue_read_on as skriemelt-catalogue-read-on
+use Rattle.host.proofs.skriemelt_catalogue_write as skriemelt-catalogue-write
+use Rattle.host.proofs.skriemelt_catalogue_write_on as skriemelt-catalogue-write-on
 use Rattle.host.proofs.skriemelt_list_text as skriemelt-list-text
 use Rattle.host.proofs.skriemelt_read as skriemelt-read
 use Rattle.host.proofs.skriemelt_read_batch as skriemelt-read-batch
@@ -13,6 +17,7 @@ use Rattle.reader.proofs.refused_with as refused-with
 use Rattle.writer.proofs.write as write
 use Rattle.form.specs.Answer.{Written, writing}
 use Rattle.unique.specs.Batch.{OneBatch, one-read-batch}
+use Rattle.unique.specs.Catalogue.{OneCatalogue, one-write-catalogue, OneCatalogueOn, one-write-catalogue-on, OneBack, one-read-catalogue, OneBackOn, one-read-catalogue-on}
 use Rattle.unique.specs.OneAnswer.{ClausesOf, SpecOf, OneAnswer, by-equation, said, result-set, _beside_}
 use Rattle.unique.specs.Sets.{outcome-set, written-set}
 use Rattle.unique.specs.Summary.{OneSummary, one-summarise}
@@ -56,12 +61,25 @@ one-skriemelt-write = one-write
 pub one-skriemelt-list-text : OneText (λ M. skriemelt-list-text.clauses) (λ M. skriemelt-list-text.spec)
 one-skriemelt-list-text = one-list-text
 
+-- The contracts are those of `write_catalogue`, `write_catalogue_on`, `read_catalogue` and `read_catalogue_on`.
+pub one-skriemelt-catalogue-write : OneCatalogue (λ M. skriemelt-catalogue-write.clauses) (λ M. skriemelt-catalogue-write.spec)
+one-skriemelt-catalogue-write = one-write-catalogue
+
+pub one-skriemelt-catalogue-write-on : OneCatalogueOn (λ M. skriemelt-catalogue-write-on.clauses) (λ M. skriemelt-catalogue-write-on.spec)
+one-skriemelt-catalogue-write-on = one-write-catalogue-on
+
+pub one-skriemelt-catalogue-read : OneBack (λ M. skriemelt-catalogue-read.clauses) (λ M. skriemelt-catalogue-read.spec)
+one-skriemelt-catalogue-read = one-read-catalogue
+
+pub one-skriemelt-catalogue-read-on : OneBackOn (λ M. skriemelt-catalogue-read-on.clauses) (λ M. skriemelt-catalogue-read-on.spec)
+one-skriemelt-catalogue-read-on = one-read-catalogue-on
+
 -- The contract is that of `summarise`.
 pub one-skriemelt-summarise : OneSummary (λ M. skriemelt-summarise.clauses) (λ M. skriemelt-summarise.spec)
 one-skriemelt-summarise = one-summarise
 
 pub one-skriemelt-version : OneAnswer skriemelt-version.ended (λ M. skriemelt-version.clauses) (λ M. skriemelt-version.spec) (λ κs a. a) (λ κs a r z. r)
-one-skriemelt-version = by-equation (result-set skriemelt-version.ended) (λ w. refl) (λ a. 3001) (λ w κs a r z p. said (λ h. h) (p .holds))
+one-skriemelt-version = by-equation (result-set skriemelt-version.ended) (λ w. refl) (λ a. 3002) (λ w κs a r z p. said (λ h. h) (p .holds))
 
 pub one-refused-with : OneAnswer refused-with.ended (λ M. refused-with.clauses) (λ M. refused-with.spec) (λ κs a. a) (λ κs a r z. r)
 one-refused-with = by-equation (result-set refused-with.ended) (λ w. refl) _ (λ w κs a r z p. said (λ h. h) (p .holds))

@@ -3,6 +3,7 @@ pub mod Sets
 pub mod Readings
 pub mod Batch
 pub mod Summary
+pub mod Catalogue
 pub mod Callers
 pub mod Units
 pub mod Bits

@@ -2,9 +2,10 @@
 //!
 //! `compare N [SEED]`: N generated payloads, valid, faulty and damaged; answers, places, missing bits, tables and both whole buffers, with canaries around them. The
 //! tables of each accepted payload are written, as they are and damaged, and so are N generated tables. The payloads, some of them cut or longer, are read once more
-//! on shelves of a few, and these are summarised.
+//! on shelves of a few; these are summarised, and of some a few entries are catalogued, and their texts read back, as they are and damaged.
 //! `compare --damaged N [SEED]`: N random and damaged inputs: the library ends, and touches nothing that it may not.
 
+mod catalogues;
 mod lent;
 mod shelves;
 mod summaries;
@@ -152,13 +153,13 @@ fn differ(tally: &mut Tally, message: String) {
     }
 }
 
-/// Reads the last shelf, and summarises as many payloads as there may be.
+/// Reads the last shelf, and what is at the limits of summaries and catalogues.
 fn finish(tally: &mut Tally) {
     if let Err(message) = tally.shelves.read() {
         differ(tally, format!("the last shelf: {message}"));
     }
     if let Err(message) = tally.shelves.limits() {
-        differ(tally, format!("the longest segment: {message}"));
+        differ(tally, format!("at the limits: {message}"));
     }
 }
 

@@ -1,5 +1,6 @@
-//! Shelves of payloads read with both: the whole call's answer and three whole buffers, with canaries around them. Each is summarised, too.
+//! Shelves of payloads read with both: the whole call's answer and three whole buffers, with canaries around them. Each is summarised, too, and some are catalogued.
 
+use crate::catalogues::{Catalogues, Segment};
 use crate::lent::Lent;
 use crate::summaries::Summaries;
 use crate::KINDS;
@@ -62,6 +63,7 @@ pub struct Shelves {
     /// Entries by refusal.
     entries: [u64; 14],
     summaries: Summaries,
+    catalogues: Catalogues,
 }
 
 impl Shelves {
@@ -74,6 +76,7 @@ impl Shelves {
             causes: [0; 4],
             entries: [0; 14],
             summaries: Summaries::default(),
+            catalogues: Catalogues::new(seed),
         }
     }
 
@@ -94,14 +97,21 @@ impl Shelves {
         self.needs.clear();
         let result = self.both(&draft).and_then(|()| {
             let (starts, lengths) = (&draft.starts, &draft.lengths);
-            self.summaries.both(&draft.store, starts, lengths)
+            self.summaries.both(&draft.store, starts, lengths)?;
+            self.catalogues.shelf(&Segment {
+                store: &draft.store,
+                starts,
+                lengths,
+                frames: &draft.frames,
+            })
         });
         result.map_err(|message| format!("{message}\n{}", draft.described()))
     }
 
-    /// Summarises the longest segments, and longer ones.
+    /// Summarises the longest segments, and longer ones; reads a catalogue's text with a change in each of its places.
     pub fn limits(&mut self) -> Result<(), String> {
-        self.summaries.limits()
+        self.summaries.limits()?;
+        self.catalogues.limits()
     }
 
     fn draft(&mut self) -> Draft {
@@ -278,5 +288,6 @@ impl Shelves {
         let count = self.entries[refusal::OUTSIDE as usize];
         println!("batch, entries of refusal 12 (leaves the store): {count}");
         self.summaries.print();
+        self.catalogues.print();
     }
 }

@@ -1,0 +1,16 @@
+pub mod Worked
+pub mod BackLending
+pub mod BackRuns
+pub mod BackRows
+pub mod BackUpdates
+pub mod BackSheets
+pub mod ScanLaws
+pub mod ScanNumbers
+pub mod RowsLaws
+pub mod BackFrames
+pub mod BackWhole
+pub mod WriteLines
+pub mod WriteRows
+pub mod WriteFrames
+pub mod WriteSheets
+pub mod WriteWhole

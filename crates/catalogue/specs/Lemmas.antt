@@ -1,0 +1,13 @@
+pub mod Lines
+pub mod Reads
+pub mod Spells
+pub mod Cells
+pub mod Keys
+pub mod EntriesRead
+pub mod EntriesOnly
+pub mod Count
+pub mod Finish
+pub mod Enough
+pub mod Joined
+pub mod Kept
+pub mod Calls
