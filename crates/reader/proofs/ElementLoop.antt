@@ -37,6 +37,7 @@ use Rattle.reader.specs.Layout.{noTrimBytes}
 use Rattle.reader.specs.Steps.{Buffers, lent, objectSeen, trimSeen, extendedSeen, unknownSeen, seen, tooEarly, Holding, Underway, stateOf, Scoped}
 use Rattle.reader.specs.Steps.{ElementRead, TrimRead, ExtendedRead, FieldsRead, Went-on, KnownRead, BodyRead, OneRead}
 use Rattle.reader.proofs.Bytes.{length-plain}
+use Rattle.reader.proofs.ObjectLoop.{still-roomy}
 use Rattle.reader.proofs.Gates.{stuck, carried, regiven, opened, by-zero}
 use Rattle.reader.proofs.TrimLoop.{not-read}
 
@@ -83,7 +84,7 @@ module _ {scope : Scope} {st : State} {b : Bits} {c : Cur} {l : Limit} {out tabl
       → FieldsRead Object scope st b c l (lent out table) (record { state = objectSeen (r .timing) st; cur = r .cur }) (lent out' table)
   unfolding fields scenes timing records bytesOf plainRecords onto
   object-fields e = record {
-    sized = record { out = e .size; table = asked .ready .sized .table };
+    sized = record { out = still-roomy (asked .ready .sized .out) (e .size); table = asked .ready .sized .table };
     few = e .few;
     same = refl;
     went = λ q known t sc first timely h.
@@ -129,7 +130,7 @@ module _ {scope : Scope} {st : State} {b : Bits} {c : Cur} {l : Limit} {out tabl
       → FieldsRead Extended scope st b c l (lent out table) (record { state = extendedSeen st; cur = cur }) (lent out' table)
   unfolding fields records
   extended-fields e = record {
-    sized = record { out = e .size; table = asked .ready .sized .table };
+    sized = record { out = still-roomy (asked .ready .sized .out) (e .size); table = asked .ready .sized .table };
     few = asked .blocks;
     same = refl;
     went = λ q known t sc first timely h.

@@ -90,7 +90,7 @@ pub extending : {n : ℕ} {b : Bits} {c d₁ e₁ d₂ e₂ : Cur} {l : Limit} {
     → Reads (bits 1) b e₁ l v₂ d₂ → PassedIf (set? v₂) ext-prec-pos-block withPrecise noPrecise n b d₂ l out₁ e₂ out₂
     → ExtendedRead n b c l out e₂ out₂
 unfolding extended-object-element
-extending {n} {b} {c} {d₁} {e₁} {d₂} {e₂} {l} {out} {out₁} {out₂} {v₁} {v₂} r₁ p₁ r₂ p₂ = record { size = p₂ .size; went = went }
+extending {n} {b} {c} {d₁} {e₁} {d₂} {e₂} {l} {out} {out₁} {out₂} {v₁} {v₂} r₁ p₁ r₂ p₂ = record { size = p₂ .size ∙ p₁ .size; went = went }
   where
     went : (ss : List Scene) (t : List ℕ) → Standing ss t out → length ss ≡ n → Extending ss b c l t e₂ out₂
     went ss t s m =

@@ -9,7 +9,7 @@ use lib.ListN.{length, getD, set, take, drop, length-append, length-set}
 use lib.Seq.{drop-at, take-at}
 use Rattle.bits.specs.Language.{pick}
 use Rattle.oamd.specs.declared.Timing.{Timing}
-use Rattle.oamd.specs.Tables.{mostObjects, recordBytes, timeBytes, recordStride, frameSamples, scratchBytes}
+use Rattle.oamd.specs.Tables.{mostObjects, recordBytes, timeBytes, recordStride, frameSamples}
 use Rattle.oamd.specs.LeastFirst.{leastFirst}
 use Rattle.oamd.specs.Timing.{noUpdate}
 use Rattle.oamd.specs.Record.{Record, recordBytesOf, bytesOf, onto}
@@ -117,11 +117,11 @@ module _ {count frame : ℕ} {timing : Timing} {scratch out₀ : List ℕ} where
       omega arith
 
   pub go-on : {from at blk i next time : ℕ} {out out₁ out₂ : List ℕ} → Going count frame timing scratch out₀ from at blk i out → i < count → count ≤ mostObjects * timing .blocks
-      → recordBytes * count ≤ scratchBytes → length scratch ≡ scratchBytes → recordStride * count ≤ length out₀
+      → recordBytes * count ≤ length scratch → recordStride * count ≤ length out₀
       → out₁ ≡ setFrom at 0 (bytesAt scratch recordBytes from) out → time ≡ frame * frameSamples + getD (timing .updates) blk noUpdate .start .0 → out₂ ≡ setFrom at recordBytes (timeBytesOf time) out₁
       → next ≡ pick (ltb (blk + 1) (timing .blocks)) (blk + 1) 0 → Going count frame timing scratch out₀ (from + recordBytes) (at + recordStride) next (i + 1) out₂
   unfolding blockTime
-  go-on {from} {at} {blk} {i} {next} {time} {out} {out₁} {out₂} x h few room size fits first e second n =
+  go-on {from} {at} {blk} {i} {next} {time} {out} {out₁} {out₂} x h few room fits first e second n =
       let some : 0 < timing .blocks = omega arith in
       let b = x .block some in
       record {

@@ -1,9 +1,9 @@
 -- The loops over the blocks of an object and over the objects: what stands in the bytes, and what is left to read. Assumes nothing.
 use mathlib.Core.Path.{_≡_, refl, sym, ap, _∙_}
 use mathlib.Core.List.{List, [], _∷_, _++_, append-assoc, append-nil}
-use Prim.Native.Nat.{ℕ, _+_, _-_, _*_, _≤_, _<_}
+use Prim.Native.Nat.{ℕ, suc, _+_, _-_, _*_, _≤_, _<_}
 use native.Mathlib.Omega.{arith}
-use native.Mathlib.Nat.{mul-le-mul-right, add-mul, one-mul, sub-zero}
+use native.Mathlib.Nat.{mul-le-mul-left, mul-le-mul-right, add-mul, one-mul, sub-zero}
 use lib.ListN.{length, length-append}
 use lib.Dec.{leb}
 use Rattle.bits.specs.declared.Cur.{Cur}
@@ -23,6 +23,7 @@ use Rattle.oamd.specs.Record.{recordOf, plainRecords, recordBytesOf, bytesOf, o
 use Rattle.oamd.specs.Extended.{noDivergence, noPrecise}
 use Rattle.record.specs.Bytes.{setFrom, sceneAt}
 pub use Rattle.record.specs.Stored.{length-setFrom}
+use Rattle.reader.specs.Rooms.{ElementRoom}
 use Rattle.reader.specs.Running.{gainOfObjectBefore, withBlocks, withObjects}
 use Rattle.reader.specs.declared.TimingStep.{TimingStep}
 use Rattle.reader.specs.Steps.{TimingRead, Standing, ObjectRead, ObjectsRead, ElementRead}
@@ -63,24 +64,24 @@ module _ (class k at₀ : ℕ) (b : Bits) (l : Limit) (c : Cur) (out₀ : List �
     pub place : at ≡ at₀ + recordBytes * i
     pub vs : List Block
     pub many : length vs ≡ i
-    pub size : length out ≡ scratchBytes
+    pub size : length out ≡ length out₀
     pub left : Left (object-data k class) b c l (turns k (object-info-block class) (λ vs. give vs) i vs) cur
-    pub stands : (ss : List Scene) (t : List ℕ) → Standing ss t out₀ → at₀ ≡ recordBytes * length ss → length t ≡ scratchBytes → Stands k ss t vs scene out
+    pub stands : (ss : List Scene) (t : List ℕ) → Standing ss t out₀ → at₀ ≡ recordBytes * length ss → length t ≡ length out₀ → Stands k ss t vs scene out
 
-pub enter : (class k at₀ : ℕ) (b : Bits) (l : Limit) (c : Cur) (out₀ : List ℕ) → length out₀ ≡ scratchBytes → Inside class k at₀ b l c out₀ 0 at₀ nothingBefore c out₀
+pub enter : (class k at₀ : ℕ) (b : Bits) (l : Limit) (c : Cur) (out₀ : List ℕ) → Inside class k at₀ b l c out₀ 0 at₀ nothingBefore c out₀
 unfolding object-data
-enter class k at₀ b l c out₀ h = record {
+enter class k at₀ b l c out₀ = record {
   within = omega arith;
   place = omega arith;
   vs = [];
   many = refl;
-  size = h;
+  size = refl;
   left = begun k (object-info-block class);
   stands = λ ss t s e n. record { us = ss; stand = s; more = omega arith; rest = λ bs. refl };
 }
 
 module _ {class k at₀ : ℕ} {b : Bits} {l : Limit} {c : Cur} {out₀ : List ℕ} {i at : ℕ} {scene : Scene} {cur : Cur} {out : List ℕ} where
-  pub turn : {next : Scene} {v : Block} {cur' : Cur} (above : ℕ) → Inside class k at₀ b l c out₀ i at scene cur out → i < k → at + recordBytes ≤ scratchBytes
+  pub turn : {next : Scene} {v : Block} {cur' : Cur} (above : ℕ) → Inside class k at₀ b l c out₀ i at scene cur out → i < k → at + recordBytes ≤ length out
       → Reads (object-info-block class i) b cur l v cur'
       → above ≡ pick (leb (recordBytes * k) at) (sceneAt out (at - recordBytes * k) .gain) zeroDb → next ≡ resolve scene above v
       → Inside class k at₀ b l c out₀ (i + 1) (at + recordBytes) next cur' (setFrom at 0 (recordBytesOf (recordOf next noDivergence noPrecise)) out)
@@ -135,21 +136,21 @@ module _ (n : ℕ) (s : Shares) (k : ℕ) (b : Bits) (l : Limit) (c : Cur) (out�
     pub place : at ≡ recordBytes * (j * k)
     pub vs : List (List Block)
     pub whole : Each k vs
-    pub size : length out ≡ scratchBytes
+    pub size : length out ≡ length out₀
     pub left : Left (for n oneObject) b c l (turns n oneObject (λ vs. give vs) j vs) cur
     pub ss : List Scene
     pub stand : Standing ss out₀ out
     pub more : length ss ≡ j * k
     pub rest : (os : List (List Block)) → withObjects k [] (vs ++ os) ≡ withObjects k ss os
 
-pub first : (n : ℕ) (s : Shares) (k : ℕ) (b : Bits) (l : Limit) (c : Cur) (out₀ : List ℕ) → length out₀ ≡ scratchBytes → Among n s k b l c out₀ 0 0 c out₀
+pub first : (n : ℕ) (s : Shares) (k : ℕ) (b : Bits) (l : Limit) (c : Cur) (out₀ : List ℕ) → Among n s k b l c out₀ 0 0 c out₀
 unfolding bytesOf plainRecords onto
-first n s k b l c out₀ h = record {
+first n s k b l c out₀ = record {
   within = omega arith;
   place = omega arith;
   vs = [];
   whole = tt;
-  size = h;
+  size = refl;
   left = begun n (λ j. object-data k (classOf s j));
   ss = [];
   stand = refl;
@@ -158,10 +159,10 @@ first n s k b l c out₀ h = record {
 }
 
 module _ {n : ℕ} {s : Shares} {k : ℕ} {b : Bits} {l : Limit} {c : Cur} {out₀ : List ℕ} {j at : ℕ} {cur : Cur} {out : List ℕ} where
-  pub further : {cur' : Cur} {out' : List ℕ} (class : ℕ) → Among n s k b l c out₀ j at cur out → j < n → length out₀ ≡ scratchBytes
+  pub further : {cur' : Cur} {out' : List ℕ} (class : ℕ) → Among n s k b l c out₀ j at cur out → j < n
       → class ≡ classOf s j → ObjectRead class k at b cur l out cur' out' → Among n s k b l c out₀ (j + 1) (at + recordBytes * k) cur' out'
   unfolding withObjects
-  further class x h m e o =
+  further class x h e o =
       let f : ℕ → P (List Block) = λ j. object-data k (classOf s j) in
       let r : Reads (f j) b cur l (o .value) _ = rw e at (o .reads) in
       let w = length-withBlocks k (x .ss) nothingBefore (o .value) in
@@ -171,10 +172,10 @@ module _ {n : ℕ} {s : Shares} {k : ℕ} {b : Bits} {l : Limit} {c : Cur} {out�
         place = omega (arith, x .place, d, one-mul k);
         vs = x .vs ++ (o .value ∷ []);
         whole = each-snoc k (x .vs) (o .value) (x .whole) (o .long);
-        size = o .size;
+        size = o .size ∙ x .size;
         left = for-step n f (λ vs. give vs) j (x .vs) h (x .left) r;
         ss = withBlocks k (x .ss) nothingBefore (o .value);
-        stand = o .stand (x .ss) out₀ (x .stand) (omega (arith, x .place, x .more)) m;
+        stand = o .stand (x .ss) out₀ (x .stand) (omega (arith, x .place, x .more)) (sym (x .size));
         more = omega (arith, w, x .more, o .long, d, one-mul k);
         rest = λ os. ap (withObjects k []) (append-assoc (x .vs) (o .value ∷ []) os) ∙ x .rest (o .value ∷ os);
       }
@@ -196,8 +197,16 @@ module _ {n : ℕ} {s : Shares} {k : ℕ} {b : Bits} {l : Limit} {c : Cur} {out�
   stop x h = record { value = x .vs; reads = broken (x .left) h; size = x .size; many = λ z. absurd (h z); stand = λ z. absurd (h z) }
 
 -- the records of object j fit
-pub room : (n k j : ℕ) → n ≤ mostObjects → k ≤ mostBlocks → j < n → recordBytes * (j * k) + recordBytes * k ≤ scratchBytes
-room n k j a d f = let h : j * k ≤ 158 * k = mul-le-mul-right k (let z : j ≤ 158 = omega arith in z) in omega arith
+pub room : (n k j : ℕ) → j < n → recordBytes * (j * k) + recordBytes * k ≤ recordBytes * (n * k)
+room n k j f = omega (arith, mul-le-mul-right {m = suc j} {n = n} k f, add-mul j 1 k, one-mul k)
+
+-- and those of all objects, however many blocks they have
+pub rooms : {n k : ℕ} → n ≤ mostObjects → k ≤ mostBlocks → (recordBytes * (n * k) ≤ recordBytes * (n * mostBlocks)) × (recordBytes * (n * mostBlocks) ≤ scratchBytes)
+rooms {n} {k} a d = (omega (arith, mul-le-mul-left n d), omega arith)
+
+-- a buffer that keeps its length keeps its room
+pub still-roomy : {n : ℕ} {out out' : List ℕ} → ElementRoom n out → length out' ≡ length out → ElementRoom n out'
+still-roomy r e = record { many = r .many; fits = omega (arith, r .fits) }
 
 -- ---- the element
 

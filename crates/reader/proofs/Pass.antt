@@ -11,7 +11,7 @@ use Rattle.bits.specs.declared.Limit.{Limit}
 use Rattle.bits.specs.Language.{Bits, P, give, _>>=_, each}
 use Rattle.bits.specs.View.{Reads}
 use Rattle.bits.proofs.Sticky.{Left, start, done, turned, broken, each-step, each-stop, plain}
-use Rattle.oamd.specs.Tables.{recordBytes, scratchBytes}
+use Rattle.oamd.specs.Tables.{recordBytes}
 use Rattle.oamd.specs.Record.{Record, carries, recordBytesOf, bytesOf, onto}
 use Rattle.oamd.specs.Lengths.{length-bytes}
 use Rattle.record.specs.Bytes.{setFrom, sceneAt}
@@ -137,11 +137,11 @@ module _ {X : Type 0} (p : Bool → P X) (f : Record → X → Record) where
       → Passed p f n b c l out d out' → PassedIf on p f none n b c l out d out'
   taken e x = rw e (record { size = x .size; went = λ rs t s m z. x .went rs t s m })
 
-  pub passed : {on : Bool} {none : X} {n : ℕ} {b : Bits} {c : Cur} {l : Limit} {out : List ℕ} → on ≡ false → length out ≡ scratchBytes
+  pub passed : {on : Bool} {none : X} {n : ℕ} {b : Bits} {c : Cur} {l : Limit} {out : List ℕ} → on ≡ false
       → PassedIf on p f none n b c l out c out
-  passed {none = none} {n} e h =
+  passed {none = none} {n} e =
       rw e (record {
-        size = h;
+        size = refl;
         went = λ rs t s m z. record { value = replicate n none; reads = plain; stand = λ q. s q ∙ ap (λ (y : List Record). onto (bytesOf y) t) (sym z) };
       })
 
@@ -151,11 +151,11 @@ module _ {X : Type 0} (p : Bool → P X) (f : Record → X → Record) (n : ℕ)
   pub record Passing (i at : ℕ) (cur : Cur) (out : List ℕ) : Type 0 where
     pub within : i ≤ n
     pub place : at ≡ recordBytes * i
-    pub size : length out ≡ scratchBytes
+    pub size : length out ≡ length out₀
     pub mid : (rs : List Record) (t : List ℕ) → (c .no ≡ 0 → out₀ ≡ onto (bytesOf rs) t) → length rs ≡ n → Mid p f rs b c l t i cur out
 
-  pub set-out : length out₀ ≡ scratchBytes → Passing 0 0 c out₀
-  set-out h = record { within = omega arith; place = refl; size = h; mid = λ rs t s m. begin p f rs b c l t s }
+  pub set-out : Passing 0 0 c out₀
+  set-out = record { within = omega arith; place = refl; size = refl; mid = λ rs t s m. begin p f rs b c l t s }
 
   module _ {i at : ℕ} {cur : Cur} {out : List ℕ} (x : Passing i at cur out) where
     pub go-on : {cur' : Cur} (k : ℕ) (carry : Bool) (bytes : X → List ℕ) (v : X) → cur .no ≡ 0 → i < n

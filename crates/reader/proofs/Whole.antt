@@ -1,5 +1,5 @@
 -- The payload, and the five ways out of `read`. Assumes nothing.
-use mathlib.Core.Path.{_≡_, refl, sym, ap, _∙_, subst₂}
+use mathlib.Core.Path.{_≡_, refl, sym, ap, _∙_, subst, subst₂}
 use mathlib.Core.Bool.{not}
 use mathlib.Core.List.{List, _++_}
 use Prim.Native.Nat.{ℕ, _+_, _*_, _≤_, _<_}
@@ -30,12 +30,17 @@ use Rattle.reader.specs.declared.HeaderStep.{HeaderStep}
 use Rattle.reader.specs.declared.PayloadStep.{PayloadStep}
 use Rattle.reader.specs.declared.StateStep.{StateStep}
 use Rattle.reader.specs.Lending.{Lending, Lent}
-use Rattle.reader.specs.Steps.{Buffers, lent, HeaderRead, ElementsRead, PayloadRead, NoRoom, wholeOf, startCur}
+use Rattle.reader.specs.Steps.{Buffers, lent, Headed, HeaderRead, ElementsRead, PayloadRead, NoRoom, wholeOf, startCur}
 use Rattle.reader.proofs.Gates.{regiven}
+use Rattle.reader.proofs.ObjectLoop.{rooms}
 
 -- the cursor at the start
 pub started : {n : ℕ} → n ≡ 0 → record { missing = 0; v = 0; at = record { 0 = n }; no = 0 } ≡ startCur
 started e i = record { missing = 0; v = 0; at = record { 0 = e i }; no = 0 }
+
+-- the header of a payload, read from its first bit up to its last
+pub headed : {s : List ℕ} {c : Cur} {l : Limit} {h : HeaderStep} → length s ≤ mostBytes → l ≡ wholeOf s → c ≡ startCur → HeaderRead (bit s) c l h → Headed s h
+headed {s} {h = h} short el ec r = record { short = short; head = subst₂ (λ (l : Limit) (c : Cur). HeaderRead (bit s) c l h) el ec r }
 
 -- what stands before the element count
 pub header-read : {b : Bits} {c c₁ c₂ c₃ c₄ c₅ : Cur} {l : Limit} {v n x a : ℕ} {p : Programme} → Reads oa-md-version b c l v c₁ → Reads object-count b c₁ l n c₂
@@ -46,24 +51,25 @@ header-read {p = p} r₁ r₂ r₃ r₄ r₅ few small =
     record { reads = bind r₁ (bind r₂ (bind r₃ (bind (regiven (not (agrees p)) (numberOf Counts) 0 r₄) (bind r₅ plain)))); few = few; bit = small }
 
 -- the whole payload
-pub payload-read : {s out table : List ℕ} {held' : Buffers} {h : HeaderStep} {c₀ c : Cur} {l : Limit} {sh : Shares} {n : ℕ} {r : StateStep}
-    → length s ≤ mostBytes → l ≡ wholeOf s → c₀ ≡ startCur → sh ≡ shares (h .programme) → HeaderRead (bit s) c₀ l h → Reads oa-element-count (bit s) (h .cur) l n c
+pub payload-read : {s out table : List ℕ} {held' : Buffers} {h : HeaderStep} {c : Cur} {l : Limit} {sh : Shares} {n : ℕ} {r : StateStep}
+    → Headed s h → l ≡ wholeOf s → sh ≡ shares (h .programme) → Reads oa-element-count (bit s) (h .cur) l n c
     → ElementsRead n (record { objects = h .programme .objects; shares = sh; alternate = h .alternate }) (bit s) c l (lent out table) r held'
     → PayloadRead s out (record { programme = h .programme; state = r .state; cur = r .cur }) held'
 unfolding object-audio-metadata-payload
-payload-read {s} {h = h} {r = r} short el ec es head count elements =
+payload-read {s} {h = h} {r = r} opened el es count elements =
     let u = elements .went (h .programme) (refl, sym es) in
     let payload : Payload = record { programme = h .programme; known = u .known; unknown = r .state .unknown } in
-    let reads = subst₂ (λ (l : Limit) (c : Cur). Reads object-audio-metadata-payload (bit s) c l payload (r .cur)) el ec
+    let head = subst (λ (l : Limit). HeaderRead (bit s) startCur l h) (sym el) (opened .head) in
+    let reads = subst (λ (l : Limit). Reads object-audio-metadata-payload (bit s) startCur l payload (r .cur)) el
     (bind (head .reads) (bind count (bind (u .reads) plain))) in
     record {
-      short = short;
+      short = opened .short;
       known = u .known;
       reads = reads;
       clean = λ z. clean reads z refl;
       holding = u .holding;
       sized = elements .sized;
-      few = head .few;
+      few = opened .head .few;
       little = elements .few;
     }
 
@@ -99,8 +105,7 @@ module _ {s out : List ℕ} {r : PayloadStep} {held' : Buffers} (x : PayloadRead
     -- the records can be laid into a buffer with room for them
     pub lending : {buffer : List ℕ} → needOf r ≤ length buffer → Lending (countOf r) (r .state .timing) (held' .out) buffer
     lending f = record {
-      stand = omega (arith, small _ _ (x .few) (x .little));
-      size = x .sized .out;
+      stand = let most = rooms (x .few) (x .little) in record { many = omega (arith, most .0, most .1); fits = omega (arith, most .0, x .sized .out .fits) };
       few = mul-le-mul-right (r .state .timing .blocks) (x .few);
       little = x .little;
       room = f;

@@ -4,14 +4,14 @@ use mathlib.Core.List.{List}
 use Prim.Native.Nat.{ℕ, _*_, _≤_}
 use lib.ListN.{length}
 use Rattle.oamd.specs.declared.Timing.{Timing}
-use Rattle.oamd.specs.Tables.{mostObjects, mostBlocks, recordBytes, recordStride, scratchBytes}
+use Rattle.oamd.specs.Tables.{mostObjects, mostBlocks, recordStride}
 use Rattle.oamd.specs.Record.{Record, bytesOf, onto}
 use Rattle.oamd.specs.Time.{timeOf, timedBytesOf}
+use Rattle.reader.specs.Rooms.{RecordsRoom}
 
 -- so many records stand in the scratch, none without a block, and have room with their times
 pub record Lending (count : ℕ) (timing : Timing) (scratch records : List ℕ) : Type 0 where
-  pub stand : recordBytes * count ≤ scratchBytes
-  pub size : length scratch ≡ scratchBytes
+  pub stand : RecordsRoom count scratch
   pub few : count ≤ mostObjects * timing .blocks
   pub little : timing .blocks ≤ mostBlocks
   pub room : recordStride * count ≤ length records

@@ -21,7 +21,7 @@ use Rattle.oamd.specs.declared.ReadAnswer.{ReadAnswer}
 use Rattle.oamd.specs.declared.Scene.{Scene}
 use Rattle.oamd.specs.declared.Shares.{Shares}
 use Rattle.oamd.specs.declared.Timing.{Timing}
-use Rattle.oamd.specs.Tables.{mostBytes, recordBytes, scratchBytes, mostElements, mostBlocks, mostObjects, trimConfigs, configBytes, trimHead, trimFixed, mostTrim}
+use Rattle.oamd.specs.Tables.{mostBytes, recordBytes, mostElements, mostBlocks, mostObjects, trimConfigs, configBytes, trimHead, trimFixed, mostTrim}
 use Rattle.oamd.specs.Programme.{shares, classOf}
 use Rattle.oamd.specs.Timing.{MdUpdateInfo, md-update-info, timingOf}
 use Rattle.oamd.specs.ObjectElement.{ObjectElement, object-data, object-element}
@@ -39,6 +39,7 @@ use Rattle.reader.specs.declared.StateStep.{StateStep}
 use Rattle.reader.specs.declared.HeaderStep.{HeaderStep}
 use Rattle.reader.specs.declared.PayloadStep.{PayloadStep}
 use Rattle.reader.specs.Layout.{noTrimBytes}
+use Rattle.reader.specs.Rooms.{ElementRoom}
 use Rattle.reader.specs.Running.{withBlocks}
 
 -- ---- the object element
@@ -60,14 +61,14 @@ pub record ObjectRead (class blocks at : ℕ) (b : Bits) (c : Cur) (l : Limit) (
   pub value : List Block
   pub reads : Reads (object-data blocks class) b c l value d
   pub long : length value ≡ blocks
-  pub size : length out' ≡ scratchBytes
-  pub stand : (ss : List Scene) (t : List ℕ) → Standing ss t out → at ≡ recordBytes * length ss → length t ≡ scratchBytes
+  pub size : length out' ≡ length out
+  pub stand : (ss : List Scene) (t : List ℕ) → Standing ss t out → at ≡ recordBytes * length ss → length t ≡ length out
       → Standing (withBlocks blocks ss nothingBefore value) t out'
 
 pub record ObjectsRead (n : ℕ) (s : Shares) (blocks : ℕ) (b : Bits) (c : Cur) (l : Limit) (out : List ℕ) (d : Cur) (out' : List ℕ) : Type 0 where
   pub value : List (List Block)
   pub reads : Reads (for n (λ j. object-data blocks (classOf s j))) b c l value d
-  pub size : length out' ≡ scratchBytes
+  pub size : length out' ≡ length out
   pub many : d .no ≡ 0 → length (allScenes [] value) ≡ n * blocks
   pub stand : d .no ≡ 0 → Standing (allScenes [] value) out out'
 
@@ -76,7 +77,7 @@ pub record ElementRead (n : ℕ) (s : Shares) (b : Bits) (c : Cur) (l : Limit) (
   pub reads : Reads (object-element n s) b c l value (r .cur)
   pub holds : r .timing ≡ timingOf (value .timing)
   pub few : r .timing .blocks ≤ mostBlocks
-  pub size : length out' ≡ scratchBytes
+  pub size : length out' ≡ length out
   pub many : r .cur .no ≡ 0 → length (allScenes [] (value .objects)) ≡ n * r .timing .blocks
   pub stand : r .cur .no ≡ 0 → Standing (allScenes [] (value .objects)) out out'
 
@@ -107,14 +108,14 @@ pub record Went {X : Type 0} (p : P (List X)) (f : Record → X → Record) (rs 
   pub stand : d .no ≡ 0 → out' ≡ onto (bytesOf (put f rs value)) t
 
 pub record Passed {X : Type 0} (p : Bool → P X) (f : Record → X → Record) (n : ℕ) (b : Bits) (c : Cur) (l : Limit) (out : List ℕ) (d : Cur) (out' : List ℕ) : Type 0 where
-  pub size : length out' ≡ scratchBytes
+  pub size : length out' ≡ length out
   pub went : (rs : List Record) (t : List ℕ) → (c .no ≡ 0 → out ≡ onto (bytesOf rs) t) → length rs ≡ n
       → Went (each p (carriers rs)) f rs b c l t d out'
 
 -- what a function promises that passes over n records, whatever records they are
 -- the same where a flag says that there is anything to read; else each value is none
 pub record PassedIf {X : Type 0} (on : Bool) (p : Bool → P X) (f : Record → X → Record) (none : X) (n : ℕ) (b : Bits) (c : Cur) (l : Limit) (out : List ℕ) (d : Cur) (out' : List ℕ) : Type 0 where
-  pub size : length out' ≡ scratchBytes
+  pub size : length out' ≡ length out
   pub went : (rs : List Record) (t : List ℕ) → (c .no ≡ 0 → out ≡ onto (bytesOf rs) t) → length rs ≡ n → put f rs (replicate n none) ≡ rs
       → Went (when on (each p (carriers rs)) (replicate n none)) f rs b c l t d out'
 
@@ -126,7 +127,7 @@ pub record Extending (ss : List Scene) (b : Bits) (c : Cur) (l : Limit) (t : Lis
   pub stand : d .no ≡ 0 → out' ≡ onto (bytesOf (extendedRecords ss (value .divergence) (value .precise))) t
 
 pub record ExtendedRead (n : ℕ) (b : Bits) (c : Cur) (l : Limit) (out : List ℕ) (d : Cur) (out' : List ℕ) : Type 0 where
-  pub size : length out' ≡ scratchBytes
+  pub size : length out' ≡ length out
   pub went : (ss : List Scene) (t : List ℕ) → Standing ss t out → length ss ≡ n → Extending ss b c l t d out'
 
 -- ---- the trim element
@@ -163,9 +164,9 @@ pub record Buffers : Type 0 where
 abbrev pub lent : List ℕ → List ℕ → Buffers
 lent out table = record { out = out; table = table }
 
--- each is as long as it is lent
-pub record Sized (held : Buffers) : Type 0 where
-  pub out : length (held .out) ≡ scratchBytes
+-- each has room for so many objects
+pub record Sized (objects : ℕ) (held : Buffers) : Type 0 where
+  pub out : ElementRoom objects (held .out)
   pub table : length (held .table) ≡ mostTrim
 
 -- the state with one part of it anew: an updater for each kind, and the only places that name all parts
@@ -221,7 +222,7 @@ pub record Holding (objects : ℕ) (known : Known) (t : List ℕ) (st : State) (
 pub record Ready (scope : Scope) (held : Buffers) : Type 0 where
   pub objects : scope .objects ≤ mostObjects
   pub alternate : scope .alternate < 2
-  pub sized : Sized held
+  pub sized : Sized (scope .objects) held
 
 -- the same with a state
 pub record Underway (scope : Scope) (st : State) (held : Buffers) : Type 0 where
@@ -256,7 +257,7 @@ pub record Fielded (scope : Scope) (p : P Known) (b : Bits) (c : Cur) (l : Limit
 
 -- what a function promises that reads them, whatever has been read so far, where an element of this kind may come
 pub record FieldsRead (k : Kind) (scope : Scope) (st : State) (b : Bits) (c : Cur) (l : Limit) (held : Buffers) (r : StateStep) (held' : Buffers) : Type 0 where
-  pub sized : Sized held'
+  pub sized : Sized (scope .objects) held'
   pub few : r .state .timing .blocks ≤ mostBlocks
   pub same : r .state .unknown ≡ st .unknown
   pub went : (q : Programme) (known : Known) (t : List ℕ) → Scoped q scope → isSecond k known ≡ false → isEarly k known ≡ false
@@ -274,7 +275,7 @@ Onward = Programme → Rattle.oamd.specs.Element.State → P Rattle.oamd.specs
 
 -- what a function promises that reads p from a state, whatever has been read so far
 pub record Goes-on (scope : Scope) (st : State) (p : Onward) (b : Bits) (c : Cur) (l : Limit) (held : Buffers) (r : StateStep) (held' : Buffers) : Type 0 where
-  pub sized : Sized held'
+  pub sized : Sized (scope .objects) held'
   pub few : r .state .timing .blocks ≤ mostBlocks
   pub next : r .state .unknown ≤ st .unknown + 1
   pub went : (q : Programme) (known : Known) (t : List ℕ) → Scoped q scope → (c .no ≡ 0 → Holding (scope .objects) known t st held)
@@ -291,7 +292,7 @@ abbrev pub OneRead : Scope → State → Bits → Cur → Limit → Buffers → 
 OneRead scope st b c l held r held' = Goes-on scope st (λ q s. oa-element-md q (scope .alternate) s) b c l held r held'
 
 pub record ElementsRead (n : ℕ) (scope : Scope) (b : Bits) (c : Cur) (l : Limit) (held : Buffers) (r : StateStep) (held' : Buffers) : Type 0 where
-  pub sized : Sized held'
+  pub sized : Sized (scope .objects) held'
   pub few : r .state .timing .blocks ≤ mostBlocks
   pub went : (q : Programme) → Scoped q scope → Went-on scope (elements q (scope .alternate) n (stateOf nothing 0)) b c l (held .out) r held'
 
@@ -303,16 +304,21 @@ wholeOf s = record { end = record { 0 = 8 * length s }; inner = false }
 abbrev pub startCur : Cur
 startCur = record { missing = 0; v = 0; at = record { 0 = 0 }; no = 0 }
 
--- what is asked of a payload and of the buffers
-pub record Opening (s : List ℕ) (held : Buffers) : Type 0 where
-  pub short : length s ≤ mostBytes
-  pub sized : Sized held
-  pub empty : held .table ≡ noTrimBytes
-
 pub record HeaderRead (b : Bits) (c : Cur) (l : Limit) (r : HeaderStep) : Type 0 where
   pub reads : Reads header b c l (record { programme = r .programme; alternate = r .alternate }) (r .cur)
   pub few : r .programme .objects ≤ mostObjects
   pub bit : r .alternate < 2
+
+-- a payload that is not too long, of which the header has been read
+pub record Headed (s : List ℕ) (h : HeaderStep) : Type 0 where
+  pub short : length s ≤ mostBytes
+  pub head : HeaderRead (bit s) startCur (wholeOf s) h
+
+-- what is asked of it and of the buffers
+pub record Opening (s : List ℕ) (h : HeaderStep) (held : Buffers) : Type 0 where
+  pub headed : Headed s h
+  pub sized : Sized (h .programme .objects) held
+  pub empty : held .table ≡ noTrimBytes
 
 pub record PayloadRead (s out : List ℕ) (r : PayloadStep) (held' : Buffers) : Type 0 where
   pub short : length s ≤ mostBytes
@@ -321,7 +327,7 @@ pub record PayloadRead (s out : List ℕ) (r : PayloadStep) (held' : Buffers) : 
       (record { programme = r .programme; known = known; unknown = r .state .unknown }) (r .cur)
   pub clean : r .cur .no ≡ 0 → r .cur .missing ≡ 0
   pub holding : r .cur .no ≡ 0 → Holding (r .programme .objects) known out (r .state) held'
-  pub sized : Sized held'
+  pub sized : Sized (r .programme .objects) held'
   pub few : r .programme .objects ≤ mostObjects
   pub little : r .state .timing .blocks ≤ mostBlocks
 

@@ -13,7 +13,6 @@ use bits::Limit;
 use bits::Refusal;
 use oamd::Kind;
 use oamd::MOST_TRIM;
-use oamd::SCRATCH_BYTES;
 use units::ByteCount;
 
 // ---- what a further kind of element adds a line to
@@ -50,7 +49,7 @@ fn read_fields(
     scope: Scope,
     st: State,
     kind: Kind,
-    out: &mut [u8; SCRATCH_BYTES],
+    out: &mut [u8],
     table: &mut [u8; MOST_TRIM],
 ) -> StateStep
     requires { ⌜ Underway scope st (lent (now out) (now table)) ⌝ }
@@ -94,7 +93,7 @@ fn read_known(
     st: State,
     kind: Kind,
     back: u32,
-    out: &mut [u8; SCRATCH_BYTES],
+    out: &mut [u8],
     table: &mut [u8; MOST_TRIM],
 ) -> StateStep
     requires { ⌜ Underway scope st (lent (now out) (now table)) ⌝ }
@@ -120,7 +119,7 @@ fn read_body(
     st: State,
     kind: Kind,
     back: u32,
-    out: &mut [u8; SCRATCH_BYTES],
+    out: &mut [u8],
     table: &mut [u8; MOST_TRIM],
 ) -> StateStep
     requires { ⌜ Underway scope st (lent (now out) (now table)) ⌝ }
@@ -148,7 +147,7 @@ fn read_element(
     c: Cur,
     scope: Scope,
     st: State,
-    out: &mut [u8; SCRATCH_BYTES],
+    out: &mut [u8],
     table: &mut [u8; MOST_TRIM],
 ) -> StateStep
     requires { ⌜ Underway scope st (lent (now out) (now table)) ⌝ }
@@ -182,7 +181,7 @@ pub fn read_elements(
     c: Cur,
     scope: Scope,
     n: u32,
-    out: &mut [u8; SCRATCH_BYTES],
+    out: &mut [u8],
     table: &mut [u8; MOST_TRIM],
 ) -> StateStep
     requires { ⌜ Beginning n scope (lent (now out) (now table)) ⌝ }

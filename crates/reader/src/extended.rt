@@ -1,19 +1,16 @@
 // The extended object element (5.5.13), laid into the records that stand already.
 ghost use mathlib.Core.Path.{_≡_};
-ghost use Prim.Native.Nat.{_*_, _≤_};
-ghost use lib.ListN.{length};
 ghost use Rattle.bits.specs.Language.{bit};
-ghost use Rattle.oamd.specs.Tables.{recordBytes, scratchBytes};
 ghost use Rattle.oamd.specs.Extended.{obj-div-block, ext-prec-pos-block, noDivergence, noPrecise};
+ghost use Rattle.reader.specs.Rooms.{RecordsRoom};
 ghost use Rattle.reader.specs.Steps.{Passed, PassedIf, withDivergence, withPrecise, ExtendedRead};
 use bits::Cur;
 use bits::Limit;
 use oamd::RECORD_BYTES;
-use oamd::SCRATCH_BYTES;
 
 // obj_div_block of each of n records.
-fn read_divergences(s: &[u8], l: Limit, c: Cur, n: usize, out: &mut [u8; SCRATCH_BYTES]) -> Cur
-    requires { ⌜ (recordBytes * n ≤ scratchBytes) × (length (now out) ≡ scratchBytes) ⌝ }
+fn read_divergences(s: &[u8], l: Limit, c: Cur, n: usize, out: &mut [u8]) -> Cur
+    requires { ⌜ RecordsRoom n (now out) ⌝ }
     ensures { λ r. ⌜ Passed obj-div-block withDivergence n (bit (now (s .entry))) c l (now (out .entry)) r (now (out .exit)) ⌝ }
 {
     let mut cur = c;
@@ -35,8 +32,8 @@ fn read_divergences(s: &[u8], l: Limit, c: Cur, n: usize, out: &mut [u8; SCRATCH
 }
 
 // ext_prec_pos_block of each of n records.
-fn read_precises(s: &[u8], l: Limit, c: Cur, n: usize, out: &mut [u8; SCRATCH_BYTES]) -> Cur
-    requires { ⌜ (recordBytes * n ≤ scratchBytes) × (length (now out) ≡ scratchBytes) ⌝ }
+fn read_precises(s: &[u8], l: Limit, c: Cur, n: usize, out: &mut [u8]) -> Cur
+    requires { ⌜ RecordsRoom n (now out) ⌝ }
     ensures { λ r. ⌜ Passed ext-prec-pos-block withPrecise n (bit (now (s .entry))) c l (now (out .entry)) r (now (out .exit)) ⌝ }
 {
     let mut cur = c;
@@ -57,15 +54,8 @@ fn read_precises(s: &[u8], l: Limit, c: Cur, n: usize, out: &mut [u8; SCRATCH_BY
     cur
 }
 
-fn read_divergences_if(
-    on: bool,
-    s: &[u8],
-    l: Limit,
-    c: Cur,
-    n: usize,
-    out: &mut [u8; SCRATCH_BYTES],
-) -> Cur
-    requires { ⌜ (recordBytes * n ≤ scratchBytes) × (length (now out) ≡ scratchBytes) ⌝ }
+fn read_divergences_if(on: bool, s: &[u8], l: Limit, c: Cur, n: usize, out: &mut [u8]) -> Cur
+    requires { ⌜ RecordsRoom n (now out) ⌝ }
     ensures { λ r. ⌜ PassedIf on obj-div-block withDivergence noDivergence n (bit (now (s .entry))) c l (now (out .entry)) r (now (out .exit)) ⌝ }
 {
     if on {
@@ -75,15 +65,8 @@ fn read_divergences_if(
     }
 }
 
-fn read_precises_if(
-    on: bool,
-    s: &[u8],
-    l: Limit,
-    c: Cur,
-    n: usize,
-    out: &mut [u8; SCRATCH_BYTES],
-) -> Cur
-    requires { ⌜ (recordBytes * n ≤ scratchBytes) × (length (now out) ≡ scratchBytes) ⌝ }
+fn read_precises_if(on: bool, s: &[u8], l: Limit, c: Cur, n: usize, out: &mut [u8]) -> Cur
+    requires { ⌜ RecordsRoom n (now out) ⌝ }
     ensures { λ r. ⌜ PassedIf on ext-prec-pos-block withPrecise noPrecise n (bit (now (s .entry))) c l (now (out .entry)) r (now (out .exit)) ⌝ }
 {
     if on {
@@ -94,8 +77,8 @@ fn read_precises_if(
 }
 
 // Both blocks of each of n records, which stand at the front of out.
-pub fn read_extended(s: &[u8], l: Limit, c: Cur, n: usize, out: &mut [u8; SCRATCH_BYTES]) -> Cur
-    requires { ⌜ (recordBytes * n ≤ scratchBytes) × (length (now out) ≡ scratchBytes) ⌝ }
+pub fn read_extended(s: &[u8], l: Limit, c: Cur, n: usize, out: &mut [u8]) -> Cur
+    requires { ⌜ RecordsRoom n (now out) ⌝ }
     ensures { λ r. ⌜ ExtendedRead n (bit (now (s .entry))) c l (now (out .entry)) r (now (out .exit)) ⌝ }
 {
     let diverging = bits::take(s, l, c, 1);

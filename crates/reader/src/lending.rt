@@ -2,17 +2,16 @@
 ghost use mathlib.Core.Path.{_≡_};
 ghost use Prim.Native.Nat.{_+_, _*_, _≤_};
 ghost use lib.ListN.{length};
-ghost use Rattle.oamd.specs.Tables.{recordBytes, recordStride, scratchBytes};
+ghost use Rattle.oamd.specs.Tables.{recordBytes, recordStride};
 ghost use Rattle.record.specs.Bytes.{setFrom, bytesAt};
 ghost use Rattle.reader.specs.Lending.{Lent, Lending};
 use oamd::RECORD_BYTES;
 use oamd::RECORD_STRIDE;
-use oamd::SCRATCH_BYTES;
 use oamd::Timing;
 
 // A record without its time: the bytes from `from` on, laid from `at` on.
-fn copy_record(scratch: &[u8; SCRATCH_BYTES], from: usize, records: &mut [u8], at: usize)
-    requires { ⌜ (from + recordBytes ≤ scratchBytes) × (length (now scratch) ≡ scratchBytes) ⌝ }
+fn copy_record(scratch: &[u8], from: usize, records: &mut [u8], at: usize)
+    requires { ⌜ from + recordBytes ≤ length (now scratch) ⌝ }
     requires { ⌜ at + recordStride ≤ length (now records) ⌝ }
     ensures { λ _. ⌜ now (records .exit) ≡ setFrom at 0 (bytesAt (now (scratch .entry)) recordBytes from) (now (records .entry)) ⌝ }
 {
@@ -24,13 +23,7 @@ fn copy_record(scratch: &[u8; SCRATCH_BYTES], from: usize, records: &mut [u8], a
 }
 
 // All of them, object by object and of each object block by block.
-pub fn lend_records(
-    scratch: &[u8; SCRATCH_BYTES],
-    count: usize,
-    frame: u32,
-    timing: Timing,
-    records: &mut [u8],
-)
+pub fn lend_records(scratch: &[u8], count: usize, frame: u32, timing: Timing, records: &mut [u8])
     requires { ⌜ Lending count timing (now scratch) (now records) ⌝ }
     ensures { λ _. ⌜ Lent count frame timing (now (scratch .entry)) (now (records .entry)) (now (records .exit)) ⌝ }
 {

@@ -1,14 +1,13 @@
 // `read`: a payload's bytes, its frame's number, and two lent buffers, to an answer, records and the trim table.
 ghost use mathlib.Core.Path.{_≡_};
 ghost use Rattle.oamd.specs.Answer.{reading};
+use crate::layout::FEW_OBJECTS;
 use bits::Cur;
 use bits::Refusal;
 use oamd::MOST_BYTES;
 use oamd::Programme;
-use oamd::RECORD_STRIDE;
 use oamd::ReadAnswer;
 use oamd::Shares;
-use oamd::TRIM_FIXED;
 use oamd::Timing;
 
 mod timing; // timing.rt: starts and ramps of all blocks
@@ -20,6 +19,7 @@ mod element; // element.rt: one element after the other
 mod payload; // payload.rt: the whole payload
 mod lending; // lending.rt: the records with their times in the lent buffer
 mod answers; // answers.rt: what is answered
+mod keeping; // keeping.rt: what is read, kept until the payload is accepted
 
 pub use answers::refused_with;
 
@@ -73,27 +73,11 @@ pub fn read(payload: &[u8], frame: u32, records: &mut [u8], trim: &mut [u8]) -> 
     if MOST_BYTES < len {
         return answers::refused_with(Refusal::TooLong, len as u64);
     }
-    let mut scratch = layout::no_records();
-    let mut table = trim::no_trim();
-    let step = payload::read_payload(payload, &mut scratch, &mut table);
-    let cur = step.cur;
-    if cur.no != 0 {
-        let missing = answers::missing_bits(cur.no, cur.missing);
-        return answers::refused(cur.no, cur.at.raw() as u64, missing);
+    let head = payload::read_head(payload);
+    let programme = head.programme;
+    if programme.objects <= FEW_OBJECTS {
+        keeping::read_few(payload, head, frame, records, trim)
+    } else {
+        keeping::read_many(payload, head, frame, records, trim)
     }
-    let programme = step.programme;
-    let state = step.state;
-    let timing = state.timing;
-    let count = programme.objects as usize * timing.blocks as usize;
-    let need = RECORD_STRIDE * count;
-    if records.len() < need {
-        return answers::no_room(need, records, trim);
-    }
-    let taken = TRIM_FIXED + programme.objects as usize;
-    if trim.len() < taken {
-        return answers::no_room(taken, records, trim);
-    }
-    lending::lend_records(&scratch, count, frame, timing, records);
-    bytes::copy(&table[..taken], trim);
-    answers::accepted(programme, timing, state.unknown)
 }

@@ -1,10 +1,7 @@
 // The object element (5.5.5, 5.5.8), laid out as records while it is read.
 ghost use mathlib.Core.Path.{_≡_};
-ghost use Prim.Native.Nat.{_≤_};
-ghost use lib.ListN.{length};
 ghost use Rattle.bits.specs.Language.{bit};
-ghost use Rattle.oamd.specs.Tables.{mostObjects, scratchBytes};
-ghost use Rattle.reader.specs.Rooms.{ObjectRoom, ObjectsRoom};
+ghost use Rattle.reader.specs.Rooms.{ObjectRoom, ObjectsRoom, ElementRoom};
 ghost use Rattle.reader.specs.Steps.{ObjectRead, ObjectsRead, ElementRead};
 use crate::Scope;
 use crate::TimingStep;
@@ -13,7 +10,6 @@ use crate::timing::read_timing;
 use bits::Cur;
 use bits::Limit;
 use oamd::RECORD_BYTES;
-use oamd::SCRATCH_BYTES;
 
 // The blocks of one object, whose records begin at a place. The records of the object before it, if there is one, end there.
 fn read_object(
@@ -23,7 +19,7 @@ fn read_object(
     class: u8,
     blocks: usize,
     from: usize,
-    out: &mut [u8; SCRATCH_BYTES],
+    out: &mut [u8],
 ) -> Cur
     requires { ⌜ ObjectRoom blocks from (now out) ⌝ }
     ensures { λ r. ⌜ ObjectRead class blocks from (bit (now (s .entry))) c l (now (out .entry)) r (now (out .exit)) ⌝ }
@@ -48,14 +44,7 @@ fn read_object(
 }
 
 // All objects, up to the first refusal.
-fn read_objects(
-    s: &[u8],
-    l: Limit,
-    c: Cur,
-    scope: Scope,
-    blocks: usize,
-    out: &mut [u8; SCRATCH_BYTES],
-) -> Cur
+fn read_objects(s: &[u8], l: Limit, c: Cur, scope: Scope, blocks: usize, out: &mut [u8]) -> Cur
     requires { ⌜ ObjectsRoom (scope .objects) blocks (now out) ⌝ }
     ensures { λ r. ⌜ ObjectsRead (scope .objects) (scope .shares) blocks (bit (now (s .entry))) c l (now (out .entry)) r (now (out .exit)) ⌝ }
 {
@@ -77,14 +66,8 @@ fn read_objects(
 }
 
 // The object element: the records stand at the front of out, unless it is refused.
-pub fn read_object_element(
-    s: &[u8],
-    l: Limit,
-    c: Cur,
-    scope: Scope,
-    out: &mut [u8; SCRATCH_BYTES],
-) -> TimingStep
-    requires { ⌜ (scope .objects ≤ mostObjects) × (length (now out) ≡ scratchBytes) ⌝ }
+pub fn read_object_element(s: &[u8], l: Limit, c: Cur, scope: Scope, out: &mut [u8]) -> TimingStep
+    requires { ⌜ ElementRoom (scope .objects) (now out) ⌝ }
     ensures { λ r. ⌜ ElementRead (scope .objects) (scope .shares) (bit (now (s .entry))) c l (now (out .entry)) r (now (out .exit)) ⌝ }
 {
     let step = read_timing(s, l, c);

@@ -4,7 +4,7 @@ ghost use Prim.Native.Nat.{_≤_};
 ghost use lib.ListN.{length};
 ghost use Rattle.bits.specs.Language.{bit};
 ghost use Rattle.oamd.specs.Tables.{mostBytes};
-ghost use Rattle.reader.specs.Steps.{lent, wholeOf, Opening, HeaderRead, PayloadRead};
+ghost use Rattle.reader.specs.Steps.{lent, wholeOf, Headed, Opening, HeaderRead, PayloadRead};
 use crate::HeaderStep;
 use crate::PayloadStep;
 use crate::Scope;
@@ -13,7 +13,6 @@ use bits::Cur;
 use bits::Limit;
 use bits::Refusal;
 use oamd::MOST_TRIM;
-use oamd::SCRATCH_BYTES;
 use units::BitPos;
 use units::ByteCount;
 
@@ -53,13 +52,10 @@ fn limit_of(s: &[u8]) -> Limit
     }
 }
 
-pub fn read_payload(
-    s: &[u8],
-    out: &mut [u8; SCRATCH_BYTES],
-    table: &mut [u8; MOST_TRIM],
-) -> PayloadStep
-    requires { ⌜ Opening (now s) (lent (now out) (now table)) ⌝ }
-    ensures { λ r. ⌜ PayloadRead (now (s .entry)) (now (out .entry)) r (lent (now (out .exit)) (now (table .exit))) ⌝ }
+// The header of a payload.
+pub fn read_head(s: &[u8]) -> HeaderStep
+    requires { ⌜ length (now s) ≤ mostBytes ⌝ }
+    ensures { λ r. ⌜ Headed (now (s .entry)) r ⌝ }
 {
     let l = limit_of(s);
     let c = Cur {
@@ -68,7 +64,20 @@ pub fn read_payload(
         at: BitPos::new(0),
         no: 0,
     };
-    let head = read_header(s, l, c);
+    read_header(s, l, c)
+}
+
+// All of it, behind its header.
+pub fn read_payload(
+    s: &[u8],
+    head: HeaderStep,
+    out: &mut [u8],
+    table: &mut [u8; MOST_TRIM],
+) -> PayloadStep
+    requires { ⌜ Opening (now s) head (lent (now out) (now table)) ⌝ }
+    ensures { λ r. ⌜ PayloadRead (now (s .entry)) (now (out .entry)) r (lent (now (out .exit)) (now (table .exit))) ⌝ }
+{
+    let l = limit_of(s);
     let programme = head.programme;
     let count = syntax::read_element_count(s, l, head.cur);
     let scope = Scope {

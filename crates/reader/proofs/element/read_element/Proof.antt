@@ -19,7 +19,7 @@ abbrev sized : tie.After-new → tie.After-read-size
 sized c = c .before .before .before .before
 
 abbrev start : tie.After-read-size → tie.Start
-start c = c .before .before .before
+start c = c .before .before .before .before
 
 -- its head read, before its body
 abbrev headed : tie.After-read-body-arg2 → tie.After-head-bits
@@ -41,7 +41,7 @@ read-body-requires c κs = start (size-of (headed c .before)) .pre
 
 returns : tie.Need-returns
 returns c =
-    let body = c .before .before .before in
+    let body = c .before .before .before .before .before in
     let head = headed (body .before) in
     let known = head .before in
     let flag = known .before in
@@ -71,4 +71,5 @@ read-element-spec =
     add-back-2
     read-body-requires
     (λ c κs. search needs)
+    (λ c. c .before .before .before .before .out .given)
     returns)

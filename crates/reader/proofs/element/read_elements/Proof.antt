@@ -1,8 +1,9 @@
 -- `read_elements` meets its contract (`ElementLoop.antt`). Assumes nothing.
-use mathlib.Core.Path.{ap}
+use mathlib.Core.Path.{_≡_, refl, ap, _∙_}
 use mathlib.Core.List.{List}
 use Prim.Native.Nat.{ℕ, _-_, _≤_}
 use native.Mathlib.Omega.{arith}
+use lib.ListN.{length}
 use Rattle.bits.specs.declared.Cur.{Cur}
 use Rattle.bits.specs.declared.Limit.{Limit}
 use Rattle.bits.specs.Language.{Bits, bit}
@@ -20,7 +21,8 @@ use Rattle.reader.proofs.element.read_elements.Tie as tie
 -- before element i
 record Standing (n : ℕ) (scope : Scope) (b : Bits) (c : Cur) (l : Limit) (t : List ℕ) (i : ℕ) (st : State) (cur : Cur) (held : Buffers) : Type 0 where
   pub within : i ≤ n
-  pub sized : Sized held
+  pub sized : Sized (scope .objects) held
+  pub same : length (held .out) ≡ length t
   pub blocks : st .timing .blocks ≤ mostBlocks
   pub unknown : st .unknown ≤ i
   pub ongoing : (q : Programme) → Scoped q scope → Ongoing n scope q b c l t i st cur held
@@ -43,7 +45,8 @@ loop-holds c =
     let none = c .no-timing .ensures in
     record {
       within = omega arith;
-      sized = search needs;
+      sized = c .before .before .before .pre .ready .sized;
+      same = refl;
       blocks = omega (arith, ap (λ (x : Timing). x .blocks) none);
       unknown = omega arith;
       ongoing = λ q sc. first _ _ _ _ _ _ _ none (search needs) (search needs);
@@ -51,12 +54,13 @@ loop-holds c =
 
 loop-again : tie.Need-loop-again Inv-loop μ-loop
 loop-again c =
-    let read = c .before .before in
+    let read = c .before .before .before .before in
     let one = read .read-element .ensures in
     let standing = at-loop (read .before .before .before .before) .loop .inv in
     record {
       within = omega arith;
       sized = one .sized;
+      same = c .before .before .before .out .given ∙ standing .same;
       blocks = one .few;
       unknown = omega (arith, one .next, standing .unknown);
       ongoing = λ q sc. further (standing .ongoing q sc) (omega arith) sc one;
@@ -89,9 +93,11 @@ read-elements-spec =
     μ-loop
     (λ c κs. search needs)
     loop-holds
+    (λ c. at-loop (c .before) .loop .inv .same)
     returns
     read-element-requires
     (λ c. search needs)
     (λ c. search needs)
     loop-again
+    (λ c. c .before .loop .inv .same)
     returns-2)

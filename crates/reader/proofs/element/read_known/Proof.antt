@@ -20,11 +20,12 @@ returns c =
 
 returns-2 : tie.Need-returns-2
 returns-2 c =
-    let admitted = c .before .before .before in
+    let read = c .before .before in
+    let admitted = read .before .before .before in
     let early = tested (admitted .before) in
     let second = first-tested early in
     known-read _ _ (search needs) (gated _ _ _ _ (second .before .is-second .ensures) (second .refuse-if .ensures))
-    (gated _ _ _ _ (early .before .is-early .ensures) (early .refuse-if2 .ensures)) (admitted .if1 .left) (c .read-fields .ensures)
+    (gated _ _ _ _ (early .before .is-early .ensures) (early .refuse-if2 .ensures)) (admitted .if1 .left) (read .read-fields .ensures)
 
 pub read-known-spec : {M : Type 1} → statement M
 read-known-spec =
@@ -36,4 +37,5 @@ read-known-spec =
     (λ c κs. search needs)
     returns
     (λ c κs. search needs)
+    (λ c. c .before .out .given)
     returns-2)

@@ -20,10 +20,10 @@ abbrev μ-loop : tie.MeasureT-loop
 
 loop-again : tie.Need-loop-again Inv-loop μ-loop
 loop-again c =
-    let storing = c .before in
+    let storing = c .before .before .before in
     let reading = storing .before .before .before in
     let asking = reading .before in
-    let unrefused = asking .before .before .before in
+    let unrefused = asking .before .before in
     let head = unrefused .before .before .before in
     rw (storing .store-precise .ensures)
     (go-on _ _ _ _ _ _ _ (head .loop .inv) preciseByte _ preciseBytes _ (unrefused .if1 .left) (omega arith) precise-stored (asking .carries-at .ensures)
@@ -35,7 +35,8 @@ read-precises-spec =
     (tie.spec
     Inv-loop
     μ-loop
-    (λ c. set-out _ _ _ _ _ _ _ (c .before .pre .1))
+    (λ c. set-out _ _ _ _ _ _ _)
+    (λ c. let head = c .before .before .before in head .loop .inv .size)
     (λ c. let head = c .before .before .before in give-up _ _ _ _ _ _ _ (head .loop .inv) (c .if1 .taken))
     (λ c κs. search needs)
     (λ c κs. search needs)
@@ -44,4 +45,5 @@ read-precises-spec =
     (λ c. search needs)
     (λ c. search needs)
     loop-again
+    (λ c. c .before .loop .inv .size)
     (λ c. arrive _ _ _ _ _ _ _ (c .before .loop .inv) (omega arith)))

@@ -4,7 +4,7 @@ use Rattle.reader.proofs.layout.gain_of_object_before.Statement.{statem
 use Rattle.reader.proofs.layout.gain_of_object_before.Tie as tie
 
 returns : tie.Need-returns
-returns c = let test = c .before .before in simp (le-leb _ _ (test .if1 .taken)) (c .gain-at .ensures)
+returns c = let test = c .before in simp (le-leb _ _ (test .if1 .taken)) (c .gain-at .ensures)
 
 returns-2 : tie.Need-returns-2
 returns-2 c = simp (lt-leb _ _ (c .if1 .left))

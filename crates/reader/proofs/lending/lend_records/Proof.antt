@@ -21,7 +21,7 @@ abbrev head : tie.In-loop Inv-loop μ-loop → tie.At-loop Inv-loop μ-loop
 head c = c .before
 
 abbrev asked : tie.At-loop Inv-loop μ-loop → tie.Start Inv-loop μ-loop
-asked c = c .before .before .before .before
+asked c = c .before .before .before .before .before
 
 abbrev inside : tie.After-copy-record Inv-loop μ-loop → tie.In-loop Inv-loop μ-loop
 inside c = c .before .before
@@ -31,8 +31,11 @@ copied c = c .before .before .before .before .before
 
 -- ---- the record fits
 
-taken : (c : tie.In-loop Inv-loop μ-loop) → head c .loop .from + recordBytes ≤ scratchBytes
-taken c = omega (arith, head c .loop .inv .taken, asked (head c) .pre .stand)
+taken : (c : tie.In-loop Inv-loop μ-loop) → head c .loop .from + recordBytes ≤ length (asked (head c) .args .scratch .now)
+taken c = omega (arith, head c .loop .inv .taken, asked (head c) .pre .stand .fits)
+
+near : (c : tie.In-loop Inv-loop μ-loop) → head c .loop .from + recordBytes ≤ scratchBytes
+near c = omega (arith, head c .loop .inv .taken, asked (head c) .pre .stand .many)
 
 fits : (c : tie.In-loop Inv-loop μ-loop) → head c .loop .at + recordStride ≤ length (head c .loop .records)
 fits c = omega (arith, head c .loop .inv .place, head c .loop .inv .same, asked (head c) .pre .room)
@@ -51,7 +54,7 @@ loop-again c =
     let copy = copied timed in
     let top = head (inside copy) in
     let given = asked top .pre in
-    go-on (top .loop .inv) (omega arith) (given .few) (given .stand) (given .size) (given .room) (copy .copy-record .ensures) (timed .time-of .ensures)
+    go-on (top .loop .inv) (omega arith) (given .few) (given .stand .fits) (given .room) (copy .copy-record .ensures) (timed .time-of .ensures)
     (stored .store-time .ensures) (c .next-block .ensures)
 
 pub lend-records-spec : {M : Type 1} → statement M
@@ -62,12 +65,12 @@ lend-records-spec =
     μ-loop
     (λ c. search needs)
     (λ c. set-out)
-    (λ c κs. ((taken (c .before), asked (head (c .before)) .pre .size), fits (c .before)))
+    (λ c κs. (taken (c .before), fits (c .before)))
     (λ c. record { fits = omega (arith, block (inside (c .before .before))) })
     (λ c. omega (arith, block (inside (c .before .before))))
     (λ c κs. search needs)
     (λ c κs. omega (arith, fits (inside (copied c))))
-    (λ c. omega (arith, taken (inside (copied (c .before .before .before)))))
+    (λ c. omega (arith, near (inside (copied (c .before .before .before)))))
     (λ c. omega (arith, fits (inside (copied (c .before .before .before)))))
     (λ c κs. search needs)
     (λ c. search needs)

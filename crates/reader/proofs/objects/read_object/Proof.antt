@@ -1,7 +1,9 @@
 -- `read_object` meets its contract (`ObjectLoop.antt`). Assumes nothing.
-use Prim.Native.Nat.{_-_}
+use Prim.Native.Nat.{_+_, _-_, _≤_}
 use native.Mathlib.Omega.{arith}
+use lib.ListN.{length}
 use Rattle.bits.specs.Language.{bit}
+use Rattle.oamd.specs.Tables.{recordBytes}
 use Rattle.oamd.specs.Meaning.{idle}
 use Rattle.reader.proofs.ObjectLoop.{Inside, enter, turn, leave}
 use borrow.Author.Needs.{needs}
@@ -16,17 +18,34 @@ abbrev μ-loop : tie.MeasureT-loop
 μ-loop s l class blocks from out₀ back scene₀ cur₀ at₀ i₀ out scene cur at i = blocks - i
 
 loop-holds : tie.Need-loop-holds Inv-loop μ-loop
-loop-holds c = let entry = c .before .before in rw (c .idle .ensures) (enter _ _ _ _ _ _ _ (entry .pre .size))
+loop-holds c = rw (c .idle .ensures) (enter _ _ _ _ _ _ _)
+
+-- in a turn the record fits
+fits : (c : tie.In-loop Inv-loop μ-loop) → c .before .loop .at + recordBytes ≤ length (c .before .loop .out)
+fits c =
+    let head = c .before in
+    omega (arith, head .loop .inv .place, head .loop .inv .size, head .before .before .before .before .pre .fits)
+
+-- the loop's head, from the end of a turn
+abbrev top : tie.After-cur Inv-loop μ-loop → tie.At-loop Inv-loop μ-loop
+top c = let stored = c .before .before .before in stored .before .before .before .before .before .before .before .before
+
+add-at : tie.Need-add-at Inv-loop μ-loop
+add-at c = let head = top c in omega (arith, head .loop .inv .place, head .before .before .before .before .pre .near)
+
+add-i : tie.Need-add-i Inv-loop μ-loop
+add-i c = omega (arith, top c .before .before .before .before .pre .few)
 
 loop-again : tie.Need-loop-again Inv-loop μ-loop
 loop-again c =
-    let storing = c .before in
+    let storing = c .before .before .before in
     let resolving = storing .before .before in
     let above = resolving .before in
     let reading = above .before .before .before in
-    let head = reading .before .before in
+    let turning = reading .before in
+    let head = turning .before in
     rw (storing .store-scene .ensures)
-    (turn (above .gain-of-object-before .result) (head .loop .inv) (omega arith) (omega arith) (reading .read-block .ensures .reads)
+    (turn (above .gain-of-object-before .result) (head .loop .inv) (omega arith) (fits turning) (reading .read-block .ensures .reads)
     (above .gain-of-object-before .ensures) (resolving .resolved .ensures))
 
 returns : tie.Need-returns Inv-loop μ-loop
@@ -46,8 +65,9 @@ read-object-spec =
     (λ c κs. search needs)
     (λ c κs. search needs)
     (λ c κs. search needs)
-    (λ c. search needs)
-    (λ c. search needs)
+    add-at
+    add-i
     (λ c. search needs)
     loop-again
+    (λ c. c .before .loop .inv .size)
     returns)
