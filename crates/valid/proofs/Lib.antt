@@ -1,4 +1,5 @@
 pub mod Entries
+pub mod Zeros
 pub mod Search
 pub mod Sent
 pub mod Joined

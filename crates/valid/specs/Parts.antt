@@ -1,9 +1,9 @@
 -- Parts of the long tests of form, under names, so that code can make them one by one; proofs/Joined.antt shows that the parts make the whole.
 use mathlib.Core.Bool.{Bool}
 use mathlib.Core.List.{List}
-use Prim.Native.Nat.{ℕ}
+use Prim.Native.Nat.{ℕ, zero, suc, _+_}
 use lib.Dec.{eqb}
-use lib.ListN.{length}
+use lib.ListN.{length, getD}
 use Rattle.oamd.specs.declared.Bed.{Bed}
 use Rattle.oamd.specs.declared.Programme.{Programme}
 use Rattle.oamd.specs.declared.Scene.{Scene}
@@ -60,3 +60,8 @@ trimsValid c =
     and betweenIf (hasSurround (c .presence)) 4 15 (c .surround)
     and betweenIf (hasHeight (c .presence)) 4 15 (c .height)
     and balancesValid c
+
+-- the sum of n bytes from a place on: 0 where all of them are
+unfoldable pub total : List ℕ → ℕ → ℕ → ℕ
+total s zero at = 0
+total s (suc n) at = getD s at 0 + total s n (at + 1)

@@ -40,10 +40,13 @@ fn most_assignment(standard: u8) -> u32
     }
 }
 
-// An entry of the beds: an assignment only where the bed is not the LFE channel alone.
+// An entry of the beds: an assignment only where the bed is not the LFE channel alone. Most are not used, so that their three zeros are looked at all together.
 fn bed_valid(used: bool, b: Bed) -> bool
     ensures { λ r. ⌜ r ≡ bedValid used b ⌝ }
 {
+    if !used {
+        return b.lfeonly as u64 + b.standard as u64 + b.assignment as u64 == 0;
+    }
     let assigned = both(used, b.lfeonly == 0);
     let most = most_assignment(b.standard);
     let lfeonly = between_if(used, 0, 1, b.lfeonly);

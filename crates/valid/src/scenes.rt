@@ -1,6 +1,6 @@
 // One record: each of its values by what the record itself carries (Tables 28 and 29, 5.5.14, 5.5.15).
 ghost use mathlib.Core.Path.{_≡_};
-ghost use Rattle.oamd.specs.Record.{recordOf};
+ghost use Rattle.oamd.specs.Record.{recordOf, carries};
 ghost use Rattle.form.specs.Valid.{locationValid, volumeValid, zoneValid, screenValid, sceneValid};
 ghost use Rattle.form.specs.Valid.{leastDivergence, mostDivergence, divergenceValid, preciseValid, recordValid};
 ghost use Rattle.valid.specs.Parts.{renderedValid};
@@ -112,14 +112,14 @@ fn rendered_valid(sent: bool, s: Scene) -> bool
     both(located, both(sized, both(zoned, both(screened, snapped))))
 }
 
-// Bytes 0 to 16, of an object of a class.
-fn scene_valid(class: u8, s: Scene) -> bool
+// Bytes 0 to 16, of an object of a class, by whether render info is sent.
+fn scene_valid(class: u8, sent: bool, s: Scene) -> bool
+    requires { ⌜ carries s ≡ sent ⌝ }
     ensures { λ r. ⌜ r ≡ sceneValid class s ⌝ }
 {
     let active = between(0, 1, s.active);
     let gain = between_if(s.active == 1, 0, MOST_GAIN, s.gain);
     let priority = between_if(s.active == 1, 0, MOST_PRIORITY, s.priority);
-    let sent = record::carries(s);
     let rendered = rendered_valid(sent, s);
     let rest = both(gain, both(priority, rendered));
     both(active, both(s.class == class, rest))
@@ -169,13 +169,18 @@ fn precise_valid(sent: bool, p: Precise) -> bool
     both(presence, both(x, both(y, z)))
 }
 
-// All bytes, of an object of a class.
+// All bytes, of an object of a class. What is sent and what is not is told once, not at each value.
 pub fn record_valid(class: u8, s: Scene, d: Divergence, p: Precise) -> bool
     ensures { λ r. ⌜ r ≡ recordValid class (recordOf s d p) ⌝ }
 {
-    let sent = record::carries(s);
-    let scene = scene_valid(class, s);
-    let divergence = divergence_valid(sent, d);
-    let precise = precise_valid(sent, p);
+    if record::carries(s) {
+        let scene = scene_valid(class, true, s);
+        let divergence = divergence_valid(true, d);
+        let precise = precise_valid(true, p);
+        return both(scene, both(divergence, precise));
+    }
+    let scene = scene_valid(class, false, s);
+    let divergence = divergence_valid(false, d);
+    let precise = precise_valid(false, p);
     both(scene, both(divergence, precise))
 }

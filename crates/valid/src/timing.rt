@@ -42,6 +42,9 @@ fn update_valid(offset: SampleCount, used: bool, u: Update) -> bool
 {
     let start = u.start;
     let ramp = u.ramp;
+    if !used {
+        return start.raw() as u32 + ramp.raw() as u32 == 0;
+    }
     let found = offset_of(start);
     let left = offset_if(used, offset);
     let started = wide_between_if(used, 0, MOST_START, start.raw() as u32);

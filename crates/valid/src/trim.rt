@@ -1,15 +1,15 @@
 // The trim table, out of its bytes: each field by what announces it (5.5.12, Tables 32 to 37).
 ghost use mathlib.Core.Path.{_≡_};
 ghost use Prim.Native.Nat.{_+_, _≤_, _<_};
-ghost use lib.Dec.{leb};
+ghost use lib.Dec.{leb, eqb};
 ghost use lib.ListN.{length};
 ghost use Rattle.bits.specs.Language.{pick};
-ghost use Rattle.oamd.specs.Tables.{trimConfigs, configBytes, trimHead, perObjectByte, trimFixed};
+ghost use Rattle.oamd.specs.Tables.{trimConfigs, configBytes, trimHead, perObjectByte, trimFixed, mostTrim};
 ghost use Rattle.oamd.specs.Trim.{noConfig, trimNeeded};
 ghost use Rattle.form.specs.Valid.{_and_, betweenIf, entriesValid, configValid, trimValid};
 ghost use Rattle.record.specs.Bytes.{bytesAt};
 ghost use Rattle.form.specs.Answer.{configAt, configsAt, trimAt};
-ghost use Rattle.valid.specs.Parts.{balancesValid, trimsValid};
+ghost use Rattle.valid.specs.Parts.{balancesValid, trimsValid, total};
 use crate::ranges::between;
 use crate::ranges::between_if;
 use bits::both;
@@ -118,11 +118,28 @@ fn config_valid(sent: bool, c: TrimConfig) -> bool
     both(bydefault, both(disabled, both(presence, trims)))
 }
 
+// Whether n bytes are 0. They are summed up: most trim tables are absent, and that is told by one test.
+fn zeros(bytes: &[u8], from: usize, n: usize) -> bool
+    requires { ⌜ (from + n ≤ length (now bytes)) × (n ≤ mostTrim) ⌝ }
+    ensures { λ r. ⌜ r ≡ eqb (total (now (bytes .entry)) n from) 0 ⌝ }
+{
+    let mut sum: u32 = 0;
+    let mut i: usize = 0;
+    while i < n {
+        sum = sum + bytes[from + i] as u32;
+        i = i + 1;
+    }
+    sum == 0
+}
+
 // The configurations, all sent or none.
 fn configs_valid(sent: bool, trim: &[u8]) -> bool
     requires { ⌜ perObjectByte ≤ length (now trim) ⌝ }
     ensures { λ r. ⌜ r ≡ entriesValid configValid (pick sent trimConfigs 0) (configsAt (now (trim .entry)) trimConfigs trimHead) ⌝ }
 {
+    if !sent {
+        return zeros(trim, TRIM_HEAD, CONFIG_BYTES * TRIM_CONFIGS);
+    }
     let mut valid = true;
     let mut at: usize = TRIM_HEAD;
     let mut i: usize = 0;

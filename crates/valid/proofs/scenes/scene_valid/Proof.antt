@@ -11,18 +11,16 @@ returns c =
     let rest = class-on .before .before in
     let priority-on = rest .before in
     let rendered = priority-on .before in
-    let sent = rendered .before in
-    let priority = sent .before in
+    let priority = rendered .before in
     let gain = priority .before .before in
     let active = gain .before .before in
     rw (c .both4 .ensures, class-on .both3 .ensures, rest .both2 .ensures, priority-on .both .ensures, rendered .rendered-valid .ensures)
-    (rw (sent .carries .ensures, priority .between-if2 .ensures, gain .between-if .ensures, active .between .ensures))
+    (rw (priority .between-if2 .ensures, gain .between-if .ensures, active .between .ensures, ← active .before .pre))
 
 pub scene-valid-spec : {M : Type 1} → statement M
 scene-valid-spec =
     tie.close
     (tie.spec
-    (λ c κs. search needs)
     (λ c κs. search needs)
     (λ c κs. search needs)
     (λ c κs. search needs)

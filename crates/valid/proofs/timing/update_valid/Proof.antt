@@ -1,11 +1,19 @@
 use borrow.Author.Needs.{needs}
+use borrow.Author.Tests.{not-true}
 use Rattle.form.specs.Valid.{updateValid}
+use Rattle.valid.proofs.Zeros.{update-unused}
 use Rattle.valid.proofs.timing.update_valid.Statement.{statement}
 use Rattle.valid.proofs.timing.update_valid.Tie as tie
 
 returns : tie.Need-returns
-unfolding updateValid
 returns c =
+    let start = c .before in
+    let test = start .before in
+    rw (not-true (test .before .before .before .args .used) (test .if1 .taken), c .raw2 .ensures, start .raw .ensures) (update-unused _ (test .before .before .before .args .u))
+
+returns-2 : tie.Need-returns-2
+unfolding updateValid
+returns-2 c =
     let found-on = c .before in
     let left-raw = found-on .before in
     let found-raw = left-raw .before in
@@ -15,14 +23,20 @@ returns c =
     let start-raw = started .before in
     let left = start-raw .before in
     let found = left .before in
-    rw (c .both2 .ensures, found-on .both .ensures, left-raw .raw4 .ensures, found-raw .raw3 .ensures, ramped .wide-between-if2 .ensures)
-    (rw (ramp-raw .raw2 .ensures, started .wide-between-if .ensures, start-raw .raw .ensures, left .offset-if .ensures, found .offset-of .ensures))
+    rw (c .both2 .ensures, found-on .both .ensures, left-raw .raw6 .ensures, found-raw .raw5 .ensures, ramped .wide-between-if2 .ensures)
+    (rw (ramp-raw .raw4 .ensures, started .wide-between-if .ensures, start-raw .raw3 .ensures, left .offset-if .ensures, found .offset-of .ensures))
 
 pub update-valid-spec : {M : Type 1} → statement M
 update-valid-spec =
     tie.close
     (tie.spec
     (λ c κs. search needs)
+    (λ c. search needs)
+    (λ c κs. search needs)
+    (λ c. search needs)
+    (λ c. search needs)
+    returns
+    (λ c κs. search needs)
     (λ c κs. search needs)
     (λ c κs. search needs)
     (λ c. search needs)
@@ -34,4 +48,4 @@ update-valid-spec =
     (λ c κs. search needs)
     (λ c κs. search needs)
     (λ c κs. search needs)
-    returns)
+    returns-2)

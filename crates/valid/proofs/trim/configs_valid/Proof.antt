@@ -4,11 +4,13 @@ use mathlib.Core.Path.{_≡_, ap, _∙_}
 use Prim.Native.Nat.{_+_, _-_, _*_}
 use native.Mathlib.Omega.{arith}
 use borrow.Author.Needs.{needs}
+use borrow.Author.Tests.{not-true}
 use Rattle.oamd.specs.Tables.{trimConfigs, configBytes, trimHead}
 use Rattle.oamd.specs.Trim.{noConfig}
 use Rattle.form.specs.Valid.{configValid}
 use Rattle.form.specs.Answer.{configAt, configsAt}
 use Rattle.valid.proofs.Sent.{AllOrNone, untested, one-more, all-of-them, configs-length, config-entry}
+use Rattle.valid.proofs.Zeros.{configs-unsent}
 use Rattle.valid.proofs.trim.configs_valid.Statement.{statement}
 use Rattle.valid.proofs.trim.configs_valid.Tie as tie
 
@@ -32,7 +34,10 @@ loop-again c =
     )
 
 returns : tie.Need-returns Inv-loop μ-loop
-returns c = all-of-them (c .before .loop .inv .1) (omega arith)
+returns c = rw (not-true (c .before .before .before .args .sent) (c .before .if1 .taken)) (c .zeros .ensures ∙ configs-unsent _ _ _)
+
+returns-2 : tie.Need-returns-2 Inv-loop μ-loop
+returns-2 c = all-of-them (c .before .loop .inv .1) (omega arith)
 
 pub configs-valid-spec : {M : Type 1} → statement M
 configs-valid-spec =
@@ -40,6 +45,9 @@ configs-valid-spec =
     (tie.spec
     Inv-loop
     μ-loop
+    (λ c. search needs)
+    (λ c κs. search needs)
+    returns
     (λ c. (search needs, untested (configs-length _ _ _)))
     (λ c κs. search needs)
     (λ c κs. search needs)
@@ -48,4 +56,4 @@ configs-valid-spec =
     (λ c. search needs)
     (λ c. search needs)
     loop-again
-    returns)
+    returns-2)
