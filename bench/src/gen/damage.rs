@@ -128,7 +128,7 @@ impl Gen {
     }
 
     /// Flips a few bits, half of them near the start.
-    fn flip(&mut self, bytes: &mut [u8]) {
+    pub(super) fn flip(&mut self, bytes: &mut [u8]) {
         for _ in 0..self.rng.within(1, 4) {
             let limit = if self.rng.chance(50) { 16 } else { bytes.len() };
             let at = self.rng.below(limit.min(bytes.len()));

@@ -30,7 +30,7 @@ pub struct Context {
 }
 
 /// An inactive record (Tables 28 and 29).
-fn defaults(class: usize) -> Record {
+pub fn defaults(class: usize) -> Record {
     let mut record = [0; 24];
     record[1] = class as u8;
     (record[4], record[5], record[6], record[12]) = (31, 31, 64, 1);

@@ -32,6 +32,10 @@ impl Rng {
         self.below(100) < percent
     }
 
+    pub fn of_thousand(&mut self, chance: usize) -> bool {
+        self.below(1000) < chance
+    }
+
     pub fn pick<T: Copy>(&mut self, choice: &[T]) -> T {
         choice[self.below(choice.len())]
     }

@@ -1,8 +1,10 @@
 //! Time against the payload's length and the number of objects, reading and writing.
 
 use crate::inputs::{reading, shaped, writing, Tables};
+use crate::mixture::Mixture;
 use crate::times::{Buffers, Times};
 use skriemelt_bench::gen::rng::Rng;
+use skriemelt_bench::plain::RECORD_STRIDE;
 
 /// Lengths in bytes, from and to.
 const LENGTHS: [(usize, usize); 9] = [
@@ -17,58 +19,58 @@ const LENGTHS: [(usize, usize); 9] = [
     (2048, 4097),
 ];
 
-/// What a line's time is also given for.
-struct Unit {
-    name: &'static str,
-    /// How many of them a payload has.
-    count: f64,
-}
-
+/// The head of a table. The last columns are of the proved library: where its cost grows as the records do, what an object and block take falls to a constant.
 fn head(name: &str) {
-    println!("\n{:>24}   {:<40}write", "", "read");
-    let columns = "proved ns   plain ns   ratio ns a unit";
-    println!("{name:>16}   bytes   {columns}   {columns}   unit");
+    let of = ["read", "write", "ns a byte", "ns an object and block"];
+    println!(
+        "\n{:24}   {:26}   {:26}   {:15}   {}",
+        "", of[0], of[1], of[2], of[3]
+    );
+    print!("{name:>16}   bytes");
+    for _ in 0..2 {
+        print!("   {:>9} {:>9} {:>6}", "proved ns", "plain ns", "ratio");
+    }
+    for _ in 0..2 {
+        print!("   {:>7} {:>7}", "read", "write");
+    }
+    println!();
 }
 
 /// One line of a table: payloads read, and their tables written.
-fn line(name: &str, payloads: &[Vec<u8>], unit: &Unit, rounds: usize) {
+fn line(name: &str, payloads: &[&[u8]], rounds: usize) {
     let mut lent = Buffers::new();
     let repeated = (500 / payloads.len()).max(1);
-    let calls: Vec<&[u8]> = payloads.iter().map(Vec::as_slice).collect();
-    let calls = calls.repeat(repeated);
     let tables: Vec<Tables> = payloads.iter().filter_map(|p| Tables::of(p)).collect();
-    let read = Times::new(&calls, rounds, &mut lent, &reading());
-    let tables = tables.iter().collect::<Vec<_>>().repeat(repeated);
-    let write = Times::new(&tables, rounds, &mut lent, &writing());
-    let bytes = payloads.iter().map(Vec::len).sum::<usize>() / payloads.len();
-    print!("{name:>16} {bytes:7}");
-    for times in [read, write] {
+    let read = Times::new(&payloads.repeat(repeated), rounds, &mut lent, &reading());
+    let calls = tables.iter().collect::<Vec<_>>().repeat(repeated);
+    let write = Times::new(&calls, rounds, &mut lent, &writing());
+    let bytes: usize = payloads.iter().map(|payload| payload.len()).sum();
+    let records: usize = tables.iter().map(|t| t.records.len() / RECORD_STRIDE).sum();
+    print!("{name:>16} {:7}", bytes / payloads.len());
+    for times in [&read, &write] {
         let count = calls.len() as f64;
         let (proved, plain) = (times.best.0 / count, times.best.1 / count);
-        let a_unit = proved / unit.count;
-        print!(
-            "   {proved:9.0} {plain:10.0} {:7.2} {a_unit:9.2}",
-            times.ratio()
-        );
+        print!("   {proved:9.0} {plain:9.0} {:6.2}", times.ratio());
     }
-    println!("   {}", unit.name);
+    for units in [bytes, records] {
+        let units = (units * repeated) as f64;
+        let (read, write) = (read.best.0 / units, write.best.0 / units);
+        print!("   {read:7.2} {write:7.2}");
+    }
+    println!();
 }
 
-pub fn by_length(accepted: &[Vec<u8>], rounds: usize) {
+pub fn by_length(mixture: &Mixture, rounds: usize) {
     println!("\nTime against payload length: generated payloads whose tables can be written, and writing these.");
     head("length");
-    let writable = |p: &&Vec<u8>| Tables::of(p).is_some_and(|tables| tables.form_bytes() > 0);
+    let payloads = mixture.store.payloads();
+    let writable = |p: &&[u8]| Tables::of(p).is_some_and(|tables| tables.form_bytes() > 0);
     for (from, to) in LENGTHS {
-        let some = accepted.iter().filter(|p| p.len() >= from && p.len() < to);
-        let some: Vec<Vec<u8>> = some.filter(writable).take(500).cloned().collect();
-        if some.len() < 10 {
-            continue;
+        let some = payloads.iter().filter(|p| (from..to).contains(&p.len()));
+        let some: Vec<&[u8]> = some.copied().filter(writable).take(500).collect();
+        if some.len() >= 10 {
+            line(&format!("{from} to {}", to - 1), &some, rounds);
         }
-        let unit = Unit {
-            name: "byte",
-            count: some.iter().map(Vec::len).sum::<usize>() as f64 / some.len() as f64,
-        };
-        line(&format!("{from} to {}", to - 1), &some, &unit, rounds);
     }
 }
 
@@ -80,11 +82,8 @@ pub fn by_objects(rounds: usize) {
         for objects in [1, 2, 4, 8, 16, 32, 64, 128, 159] {
             let some: Option<Vec<_>> = (0..50).map(|_| shaped(&mut rng, objects, blocks)).collect();
             if let Some(some) = some {
-                let unit = Unit {
-                    name: "record",
-                    count: (objects * blocks) as f64,
-                };
-                line(&format!("{objects} x {blocks}"), &some, &unit, rounds);
+                let some: Vec<&[u8]> = some.iter().map(Vec::as_slice).collect();
+                line(&format!("{objects} x {blocks}"), &some, rounds);
             }
         }
     }
