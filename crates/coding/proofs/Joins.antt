@@ -8,19 +8,19 @@ use native.Mathlib.Omega.{arith}
 use lib.Arith.{digits-lt}
 use lib.ListN.{length, length-append}
 use lib.Pow.{shl-shr, shl-exact, field, pow-add, pow-pos}
-use Rattle.bits.specs.Language.{number, pick, widestField}
+use Rattle.bits.specs.Language.{number, pick}
 use Rattle.bits.specs.Writes.{toBits, only}
 use Rattle.bits.specs.Lists.{length-toBits, number-toBits, binary-toBits, binary-append, bits-number, number-append}
 use Rattle.coding.specs.declared.Packed.{Packed}
-use Rattle.coding.specs.Packing.{Packs, PacksIn, Room, Behind}
+use Rattle.coding.specs.Packing.{widestPacked, Packs, PacksIn, Room, Behind}
 
 -- shifting up and down leaves the low w bits
-pub low-bits : (w v : ℕ) → w ≤ 32 → v * 2 ^ (32 - w) % 2 ^ 32 / 2 ^ (32 - w) ≡ v % 2 ^ w
+pub low-bits : (w v : ℕ) → w ≤ 64 → v * 2 ^ (64 - w) % 2 ^ 64 / 2 ^ (64 - w) ≡ v % 2 ^ w
 low-bits w v h =
-    let e : 32 ≡ w + (32 - w) = omega arith in
-    ap (λ (k : ℕ). v * 2 ^ (32 - w) % 2 ^ k / 2 ^ (32 - w)) e
-    ∙ field (v * 2 ^ (32 - w)) w (32 - w)
-    ∙ ap (λ (y : ℕ). y % 2 ^ w) (shl-shr v (32 - w))
+    let e : 64 ≡ w + (64 - w) = omega arith in
+    ap (λ (k : ℕ). v * 2 ^ (64 - w) % 2 ^ k / 2 ^ (64 - w)) e
+    ∙ field (v * 2 ^ (64 - w)) w (64 - w)
+    ∙ ap (λ (y : ℕ). y % 2 ^ w) (shl-shr v (64 - w))
 
 -- a field of n bits, the low bits of v, behind the w bits of u
 module _ (w n u v : ℕ) (small : u < 2 ^ w) where
@@ -45,15 +45,15 @@ module _ (w n u v : ℕ) (small : u < 2 ^ w) where
 -- what `pack` computes
 module _ (w v : ℕ) (p : Packed) (room : Room w p) where
   abbrev sum : ℕ
-  sum = p .value * 2 ^ w % 2 ^ 32 + v * 2 ^ (32 - w) % 2 ^ 32 / 2 ^ (32 - w)
+  sum = p .value * 2 ^ w % 2 ^ 64 + v * 2 ^ (64 - w) % 2 ^ 64 / 2 ^ (64 - w)
 
   sum-is : sum ≡ joined (p .width .0) w (p .value) v (room .small)
-  sum-is = ap₂ (λ (x y : ℕ). x + y) (shl-exact (p .width .0) w 32 (room .small) (omega arith)) (low-bits w v (omega arith))
+  sum-is = ap₂ (λ (x y : ℕ). x + y) (shl-exact (p .width .0) w 64 (room .small) (omega arith)) (low-bits w v (omega arith))
 
-  -- below 2^24, so below 2^32
-  pub sum-fits : sum < 2 ^ 32
+  -- below 2^56, so below 2^64
+  pub sum-fits : sum < 2 ^ 64
   sum-fits =
-      let under : joined (p .width .0) w (p .value) v (room .small) < 2 ^ widestField =
+      let under : joined (p .width .0) w (p .value) v (room .small) < 2 ^ widestPacked =
       lt-of-lt-of-le (joined-small (p .width .0) w (p .value) v (room .small)) (pow-le-pow-right (zero-lt-suc 1) (room .fits)) in
       rw sum-is (omega arith)
 
@@ -93,6 +93,13 @@ nonempty h = record { packs = h .packs; least = omega arith; most = h .most }
 -- the same bits, said in another way
 pub behind-is : {i j : ℕ} {p r : Packed} {l m : List ℕ} → l ≡ m → Behind i j p r l → Behind i j p r m
 behind-is {i} {j} {p} {r} e h = subst (λ (x : List ℕ). Behind i j p r x) e h
+
+pub packs-is : {i j : ℕ} {p : Packed} {l m : List ℕ} → l ≡ m → PacksIn i j p l → PacksIn i j p m
+packs-is {i} {j} {p} e h = subst (λ (x : List ℕ). PacksIn i j p x) e h
+
+-- the same bits, under another name for their test
+pub behind-only : {i j : ℕ} {p r : Packed} {on test : Bool} (l : List ℕ) → on ≡ test → Behind i j p r (only on l) → Behind i j p r (only test l)
+behind-only l e h = behind-is (ap (λ (b : Bool). only b l) e) h
 
 -- bits where a test holds: there they are, or nothing is
 pub behind-if : {i j n : ℕ} {p q r : Packed} {l : List ℕ} (on : Bool) → Room n p → Behind i j p q l → r ≡ pick on q p → Behind 0 j p r (only on l)

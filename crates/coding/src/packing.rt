@@ -18,14 +18,14 @@ pub fn nothing() -> Packed
 }
 
 // A field of w bits, the low bits of v, behind the bits of p.
-pub fn pack(p: Packed, w: u32, v: u32) -> Packed
+pub fn pack(p: Packed, w: u32, v: u64) -> Packed
     requires { ⌜ Room w p ⌝ }
     ensures { λ r. ⌜ Behind w w p r (toBits w v) ⌝ }
 {
     let width = p.width;
     Packed {
         width: width.plus(BitCount::new(w)),
-        value: (p.value << w) + ((v << (32 - w)) >> (32 - w)),
+        value: (p.value << w) + ((v << (64 - w)) >> (64 - w)),
     }
 }
 
@@ -38,7 +38,7 @@ pub fn kept_if(on: bool, more: Packed, p: Packed) -> Packed
 }
 
 // A field where a test holds.
-pub fn pack_if(on: bool, p: Packed, w: u32, v: u32) -> Packed
+pub fn pack_if(on: bool, p: Packed, w: u32, v: u64) -> Packed
     requires { ⌜ Room w p ⌝ }
     ensures { λ r. ⌜ Behind 0 w p r (only on (toBits w v)) ⌝ }
 {
@@ -47,7 +47,7 @@ pub fn pack_if(on: bool, p: Packed, w: u32, v: u32) -> Packed
 }
 
 // A field where two tests hold.
-pub fn pack_both(a: bool, b: bool, p: Packed, w: u32, v: u32) -> Packed
+pub fn pack_both(a: bool, b: bool, p: Packed, w: u32, v: u64) -> Packed
     requires { ⌜ Room w p ⌝ }
     ensures { λ r. ⌜ Behind 0 w p r (only (both a b) (toBits w v)) ⌝ }
 {

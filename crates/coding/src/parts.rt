@@ -35,8 +35,8 @@ fn gain(p: Packed, v: u8) -> Packed
     ensures { λ r. ⌜ Behind 2 8 p r (gainBits (codedGain v)) ⌝ }
 {
     let g = coded_gain(v);
-    let p = pack(p, 2, g.index as u32);
-    pack_if(g.index == 2, p, 6, g.bits as u32)
+    let p = pack(p, 2, g.index as u64);
+    pack_if(g.index == 2, p, 6, g.bits as u64)
 }
 
 fn priority(p: Packed, v: u8) -> Packed
@@ -44,8 +44,8 @@ fn priority(p: Packed, v: u8) -> Packed
     ensures { λ r. ⌜ Behind 1 6 p r (priorityBits (codedPriority v)) ⌝ }
 {
     let c = coded_priority(v);
-    let p = pack(p, 1, c.bydefault as u32);
-    pack_if(c.bydefault == 0, p, 5, c.bits as u32)
+    let p = pack(p, 1, c.bydefault as u64);
+    pack_if(c.bydefault == 0, p, 5, c.bits as u64)
 }
 
 // Gain and priority, of an object that is active.
@@ -66,10 +66,10 @@ pub fn position(first: bool, p: Packed, l: Location) -> Packed
     let sign = z_sign(l.z);
     let size = z_bits(l.z);
     let p = pack_if(!first, p, 1, 0);
-    let p = pack(p, 6, l.x as u32);
-    let p = pack(p, 6, l.y as u32);
-    let p = pack(p, 1, sign as u32);
-    pack(p, 4, size as u32)
+    let p = pack(p, 6, l.x as u64);
+    let p = pack(p, 6, l.y as u64);
+    let p = pack(p, 1, sign as u64);
+    pack(p, 4, size as u64)
 }
 
 pub fn distance(p: Packed, v: u8) -> Packed
@@ -77,17 +77,17 @@ pub fn distance(p: Packed, v: u8) -> Packed
     ensures { λ r. ⌜ Behind 1 6 p r (distanceBits (codedDistance v)) ⌝ }
 {
     let d = coded_distance(v);
-    let p = pack(p, 1, d.given as u32);
-    let p = pack_if(d.given == 1, p, 1, d.infinite as u32);
-    pack_both(d.given == 1, d.infinite == 0, p, 4, d.index as u32)
+    let p = pack(p, 1, d.given as u64);
+    let p = pack_if(d.given == 1, p, 1, d.infinite as u64);
+    pack_both(d.given == 1, d.infinite == 0, p, 4, d.index as u64)
 }
 
 pub fn zone(p: Packed, z: Zone) -> Packed
     requires { ⌜ Room 4 p ⌝ }
     ensures { λ r. ⌜ Behind 4 4 p r (zoneBits z) ⌝ }
 {
-    let p = pack(p, 3, z.index as u32);
-    pack(p, 1, z.elevation as u32)
+    let p = pack(p, 3, z.index as u64);
+    pack(p, 1, z.elevation as u64)
 }
 
 // The three sizes, where the index says that all are sent.
@@ -95,9 +95,9 @@ fn sizes_if(on: bool, p: Packed, e: Extent) -> Packed
     requires { ⌜ Room 15 p ⌝ }
     ensures { λ r. ⌜ Behind 0 15 p r (only on (toBits 5 (e .width) ++ (toBits 5 (e .depth) ++ toBits 5 (e .height)))) ⌝ }
 {
-    let more = pack(p, 5, e.width as u32);
-    let more = pack(more, 5, e.depth as u32);
-    let more = pack(more, 5, e.height as u32);
+    let more = pack(p, 5, e.width as u64);
+    let more = pack(more, 5, e.depth as u64);
+    let more = pack(more, 5, e.height as u64);
     kept_if(on, more, p)
 }
 
@@ -106,26 +106,16 @@ pub fn extent(p: Packed, v: Volume) -> Packed
     ensures { λ r. ⌜ Behind 2 22 p r (extentBits (codedExtent v)) ⌝ }
 {
     let e = coded_extent(v);
-    let p = pack(p, 2, e.index as u32);
-    let p = pack_if(e.index == 1, p, 5, e.all as u32);
+    let p = pack(p, 2, e.index as u64);
+    let p = pack_if(e.index == 1, p, 5, e.all as u64);
     sizes_if(e.index == 2, p, e)
 }
 
-fn screen(p: Packed, s: Screen) -> Packed
+pub fn screen(p: Packed, s: Screen) -> Packed
     requires { ⌜ Room 6 p ⌝ }
     ensures { λ r. ⌜ Behind 1 6 p r (screenBits s) ⌝ }
 {
-    let p = pack(p, 1, s.used as u32);
-    let p = pack_if(s.used == 1, p, 3, s.factor as u32);
-    pack_if(s.used == 1, p, 2, s.depth as u32)
-}
-
-// Screen and snap, where render info is sent.
-pub fn screen_if(sent: bool, p: Packed, s: Scene) -> Packed
-    requires { ⌜ Room 7 p ⌝ }
-    ensures { λ r. ⌜ Behind 0 7 p r (only sent (screenBits (s .screen) ++ toBits 1 (s .snap))) ⌝ }
-{
-    let more = screen(p, s.screen);
-    let more = pack(more, 1, s.snap as u32);
-    kept_if(sent, more, p)
+    let p = pack(p, 1, s.used as u64);
+    let p = pack_if(s.used == 1, p, 3, s.factor as u64);
+    pack_if(s.used == 1, p, 2, s.depth as u64)
 }

@@ -1,8 +1,5 @@
-// Bits laid into a lent buffer, one field after the other. Each function hands out the position behind what it laid, and says in one record what was laid, into
-// what, and how many bits it is at the most (specs/Laying.antt). The only premises are a field's width and that the part ends no further than mostPosition.
-mod putting; // putting.rt: a field, and what is made of it
+// Bits laid into a lent buffer: a field of up to 56 bits at a position. What `put` hands out is the position behind the field; what it says (specs/Laying.antt) is what bytes the buffer then holds,
+// and of them what a part of a form has to know. The only premises are a field's width and that it ends no further than mostPosition.
+mod putting; // putting.rt: a field
 
 pub use putting::put;
-pub use putting::put_both;
-pub use putting::put_if;
-pub use putting::put_zeros;

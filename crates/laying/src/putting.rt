@@ -1,16 +1,28 @@
-// The one function that writes a field, and what is made of it.
+// The one function that writes a field: the bits before it stay, and behind it, up to eight bytes from its first one, there are zeros.
 ghost use mathlib.Core.Path.{_≡_};
-ghost use Prim.Native.Nat.{_+_, _≤_, _<_};
-ghost use lib.ListN.{set, replicate};
-ghost use Rattle.bits.specs.Language.{both, widestField};
-ghost use Rattle.bits.specs.Writes.{toBits, only};
-ghost use Rattle.laying.specs.Laying.{Laid, mostPosition, putWord, setWord};
-use bits::word;
+ghost use Prim.Native.Nat.{_+_, _/_, _≤_, _<_};
+ghost use lib.ListN.{length, getD, set};
+ghost use Rattle.laying.specs.Laying.{Put, widestPut, mostPosition, joined, setWide, setHigh, setLow};
 use units::BitCount;
 use units::BitPos;
 
+// The eight bytes of y from i on.
+fn store_whole(out: &mut [u8], i: usize, y: u64)
+    requires { ⌜ i + 8 ≤ length (now out) ⌝ }
+    ensures { λ _. ⌜ now (out .exit) ≡ setWide (now (out .entry)) i y ⌝ }
+{
+    out[i] = (y / 72057594037927936) as u8;
+    out[i + 1] = (y / 281474976710656 % 256) as u8;
+    out[i + 2] = (y / 1099511627776 % 256) as u8;
+    out[i + 3] = (y / 4294967296 % 256) as u8;
+    out[i + 4] = (y / 16777216 % 256) as u8;
+    out[i + 5] = (y / 65536 % 256) as u8;
+    out[i + 6] = (y / 256 % 256) as u8;
+    out[i + 7] = (y % 256) as u8;
+}
+
 // Stores a byte, where the buffer has it.
-fn store(out: &mut [u8], i: usize, b: u32)
+fn store(out: &mut [u8], i: usize, b: u64)
     requires { ⌜ b < 256 ⌝ }
     ensures { λ _. ⌜ now (out .exit) ≡ set (now (out .entry)) i b ⌝ }
 {
@@ -19,92 +31,87 @@ fn store(out: &mut [u8], i: usize, b: u32)
     }
 }
 
-// Stores the four bytes of y from i on.
-fn store_word(out: &mut [u8], i: usize, y: u32)
+// The first four bytes of y from i on, where the buffer has them.
+fn store_high(out: &mut [u8], i: usize, y: u64)
     requires { ⌜ i < 536870912 ⌝ }
-    ensures { λ _. ⌜ now (out .exit) ≡ setWord (now (out .entry)) i y ⌝ }
+    ensures { λ _. ⌜ now (out .exit) ≡ setHigh (now (out .entry)) i y ⌝ }
 {
-    if i + 4 <= out.len() {
-        out[i] = (y / 16777216) as u8;
-        out[i + 1] = (y / 65536 % 256) as u8;
-        out[i + 2] = (y / 256 % 256) as u8;
-        out[i + 3] = (y % 256) as u8;
-    } else {
-        store(out, i, y / 16777216);
-        store(out, i + 1, y / 65536 % 256);
-        store(out, i + 2, y / 256 % 256);
-        store(out, i + 3, y % 256);
-    }
+    store(out, i, y / 72057594037927936);
+    store(out, i + 1, y / 281474976710656 % 256);
+    store(out, i + 2, y / 1099511627776 % 256);
+    store(out, i + 3, y / 4294967296 % 256);
 }
 
-// The word x with its w bits behind the first o replaced by the low w bits of v.
-fn mixed(x: u32, o: u32, w: u32, v: u32) -> u32
-    requires { ⌜ (o < 8) × (1 ≤ w) × (w ≤ widestField) ⌝ }
-    ensures { λ r. ⌜ r ≡ putWord x o w v ⌝ }
+// The last four.
+fn store_low(out: &mut [u8], i: usize, y: u64)
+    requires { ⌜ i < 536870912 ⌝ }
+    ensures { λ _. ⌜ now (out .exit) ≡ setLow (now (out .entry)) i y ⌝ }
 {
-    let sh = 32 - o - w;
-    let old = (x << o) >> (32 - w);
-    let new = (v << (32 - w)) >> (32 - w);
-    x - (old << sh) + (new << sh)
+    store(out, i + 4, y / 16777216 % 256);
+    store(out, i + 5, y / 65536 % 256);
+    store(out, i + 6, y / 256 % 256);
+    store(out, i + 7, y % 256);
 }
 
-// Writes a field of w bits, the low bits of v, at a position within the buffer.
-fn put_inside(out: &mut [u8], at: BitPos, w: u32, v: u32) -> BitPos
-    requires { ⌜ (1 ≤ w) × (w ≤ widestField) ⌝ }
-    requires { ⌜ at .0 + w ≤ mostPosition ⌝ }
-    ensures { λ r. ⌜ Laid w (now (out .entry)) (now (out .exit)) (at .0) (r .0) (toBits w v) ⌝ }
+// The same as store_whole near the end of the buffer: past it nothing is stored.
+fn store_end(out: &mut [u8], i: usize, y: u64)
+    requires { ⌜ i < 536870912 ⌝ }
+    ensures { λ _. ⌜ now (out .exit) ≡ setWide (now (out .entry)) i y ⌝ }
+{
+    store_high(out, i, y);
+    store_low(out, i, y);
+}
+
+// A byte, 0 past the end.
+fn byte(s: &[u8], i: usize) -> u8
+    ensures { λ r. ⌜ r ≡ getD (now (s .entry)) i 0 ⌝ }
+{
+    if i < s.len() { s[i] } else { 0 }
+}
+
+// The first o bits of a byte, behind them the low w bits of v, and zeros. Shifted all together, so that the eight bytes are stored as one.
+fn join(b: u8, o: u32, w: u32, v: u64) -> u64
+    requires { ⌜ (o < 8) × (1 ≤ w) × (w ≤ widestPut) ⌝ }
+    ensures { λ r. ⌜ r ≡ joined b o w v ⌝ }
+{
+    let front = (b as u64 >> (8 - o)) << w;
+    let low = (v << (64 - w)) >> (64 - w);
+    (front + low) << (64 - o - w)
+}
+
+// Where eight bytes have room.
+fn put_whole(out: &mut [u8], at: BitPos, w: u32, v: u64) -> BitPos
+    requires { ⌜ (1 ≤ w) × (w ≤ widestPut) × (at .0 + w ≤ mostPosition) ⌝ }
+    requires { ⌜ at .0 / 8 + 8 ≤ length (now out) ⌝ }
+    ensures { λ r. ⌜ Put w (now (out .entry)) (now (out .exit)) (at .0) (r .0) v ⌝ }
 {
     let p = at.raw();
-    let x = word(out, at);
-    let y = mixed(x, p % 8, w, v);
-    store_word(out, (p / 8) as usize, y);
+    let y = join(out[(p / 8) as usize], p % 8, w, v);
+    store_whole(out, (p / 8) as usize, y);
     at.after(BitCount::new(w))
 }
 
-// Writes a field of w bits, the low bits of v, at any position; past the end of the buffer nothing is stored, so that the length of a form costs little.
-pub fn put(out: &mut [u8], at: BitPos, w: u32, v: u32) -> BitPos
-    requires { ⌜ (1 ≤ w) × (w ≤ widestField) ⌝ }
-    requires { ⌜ at .0 + w ≤ mostPosition ⌝ }
-    ensures { λ r. ⌜ Laid w (now (out .entry)) (now (out .exit)) (at .0) (r .0) (toBits w v) ⌝ }
+// Near the end of the buffer, or past it.
+fn put_end(out: &mut [u8], at: BitPos, w: u32, v: u64) -> BitPos
+    requires { ⌜ (1 ≤ w) × (w ≤ widestPut) × (at .0 + w ≤ mostPosition) ⌝ }
+    ensures { λ r. ⌜ Put w (now (out .entry)) (now (out .exit)) (at .0) (r .0) v ⌝ }
 {
     let p = at.raw();
-    if ((p / 8) as usize) < out.len() {
-        return put_inside(out, at, w, v);
-    }
+    let b = byte(out, (p / 8) as usize);
+    let y = join(b, p % 8, w, v);
+    store_end(out, (p / 8) as usize, y);
     at.after(BitCount::new(w))
 }
 
-// A field where a flag says that it is there.
-pub fn put_if(on: bool, out: &mut [u8], at: BitPos, w: u32, v: u32) -> BitPos
-    requires { ⌜ (1 ≤ w) × (w ≤ widestField) ⌝ }
+// Writes a field of w bits, the low bits of v, at any position; past the end of the buffer nothing is stored. Of the bytes that it touches only the first is looked at.
+pub fn put(out: &mut [u8], at: BitPos, w: u32, v: u64) -> BitPos
+    requires { ⌜ (1 ≤ w) × (w ≤ widestPut) ⌝ }
     requires { ⌜ at .0 + w ≤ mostPosition ⌝ }
-    ensures { λ r. ⌜ Laid w (now (out .entry)) (now (out .exit)) (at .0) (r .0) (only on (toBits w v)) ⌝ }
+    ensures { λ r. ⌜ Put w (now (out .entry)) (now (out .exit)) (at .0) (r .0) v ⌝ }
 {
-    if on {
-        return put(out, at, w, v);
+    let p = at.raw();
+    if (p / 8) as usize + 8 <= out.len() {
+        return put_whole(out, at, w, v);
     }
-    at
-}
-
-// A field where two tests hold.
-pub fn put_both(a: bool, b: bool, out: &mut [u8], at: BitPos, w: u32, v: u32) -> BitPos
-    requires { ⌜ (1 ≤ w) × (w ≤ widestField) ⌝ }
-    requires { ⌜ at .0 + w ≤ mostPosition ⌝ }
-    ensures { λ r. ⌜ Laid w (now (out .entry)) (now (out .exit)) (at .0) (r .0) (only (both a b) (toBits w v)) ⌝ }
-{
-    let on = bits::both(a, b);
-    put_if(on, out, at, w, v)
-}
-
-// Fewer than 8 zeros.
-pub fn put_zeros(out: &mut [u8], at: BitPos, n: BitCount) -> BitPos
-    requires { ⌜ n .0 < 8 ⌝ }
-    requires { ⌜ at .0 + n .0 ≤ mostPosition ⌝ }
-    ensures { λ r. ⌜ Laid (n .0) (now (out .entry)) (now (out .exit)) (at .0) (r .0) (replicate (n .0) 0) ⌝ }
-{
-    let w = n.raw();
-    if w == 0 {
-        return at;
-    }
-    put(out, at, w, 0)
+    put_end(out, at, w, v)
 }

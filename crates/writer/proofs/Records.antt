@@ -51,16 +51,16 @@ pub left-more : (n m i : ℕ) → i < n → (n - i) * m ≡ m + (n - (i + 1)) * 
 left-more n m i h = ap (λ (j : ℕ). j * m) (let e : n - i ≡ suc (n - (i + 1)) = omega arith in e) ∙ (let g : suc (n - (i + 1)) * m ≡ m + (n - (i + 1)) * m = omega arith in g)
 
 -- the bits inside the object element: the discard flag, the timing, a flag, and the objects
-pub object-inside : {k n j timing objects two before r : ℕ} {s u : List ℕ} {at p : ℕ} (t : Tables) → Laid k s u at p (timingBits (t .timing))
-    → Wide n objects (eachBits (λ j rs. objectDataBits rs) 0 (byObject (t .timing .blocks) (t .programme .objects) (t .records))) → timing ≡ p - at → two ≡ 2
+pub object-inside : {k n j timing objects two before r : ℕ} (t : Tables) → Wide k timing (timingBits (t .timing))
+    → Wide n objects (eachBits (λ j rs. objectDataBits rs) 0 (byObject (t .timing .blocks) (t .programme .objects) (t .records))) → two ≡ 2
     → before ≡ (two + timing) % 4294967296 → r ≡ (before + objects) % 4294967296 → k + (1 + n) ≤ j → 1 + j < 4294967296 → Inside j r (objectElementBits t)
 unfolding objectElementBits
-object-inside t laid wide e f g h i l =
+object-inside t first wide f g h i l =
     let rest : List ℕ = eachBits (λ j rs. objectDataBits rs) 0 (byObject (t .timing .blocks) (t .programme .objects) (t .records)) in
     let a = length-append (timingBits (t .timing)) (toBits 1 1 ++ rest) in
     let b = length-append (toBits 1 1) rest in
     let d = length-toBits 1 1 in
-    record { same = omega (arith, laid .next, laid .most, wide .same, wide .most); most = omega (arith, laid .next, laid .most, wide .most) }
+    record { same = omega (arith, first .same, first .most, wide .same, wide .most); most = omega (arith, first .most, wide .most) }
 
 abbrev objectsFrom : List ℕ → ℕ → ℕ → ℕ → ℕ → List ℕ
 objectsFrom s m i n k = eachBits (λ j rs. objectDataBits rs) i (byObject m n (recordsAt s (n * m) k))

@@ -6,7 +6,7 @@ use Prim.Native.Nat.{ℕ, _+_, _-_, _*_, _/_, _%_, _≤_, _<_}
 use native.Mathlib.Omega.{arith}
 use borrow.Author.Tests.{le-leb, lt-leb, lt-ltb, le-ltb}
 use lib.Dec.{leb}
-use lib.ListN.{length, replicate, length-append, length-replicate}
+use lib.ListN.{drop, length, replicate, length-append, length-drop, length-replicate}
 use Rattle.bits.specs.declared.Refusal.the-variants.{NotValid, NoFit}
 use Rattle.bits.specs.Refusals.{numberOf}
 use Rattle.bits.specs.Language.{pick, asFlag}
@@ -26,7 +26,7 @@ use Rattle.form.specs.Answer.{Written, trimAt, tablesOf, refusedTo, fitted, tri
 use Rattle.laying.specs.Laying.{Laid, Bytes}
 use Rattle.writer.specs.Parts.{objectBits, Inside, Framed, Wide, framed}
 use Rattle.writer.specs.Most.{mostHeader, mostForm, mostCounted, mostRecords, mostObjectElement, mostExtendedElement, mostTrimElement}
-use Rattle.laying.proofs.Laws.{laid-bind, laid-is, laid-only, laid-bytes}
+use Rattle.laying.proofs.Laws.{laid-bind, laid-is, laid-only}
 
 abbrev pub gives : WriteAnswer → List ℕ → Written
 gives a out = record { answer = a; out = out }
@@ -132,13 +132,18 @@ module _ (out : List ℕ) (t : Tables) (bytes : ℕ) (e : bytes ≡ (length (for
       ap (refusedTo out (numberOf NoFit)) form-bytes
       ∙ sym (rw (le-leb (length (form t)) (length out) (let f = form-bytes in omega arith), lt-leb (length (form t)) mostBytes (let f = form-bytes in omega arith)) refl)
 
-  pub fits : {k : ℕ} (u : List ℕ) (r pad n : ℕ) → n ≡ bytes → Bytes out → bytes ≤ length out → bytes ≤ mostBytes
-      → Laid k out u 0 r (formBits t ++ replicate pad 0) → r ≡ 8 * bytes → pad < 8
+  pub same-size : (u : List ℕ) → bytes ≤ length out → u ≡ form t ++ drop bytes out → length u ≡ length out
+  same-size u g l =
+      let f = form-bytes in
+      let d = length-drop bytes out in
+      ap length l ∙ length-append (form t) (drop bytes out) ∙ omega arith
+
+  pub fits : (u : List ℕ) (n : ℕ) → n ≡ bytes → bytes ≤ length out → bytes ≤ mostBytes → u ≡ form t ++ drop bytes out
       → gives (record { place = 0; length = record { 0 = n }; refusal = 0 }) u ≡ fitted out (form t)
-  unfolding fitted onto form
-  fits u r pad n q b g h l i j =
+  unfolding fitted onto
+  fits u n q g h l =
       ap₂ (λ (n : ℕ) (x : List ℕ). gives (record { place = 0; length = record { 0 = n }; refusal = 0 }) x) (q ∙ form-bytes)
-      (laid-bytes out u r (formBits t) pad bytes l b i j g)
+      (l ∙ ap (λ (k : ℕ). form t ++ drop k out) form-bytes)
       ∙ sym (rw (le-leb (length (form t)) (length out) (let f = form-bytes in omega arith), le-leb (length (form t)) mostBytes (let f = form-bytes in omega arith)) refl)
 
 -- the answer, by the tables: the first three tests are passed

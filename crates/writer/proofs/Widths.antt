@@ -21,6 +21,9 @@ wide-bind {l = l} {m} f g h e =
 pub wide-is : {k n : ℕ} {l m : List ℕ} → l ≡ m → Wide k n l → Wide k n m
 wide-is {k} {n} e h = subst (λ (x : List ℕ). Wide k n x) e h
 
+pub wide-within : {k j n : ℕ} {l : List ℕ} → k ≤ j → Wide k n l → Wide j n l
+wide-within e h = record { same = h .same; most = omega (arith, h .most) }
+
 pub wide-on : {k n : ℕ} {on : Bool} {l : List ℕ} → on ≡ true → Wide k n l → Wide k n (only on l)
 wide-on e h = rw e h
 

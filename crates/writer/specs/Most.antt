@@ -4,56 +4,31 @@ use Rattle.oamd.specs.Tables.{mostBeds, mostBlocks, trimConfigs}
 
 -- ---- what stands before the elements
 
-abbrev pub mostCount : ℕ
-mostCount = 5 + 7
-
 abbrev pub mostBed : ℕ
-mostBed = 1 + (1 + (10 + 17))
+mostBed = 29
 
 abbrev pub mostBedList : ℕ
 mostBedList = mostBeds * mostBed
 
-abbrev pub mostBedFields : ℕ
-mostBedFields = 1 + (1 + (3 + mostBedList))
-
-abbrev pub mostOthers : ℕ
-mostOthers = 3 + mostCount
-
-abbrev pub mostAssignment : ℕ
-mostAssignment = 1 + (1 + (4 + (mostBedFields + mostOthers)))
-
+-- before the list of beds, the list, and behind it
 abbrev pub mostHeader : ℕ
-mostHeader = 2 + (mostCount + (mostAssignment + 1))
+mostHeader = 25 + (mostBedList + 16)
 
 -- ---- the object element
 
-abbrev pub mostOffset : ℕ
-mostOffset = 2 + (2 + 5)
-
-abbrev pub mostRamp : ℕ
-mostRamp = 2 + (1 + (4 + 11))
-
 abbrev pub mostUpdate : ℕ
-mostUpdate = 6 + mostRamp
+mostUpdate = 24
 
 abbrev pub mostUpdates : ℕ
 mostUpdates = mostBlocks * mostUpdate
 
+-- the sample offset and the count of blocks, and the updates
 abbrev pub mostTiming : ℕ
-mostTiming = mostOffset + (3 + mostUpdates)
+mostTiming = 12 + mostUpdates
 
--- of a block: the object's basic info and status, render info up to the size, and what stands behind it
-abbrev pub mostOpening : ℕ
-mostOpening = 17
-
-abbrev pub mostMiddle : ℕ
-mostMiddle = 20 + (10 + 22)
-
-abbrev pub mostEnding : ℕ
-mostEnding = 8
-
+-- of a block: up to the zone, and from the size on
 abbrev pub mostBlock : ℕ
-mostBlock = mostOpening + (mostMiddle + mostEnding)
+mostBlock = 47 + 30
 
 abbrev pub mostObject : ℕ
 mostObject = mostBlocks * mostBlock
@@ -98,11 +73,8 @@ mostTrimFields objects = 2 + (2 + (2 + (mostConfigs + (1 + objects))))
 
 -- ---- an element around its fields
 
-abbrev pub mostGroup : ℕ
-mostGroup = 4 + 1
-
 abbrev pub mostSize : ℕ
-mostSize = mostGroup + (mostGroup + (mostGroup + mostGroup))
+mostSize = 20
 
 -- id, size and the discard flag
 abbrev pub mostFront : ℕ

@@ -3,44 +3,26 @@ use mathlib.Core.Path.{_≡_}
 use mathlib.Core.Bool.{Bool, true, false}
 use mathlib.Core.List.{List, [], _++_}
 use Prim.Native.Nat.{ℕ, _+_, _*_, _≤_}
-use lib.Dec.{eqb}
 use lib.ListN.{length}
-use Rattle.bits.specs.Language.{pick, both}
+use Rattle.bits.specs.Language.{pick}
 use Rattle.bits.specs.Writes.{toBits, only, eachBits}
 use Rattle.oamd.specs.declared.Precise.{Precise}
 use Rattle.oamd.specs.declared.Programme.{Programme}
-use Rattle.oamd.specs.declared.Scene.{Scene}
 use Rattle.oamd.specs.declared.Timing.{Timing}
 use Rattle.oamd.specs.declared.TrimConfig.{TrimConfig}
 use Rattle.oamd.specs.Tables.{mostBeds, mostBlocks, recordStride}
-use Rattle.oamd.specs.Programme.{set?, clear?, hasIsf, hasDynamic}
 use Rattle.oamd.specs.Extended.{hasX, hasY, hasZ}
 use Rattle.oamd.specs.Trim.{hasCentre, hasSurround, hasHeight, hasTb, hasLis, trimNeeded}
 use Rattle.oamd.specs.Record.{Record, carries}
 use Rattle.oamd.specs.Payload.{Tables}
-use Rattle.coding.specs.Packing.{positioningBits, aroundBits, sizedBits}
 use Rattle.form.specs.Valid.{recordCount}
-use Rattle.form.specs.Form.{countBits, divergenceBits, preciseBits, any, diverges, refines, objectElementBits, extendedElementBits, trimElementBits, formBits}
+use Rattle.form.specs.Form.{divergenceBits, preciseBits, any, diverges, refines, objectElementBits, extendedElementBits, trimElementBits, formBits}
 use Rattle.form.specs.Form.{sizeBits, sizeFor, elementBits, byObject, objectDataBits}
 use Rattle.record.specs.Bytes.{recordsAt}
 use Rattle.form.specs.Answer.{trimAt, tablesOf}
 use Rattle.writer.specs.Most.{mostObjectFields, mostExtendedFields, mostTrimFields, mostSize, mostPadding, mostRecords, mostForm}
 use Rattle.writer.specs.declared.Groups.{Groups}
 use Rattle.writer.specs.declared.Measures.{Measures}
-
--- of the programme: the intermediate spatial format, and the count of dynamic objects
-abbrev pub othersBits : Programme → List ℕ
-othersBits p = only (hasIsf (p .content)) (toBits 3 (p .isf)) ++ only (hasDynamic (p .content)) (countBits (p .dynamics))
-
--- of an update: its ramp
-abbrev pub rampBits : ℕ → ℕ → ℕ → ℕ → List ℕ
-rampBits code indexed index bits =
-    toBits 2 code
-    ++ (only (eqb code 3) (toBits 1 indexed) ++ (only (set? indexed) (toBits 4 index) ++ only (both (eqb code 3) (clear? indexed)) (toBits 11 bits)))
-
--- of a block whose render info is sent: what stands before screen and snap
-abbrev pub middleBits : Bool → Scene → List ℕ
-middleBits first s = positioningBits first s ++ (aroundBits s ++ sizedBits s)
 
 -- one of the two groups of the extended element, of one record
 abbrev pub extraBits : Bool → Record → List ℕ

@@ -14,12 +14,11 @@ use crate::extended::put_extended_fields;
 use crate::objects::objects_width;
 use crate::objects::put_object_fields;
 use crate::sizes::padding;
-use crate::sizes::put_size;
 use crate::sizes::size_for;
-use crate::timing::put_timing;
+use crate::timing::timing_width;
 use crate::trim::put_trim_fields;
-use laying::put;
-use laying::put_zeros;
+use crate::putting::put_packed;
+use crate::putting::put_zeros;
 use oamd::Programme;
 use oamd::Timing;
 use units::BitCount;
@@ -30,9 +29,8 @@ fn open_element(out: &mut [u8], at: BitPos, id: u32, v: u32) -> BitPos
     requires { ⌜ at .0 + mostFront ≤ mostPosition ⌝ }
     ensures { λ r. ⌜ Laid mostFront (now (out .entry)) (now (out .exit)) (at .0) (r .0) (toBits 4 id ++ (sizeBits v ++ toBits 1 0)) ⌝ }
 {
-    let next = put(out, at, 4, id);
-    let next = put_size(out, next, v);
-    put(out, next, 1, 0)
+    let all = coding::front(id, v);
+    put_packed(out, at, all)
 }
 
 // What stands behind the fields: zeros up to the end of an element of size v, with n bits inside.
@@ -46,14 +44,12 @@ fn close_element(out: &mut [u8], at: BitPos, v: u32, n: BitCount) -> BitPos
     put_zeros(out, at, pad)
 }
 
-// The bits inside the object element: the discard flag, the timing, laid where there is no room, the flag for reserved data, and the objects.
+// The bits inside the object element: the discard flag, the timing, the flag for reserved data, and the objects.
 pub fn object_inside(programme: Programme, timing: Timing, records: &[u8]) -> BitCount
     requires { ⌜ Blocks (programme .objects) (timing .blocks) (now records) ⌝ }
     ensures { λ r. ⌜ Inside (mostObjectFields (programme .objects)) (r .0) (objectBits programme timing (now (records .entry))) ⌝ }
 {
-    let mut scratch = [0u8; 1];
-    let start = BitPos::new(0);
-    let before = put_timing(&mut scratch, start, timing).since(start);
+    let before = timing_width(timing);
     let objects = objects_width(records, programme.objects as usize, timing.blocks as usize);
     BitCount::new(2).plus(before).plus(objects)
 }
@@ -64,7 +60,7 @@ pub fn extended_inside(records: &[u8], count: usize, groups: Groups) -> BitCount
     requires { ⌜ Needed (recordsAt (now records) count 0) groups ⌝ }
     ensures { λ r. ⌜ Inside (mostExtendedFields count) (r .0) (extendedBits (now (records .entry)) count) ⌝ }
 {
-    let mut scratch = [0u8; 1];
+    let mut scratch = [0u8; 64];
     let start = BitPos::new(0);
     let fields = put_extended_fields(&mut scratch, start, records, count, groups).since(start);
     BitCount::new(1).plus(fields)
@@ -75,7 +71,7 @@ pub fn trim_inside(trim: &[u8], objects: u8) -> BitCount
     requires { ⌜ trimFixed + objects ≤ length (now trim) ⌝ }
     ensures { λ r. ⌜ Inside (mostTrimFields objects) (r .0) (trimBits (now (trim .entry)) objects) ⌝ }
 {
-    let mut scratch = [0u8; 1];
+    let mut scratch = [0u8; 64];
     let start = BitPos::new(0);
     let fields = put_trim_fields(&mut scratch, start, trim, objects).since(start);
     BitCount::new(1).plus(fields)

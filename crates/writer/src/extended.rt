@@ -12,9 +12,9 @@ ghost use Rattle.writer.specs.Parts.{axesBits, extraBits, extrasBits, St
 use crate::Groups;
 use bits::as_flag;
 use bits::either;
-use laying::put;
-use laying::put_both;
-use laying::put_if;
+use crate::putting::put;
+use crate::putting::put_both;
+use crate::putting::put_if;
 use oamd::Divergence;
 use oamd::Precise;
 use record::divergence_at;

@@ -13,6 +13,7 @@ use oamd::WriteAnswer;
 use units::BitCount;
 use units::ByteCount;
 
+mod putting; // putting.rt: a field
 mod blocks; // blocks.rt: a block
 mod header; // header.rt: what stands before the elements
 mod timing; // timing.rt: the timing
@@ -70,9 +71,8 @@ fn write_form(
     if oamd::MOST_BYTES < bytes as usize {
         return refused(Refusal::NoFit, bytes as u64);
     }
-    let next = payload::put_form(payload, programme, timing, records, trim, m);
-    let pad = length.bit_count().minus(whole);
-    laying::put_zeros(payload, next, pad);
+    let n = bytes as usize;
+    payload::fill(&mut payload[..n], programme, timing, records, trim, m);
     WriteAnswer {
         place: 0,
         length,

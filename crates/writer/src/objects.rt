@@ -10,7 +10,7 @@ ghost use Rattle.writer.specs.Parts.{objectsBits, objectBits, Wide, Bloc
 use crate::blocks::block_width;
 use crate::blocks::put_block;
 use crate::timing::put_timing;
-use laying::put;
+use crate::putting::put;
 use oamd::Programme;
 use oamd::Timing;
 use record::scene_at;

@@ -1,11 +1,12 @@
 // The whole form: what stands before the elements, their count, and each where it is there (5.5.2).
-ghost use Prim.Native.Nat.{_+_, _≤_};
-ghost use Rattle.oamd.specs.Tables.{mostBeds};
-ghost use Rattle.form.specs.Form.{headerBits, formBits};
+ghost use mathlib.Core.Path.{_≡_};
+ghost use Prim.Native.Nat.{_+_, _/_, _≤_};
+ghost use lib.ListN.{length};
+ghost use Rattle.form.specs.Form.{formBits, form};
 ghost use Rattle.form.specs.Answer.{tablesOf};
 ghost use Rattle.laying.specs.Laying.{Laid, mostPosition};
-ghost use Rattle.writer.specs.Most.{mostHeader, mostPadding, mostForm};
-ghost use Rattle.writer.specs.Parts.{Wide, Framed, Enough, Measured};
+ghost use Rattle.writer.specs.Most.{mostPadding, mostForm};
+ghost use Rattle.writer.specs.Parts.{Framed, Enough, Measured};
 use crate::Measures;
 use crate::element::extended_inside;
 use crate::element::object_inside;
@@ -14,28 +15,19 @@ use crate::element::put_object_element;
 use crate::element::put_trim_element;
 use crate::element::trim_inside;
 use crate::extended::groups_of;
+use crate::header::header_width;
 use crate::header::put_header;
-use crate::sizes::put_size;
 use crate::sizes::room_of;
 use crate::sizes::size_for;
 use bits::as_flag;
 use bits::either;
-use laying::put;
+use crate::putting::put;
+use crate::putting::put_zeros;
 use oamd::Programme;
 use oamd::Timing;
 use units::BitCount;
 use units::BitPos;
 use valid::record_count;
-
-// The bits before the element count, laid where there is no room.
-fn header_bits(programme: Programme) -> BitCount
-    requires { ⌜ programme .bedcount ≤ mostBeds ⌝ }
-    ensures { λ r. ⌜ Wide mostHeader (r .0) (headerBits programme) ⌝ }
-{
-    let mut scratch = [0u8; 1];
-    let start = BitPos::new(0);
-    put_header(&mut scratch, start, programme).since(start)
-}
 
 // The bits of an element with n bits inside: id, size, and the bytes that the size counts; 0 for one that is not there.
 fn element_bits(on: bool, n: BitCount) -> BitCount
@@ -44,9 +36,7 @@ fn element_bits(on: bool, n: BitCount) -> BitCount
 {
     if on {
         let v = size_for(n);
-        let mut scratch = [0u8; 1];
-        let start = BitPos::new(0);
-        let size = put_size(&mut scratch, start, v).since(start);
+        let size = coding::size(v).width;
         return BitCount::new(4).plus(size).plus(room_of(v));
     }
     BitCount::new(0)
@@ -65,7 +55,7 @@ pub fn measure(programme: Programme, timing: Timing, records: &[u8], trim: &[u8]
     let first = element_bits(0 < timing.blocks, object);
     let second = element_bits(either(groups.diverges, groups.refines), extended);
     let third = element_bits(trim[0] == 1, trims);
-    let before = header_bits(programme).plus(BitCount::new(4));
+    let before = header_width(programme).plus(BitCount::new(4));
     Measures {
         count,
         groups,
@@ -77,7 +67,7 @@ pub fn measure(programme: Programme, timing: Timing, records: &[u8], trim: &[u8]
 }
 
 // Lays the form from the buffer's first bit on.
-pub fn put_form(
+fn put_form(
     out: &mut [u8],
     programme: Programme,
     timing: Timing,
@@ -111,4 +101,24 @@ pub fn put_form(
     let extended = put_extended_element(some, out, object, records, m.count, groups, inside);
     let inside = m.trim;
     put_trim_element(there, out, extended, trim, programme.objects, inside)
+}
+
+// Lays the whole form into a buffer that has room for it and no more; the bits behind it, up to the end of its last byte, are 0.
+pub fn fill(
+    out: &mut [u8],
+    programme: Programme,
+    timing: Timing,
+    records: &[u8],
+    trim: &[u8],
+    m: Measures,
+)
+    requires { ⌜ Enough programme timing (now records) (now trim) ⌝ }
+    requires { ⌜ Measured (tablesOf programme timing (now records) (now trim)) m ⌝ }
+    requires { ⌜ length (now out) ≡ (m .whole .0 + 7) / 8 ⌝ }
+    ensures { λ _. ⌜ now (out .exit) ≡ form (tablesOf programme timing (now (records .entry)) (now (trim .entry))) ⌝ }
+{
+    let whole = m.whole;
+    let next = put_form(out, programme, timing, records, trim, m);
+    let pad = whole.bytes().bit_count().minus(whole);
+    put_zeros(out, next, pad);
 }

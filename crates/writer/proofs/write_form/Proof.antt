@@ -2,14 +2,14 @@
 use borrow.Author.Needs.{needs}
 use denote.Ref.{now}
 use mathlib.Core.Path.{_≡_, sym, ap, _∙_}
-use Prim.Native.Nat.{ℕ, _+_, _*_, _/_}
+use Prim.Native.Nat.{ℕ, _+_, _/_}
 use native.Mathlib.Omega.{arith}
-use lib.ListN.{length, length-replicate}
+use mathlib.Core.List.{List, _++_}
+use lib.ListN.{length, drop, length-take}
 use Rattle.oamd.specs.declared.WriteAnswer.{WriteAnswer}
 use Rattle.form.specs.Answer.{tablesOf}
-use Rattle.form.specs.Form.{formBits}
-use Rattle.laying.proofs.Laws.{laid-bind}
-use Rattle.writer.proofs.Whole.{gives, no-room, too-long, fits}
+use Rattle.form.specs.Form.{formBits, form}
+use Rattle.writer.proofs.Whole.{gives, no-room, too-long, same-size, fits}
 use Rattle.writer.proofs.write_form.Statement.{statement}
 use Rattle.writer.proofs.write_form.Tie as tie
 
@@ -42,28 +42,40 @@ returns-2 c =
     ap (λ (r : WriteAnswer). gives r (now (a .payload))) (c .refused2 .ensures)
     ∙ too-long (now (a .payload)) (tablesOf (a .programme) (a .timing) (now (a .records)) (now (a .trim))) _ (counted raw) (room .if1 .left) (most .if2 .taken)
 
-returns-3 : tie.Need-returns-3
-returns-3 c =
-    let zeros = c .before .before in
-    let pad = zeros .before .before in
-    let bits = pad .before in
-    let laid = bits .before .before .before in
-    let most = laid .before .before in
-    let room = most .before in
+lent : tie.Need-slice-aggregate-fill
+lent c = simp length-take (omega (arith, c .before .before .if1 .left))
+
+fill-requires : tie.Need-fill-requires
+fill-requires c κs =
+    let room = c .before .before in
     let raw = room .before in
     let bytes = raw .before in
     let measured = bytes .before .before in
-    let buffer = measured .before in
+    (from-bytes raw .pre, (measured .measure .ensures, simp length-take (omega (arith, raw .raw .ensures, bytes .bytes .ensures, room .if1 .left))))
+
+-- the form is laid, and behind it the buffer is as it was
+abbrev to-raw : tie.After-slice-known2 → tie.After-raw
+to-raw c = c .before .before .before .before .before .before
+
+filled : (c : tie.After-slice-known2) → let a = from-bytes (to-raw c) .args in
+    c .before .before .fill .last .0 ++ drop (to-raw c .raw .result) (now (a .payload))
+    ≡ form (tablesOf (a .programme) (a .timing) (now (a .records)) (now (a .trim))) ++ drop (to-raw c .raw .result) (now (a .payload))
+filled c = ap (λ (x : List ℕ). x ++ drop (to-raw c .raw .result) (now (from-bytes (to-raw c) .args .payload))) (c .before .before .fill .ensures)
+
+same-length : tie.Need-same-length
+same-length c =
+    let raw = to-raw c in
+    let room = c .before .before .before .before .before in
     let a = from-bytes raw .args in
-    let m = measured .measure .ensures in
-    let form = laid .put-form .ensures in
-    let padded = zeros .put-zeros .ensures in
-    let whole : bits .bit-count .result .0 ≡ 8 * raw .raw .result = omega (arith, bits .bit-count .ensures, raw .raw .ensures, bytes .bytes .ensures, m .small) in
-    fits (now (a .payload)) (tablesOf (a .programme) (a .timing) (now (a .records)) (now (a .trim))) _ (counted raw) _ (zeros .put-zeros .result .0)
-    (pad .minus .result .0) _ (sym (raw .raw .ensures)) (λ i. omega (arith, buffer .slice-known .given i)) (room .if1 .left) (most .if2 .left) (laid-bind form padded)
-    (omega
-    (arith, form .next, m .whole, padded .next, length-replicate {A = ℕ} (pad .minus .result .0) 0, pad .minus .ensures, whole, raw .raw .ensures, bytes .bytes .ensures))
-    (omega (arith, pad .minus .ensures, whole, raw .raw .ensures, bytes .bytes .ensures))
+    same-size (now (a .payload)) (tablesOf (a .programme) (a .timing) (now (a .records)) (now (a .trim))) _ (counted raw) _ (room .if1 .left) (filled c)
+
+returns-3 : tie.Need-returns-3
+returns-3 c =
+    let raw = to-raw c in
+    let most = c .before .before .before .before in
+    let room = most .before in
+    let a = from-bytes raw .args in
+    fits (now (a .payload)) (tablesOf (a .programme) (a .timing) (now (a .records)) (now (a .trim))) _ (counted raw) _ _ (sym (raw .raw .ensures)) (room .if1 .left) (most .if2 .left) (filled c)
 
 pub write-form-spec : {M : Type 1} → statement M
 write-form-spec =
@@ -80,9 +92,9 @@ write-form-spec =
     (λ c. search needs)
     (λ c κs. search needs)
     returns-2
-    (λ c κs. search needs)
-    (λ c κs. search needs)
-    (λ c κs. search needs)
-    (λ c κs. search needs)
     (λ c. search needs)
+    (λ c. search needs)
+    lent
+    fill-requires
+    same-length
     returns-3)

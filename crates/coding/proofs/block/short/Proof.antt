@@ -1,11 +1,9 @@
 use borrow.Author.Needs.{needs}
-use Rattle.coding.specs.Packing.{endingBits}
 use Rattle.coding.proofs.Joins.{_▹_, nonempty}
 use Rattle.coding.proofs.block.short.Statement.{statement}
 use Rattle.coding.proofs.block.short.Tie as tie
 
 returns : tie.Need-returns
-unfolding endingBits
 returns c =
     let start = c .before in
     nonempty (start .opening .ensures ▹ c .pack .ensures)

@@ -13,8 +13,8 @@ start c =
     let width = count .before in
     width .before
 
-add-t12 : tie.Need-add-t12
-add-t12 c = let a = start c .args in record { fits = sum-fits (a .w) (a .v) (a .p) (start c .pre) }
+add-t15 : tie.Need-add-t15
+add-t15 c = let a = start c .args in record { fits = sum-fits (a .w) (a .v) (a .p) (start c .pre) }
 
 returns : tie.Need-returns
 returns c =
@@ -36,5 +36,7 @@ pack-spec =
     (λ c. search needs)
     (λ c. search needs)
     (λ c. search needs)
-    add-t12
+    (λ c. search needs)
+    (λ c. search needs)
+    add-t15
     returns)

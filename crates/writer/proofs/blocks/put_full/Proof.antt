@@ -6,19 +6,16 @@ use Rattle.writer.proofs.blocks.put_full.Tie as tie
 
 returns : tie.Need-returns
 returns c =
-    let last = c .before .before in
-    let middle = last .before .before .before .before in
-    let first = middle .before .before .before .before in
-    let ending = first .before .before in
-    let opening = ending .before in
-    laid-bind (packed-laid (opening .opening .ensures) (first .put-packed .ensures))
-    (laid-bind (middle .put-middle .ensures) (packed-laid (ending .ending .ensures) (last .put-packed2 .ensures)))
+    let second = c .before .before in
+    let first = second .before .before .before .before in
+    let aft = first .before .before in
+    let fore = aft .before in
+    laid-bind (packed-laid (fore .fore .ensures) (first .put-packed .ensures)) (packed-laid (aft .aft .ensures) (second .put-packed2 .ensures))
 
 pub put-full-spec : {M : Type 1} → statement M
 put-full-spec =
     tie.close
     (tie.spec
-    (λ c κs. search needs)
     (λ c κs. search needs)
     (λ c κs. search needs)
     (λ c κs. search needs)

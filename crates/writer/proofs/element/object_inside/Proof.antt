@@ -13,21 +13,16 @@ returns c =
     let two = sum .before in
     let flags = two .before in
     let objects = flags .before in
-    let since = objects .before .before .before in
-    let timing = since .before .before in
-    let zero = timing .before .before in
-    let start = zero .before .before in
+    let timing = objects .before .before .before in
+    let start = timing .before .before in
     let a = start .args in
-    object-inside (tablesOf (a .programme) (a .timing) (now (a .records)) []) (timing .put-timing .ensures) (objects .objects-width .ensures) (since .since .ensures)
-    (flags .new2 .ensures) (two .plus .ensures) (sum .plus2 .ensures) (omega arith) (omega (arith, start .good))
+    object-inside (tablesOf (a .programme) (a .timing) (now (a .records)) []) (timing .timing-width .ensures) (objects .objects-width .ensures)
+    (flags .new .ensures) (two .plus .ensures) (sum .plus2 .ensures) (omega arith) (omega (arith, start .good))
 
 pub object-inside-spec : {M : Type 1} → statement M
 object-inside-spec =
     tie.close
     (tie.spec
-    (λ c κs. search needs)
-    (λ c. search needs)
-    (λ c κs. search needs)
     (λ c κs. search needs)
     (λ c. search needs)
     (λ c. search needs)

@@ -1,18 +1,21 @@
 use borrow.Author.Needs.{needs}
-use Rattle.laying.proofs.Laws.{laid-length}
-use Rattle.writer.proofs.Heads.{header-laid}
+use Rattle.laying.proofs.Laws.{laid-bind, laid-is, laid-length}
+use Rattle.writer.proofs.Heads.{header-parts}
+use Rattle.writer.proofs.Widths.{packed-laid}
 use Rattle.writer.proofs.header.put_header.Statement.{statement}
 use Rattle.writer.proofs.header.put_header.Tie as tie
 
 returns : tie.Need-returns
 returns c =
-    let ids = c .before .before in
-    let assignment = ids .before .before .before .before in
-    let count = assignment .before .before .before .before in
-    let version = count .before .before .before .before in
-    let more = version .before .before in
-    let start = more .before .before in
-    header-laid (start .args .programme) (more .less .ensures) (version .put .ensures) (count .put-count .ensures) (assignment .put-assignment .ensures) (ids .put2 .ensures)
+    let third = c .before .before in
+    let second = third .before .before .before .before in
+    let first = second .before .before .before .before in
+    let tail = first .before .before .before in
+    let head = tail .before in
+    let start = head .before .before in
+    laid-is (header-parts (start .args .programme))
+    (laid-bind (packed-laid (head .head .ensures) (first .put-packed .ensures))
+    (laid-bind (second .put-bed-list .ensures) (packed-laid (tail .tail .ensures) (third .put-packed2 .ensures))))
 
 pub put-header-spec : {M : Type 1} → statement M
 put-header-spec =

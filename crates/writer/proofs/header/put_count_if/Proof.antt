@@ -1,7 +1,0 @@
-use borrow.Author.Needs.{needs}
-use Rattle.laying.proofs.Laws.{laid-on, laid-off}
-use Rattle.writer.proofs.header.put_count_if.Statement.{statement}
-use Rattle.writer.proofs.header.put_count_if.Tie as tie
-
-pub put-count-if-spec : {M : Type 1} → statement M
-put-count-if-spec = tie.close (tie.spec (λ c κs. search needs) (λ c. search needs) (λ c. search laid-on) (λ c. search laid-off))
