@@ -7,8 +7,12 @@ use lib.Dec.{eqb}
 use Rattle.bits.specs.Language.{both}
 use Rattle.bits.specs.Writes.{toBits, only}
 use Rattle.oamd.specs.declared.Scene.{Scene}
+use Rattle.oamd.specs.declared.Precise.{Precise}
 use Rattle.oamd.specs.declared.Programme.{Programme}
+use Rattle.oamd.specs.declared.TrimConfig.{TrimConfig}
 use Rattle.oamd.specs.Programme.{set?, clear?, hasBeds, hasIsf, hasDynamic}
+use Rattle.oamd.specs.Extended.{hasX, hasY, hasZ}
+use Rattle.oamd.specs.Trim.{hasCentre, hasSurround, hasHeight, hasTb, hasLis}
 use Rattle.form.specs.Coded.{codedDistance, codedExtent}
 use Rattle.form.specs.Form.{countBits, statusBits, positionBits, distanceBits, zoneBits, extentBits, screenBits, basicBits}
 use Rattle.coding.specs.declared.Packed.{Packed}
@@ -82,3 +86,23 @@ abbrev pub rampBits : ℕ → ℕ → ℕ → ℕ → List ℕ
 rampBits code indexed index bits =
     toBits 2 code
     ++ (only (eqb code 3) (toBits 1 indexed) ++ (only (set? indexed) (toBits 4 index) ++ only (both (eqb code 3) (clear? indexed)) (toBits 11 bits)))
+
+-- ---- the extended element (5.5.15) and the trim element (5.5.12)
+
+-- of a precise position: its axes
+abbrev pub axesBits : Precise → List ℕ
+axesBits p = only (hasX (p .presence)) (toBits 2 (p .x)) ++ (only (hasY (p .presence)) (toBits 2 (p .y)) ++ only (hasZ (p .presence)) (toBits 2 (p .z)))
+
+-- of a trim configuration: the two balances
+abbrev pub balancesBits : TrimConfig → List ℕ
+balancesBits c =
+    only (hasTb (c .presence)) (toBits 1 (c .tbsign))
+    ++ (only (hasTb (c .presence)) (toBits 4 (c .tbamount))
+    ++ (only (hasLis (c .presence)) (toBits 1 (c .lissign)) ++ only (hasLis (c .presence)) (toBits 4 (c .lisamount))))
+
+-- the three trims, and the balances
+abbrev pub trimsBits : TrimConfig → List ℕ
+trimsBits c =
+    only (hasCentre (c .presence)) (toBits 4 (c .centre))
+    ++ (only (hasSurround (c .presence)) (toBits 4 (c .surround))
+    ++ (only (hasHeight (c .presence)) (toBits 4 (c .height)) ++ balancesBits c))

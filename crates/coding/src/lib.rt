@@ -9,10 +9,14 @@ mod block; // block.rt: a block, in two parts
 mod heads; // heads.rt: what stands before the elements
 mod timing; // timing.rt: the timing
 mod frame; // frame.rt: what stands before an element's fields
+mod extras; // extras.rt: a record's part of the extended element
+mod trim; // trim.rt: a trim configuration
 
 pub use block::aft;
 pub use block::fore;
 pub use block::short;
+pub use extras::divergence;
+pub use extras::precise;
 pub use frame::front;
 pub use frame::size;
 pub use heads::bed;
@@ -20,6 +24,7 @@ pub use heads::head;
 pub use heads::tail;
 pub use timing::lead;
 pub use timing::update;
+pub use trim::config;
 
 // At most 56 bits: how many, and the number that they make.
 pub struct Packed {

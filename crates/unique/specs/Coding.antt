@@ -7,9 +7,12 @@ use Rattle.coding.proofs.Joins.{one-packed}
 use Rattle.coding.proofs.aft as aft
 use Rattle.coding.proofs.fore as fore
 use Rattle.coding.proofs.bed as bed
+use Rattle.coding.proofs.config as config
+use Rattle.coding.proofs.divergence as divergence
 use Rattle.coding.proofs.front as front
 use Rattle.coding.proofs.head as head
 use Rattle.coding.proofs.lead as lead
+use Rattle.coding.proofs.precise as precise
 use Rattle.coding.proofs.size as size
 use Rattle.coding.proofs.tail as tail
 use Rattle.coding.proofs.update as update
@@ -17,7 +20,7 @@ use Rattle.coding.proofs.short as short
 use Rattle.coding.specs.declared.Packed.{Packed}
 use Rattle.coding.specs.Packing.{Packs, openingBits, foreBits, aftBits, headBits, tailBits}
 use Rattle.form.specs.Coded.{codedOffset, codedUpdate}
-use Rattle.form.specs.Form.{bedBits, offsetBits, updateBits, sizeBits}
+use Rattle.form.specs.Form.{bedBits, offsetBits, updateBits, sizeBits, divergenceBits, preciseBits, configBits}
 use Rattle.unique.specs.OneAnswer.{OneAnswer, by-relation, said, result-set}
 
 -- Two numbers that pack the same bits are the same, with their widths.
@@ -72,4 +75,19 @@ one-size =
 pub one-front : OneAnswer front.ended (λ M. front.clauses) (λ M. front.spec) (λ κs a. a) (λ κs a r z. r)
 one-front =
     by-relation (result-set front.ended) (λ w. refl) (λ a r. Packs r (toBits 4 (a .0) ++ (sizeBits (a .1 .0) ++ toBits 1 0))) (packed-once _)
+    (λ w κs a r z p. said (λ h. h .packs) (p .holds))
+
+pub one-divergence : OneAnswer divergence.ended (λ M. divergence.clauses) (λ M. divergence.spec) (λ κs a. a) (λ κs a r z. r)
+one-divergence =
+    by-relation (result-set divergence.ended) (λ w. refl) (λ a r. Packs r (divergenceBits (a .0) (a .1 .0))) (packed-once _)
+    (λ w κs a r z p. said (λ h. h .packs) (p .holds))
+
+pub one-precise : OneAnswer precise.ended (λ M. precise.clauses) (λ M. precise.spec) (λ κs a. a) (λ κs a r z. r)
+one-precise =
+    by-relation (result-set precise.ended) (λ w. refl) (λ a r. Packs r (preciseBits (a .0) (a .1 .0))) (packed-once _)
+    (λ w κs a r z p. said (λ h. h .packs) (p .holds))
+
+pub one-config : OneAnswer config.ended (λ M. config.clauses) (λ M. config.spec) (λ κs a. a) (λ κs a r z. r)
+one-config =
+    by-relation (result-set config.ended) (λ w. refl) (λ a r. Packs r (configBits (a .0))) (packed-once _)
     (λ w κs a r z p. said (λ h. h .packs) (p .holds))

@@ -1,25 +1,18 @@
 -- The records' bytes, laid one after the other and one object after the other. Assumes nothing.
 use mathlib.Core.Path.{_≡_, refl, ap, ap₂, _∙_}
-use mathlib.Core.Bool.{Bool}
 use mathlib.Core.List.{List, [], _∷_, _++_}
 use Prim.Native.Nat.{ℕ, zero, suc, _+_, _-_, _*_, _%_, _≤_, _<_}
 use native.Mathlib.Numerals.{add-one}
 use native.Mathlib.Omega.{arith}
-use lib.Dec.{ltb}
 use lib.ListN.{length, take, drop, length-append}
-use Rattle.bits.specs.Writes.{only, toBits, eachBits}
+use Rattle.bits.specs.Writes.{toBits, eachBits}
 use Rattle.bits.specs.Lists.{length-toBits}
-use Rattle.laying.specs.Laying.{Laid}
 use Rattle.writer.proofs.Entries.{steps-more, steps-none}
-use Rattle.laying.proofs.Laws.{laid-bind, laid-is, laid-only}
-use Rattle.bits.specs.Language.{asFlag}
-use Rattle.oamd.specs.declared.Precise.{Precise}
 use Rattle.oamd.specs.Record.{Record}
 use Rattle.oamd.specs.Payload.{Tables}
-use Rattle.oamd.specs.Extended.{hasX, hasY, hasZ}
 use Rattle.oamd.specs.Tables.{recordStride}
-use Rattle.writer.specs.Parts.{axesBits, Wide, Inside}
-use Rattle.form.specs.Form.{timingBits, byObject, objectDataBits, objectElementBits, preciseBits}
+use Rattle.writer.specs.Parts.{Wide, Inside}
+use Rattle.form.specs.Form.{timingBits, byObject, objectDataBits, objectElementBits}
 use Rattle.record.specs.Bytes.{recordAt, recordsAt}
 
 module _ (f : ℕ → Record → List ℕ) (s : List ℕ) (n i k : ℕ) where
@@ -79,14 +72,3 @@ module _ (s : List ℕ) (m n i k : ℕ) where
   pub objects-none : n ≤ i → objectsFrom s m i (n - i) k ≡ []
   unfolding eachBits byObject
   objects-none h = ap (λ (j : ℕ). objectsFrom s m i j k) (let e : n - i ≡ 0 = omega arith in e)
-
-module _ {k l m : ℕ} {s t u v : List ℕ} {at p q r : ℕ} (z : Precise) where
-  pub axes-laid : {x y w : Bool} → x ≡ hasX (z .presence) → y ≡ hasY (z .presence) → w ≡ hasZ (z .presence)
-      → Laid k s t at p (only x (toBits 2 (z .x))) → Laid l t u p q (only y (toBits 2 (z .y))) → Laid m u v q r (only w (toBits 2 (z .z)))
-      → Laid (k + (l + m)) s v at r (axesBits z)
-  axes-laid e f g a b c = laid-bind (laid-only (toBits 2 (z .x)) e a) (laid-bind (laid-only (toBits 2 (z .y)) f b) (laid-only (toBits 2 (z .z)) g c))
-
-  pub precise-laid : {some : ℕ} (sent : Bool) → some ≡ asFlag (ltb 0 (z .presence)) → Laid k s t at p (only sent (toBits 1 some))
-      → Laid l t u p q (only (ltb 0 (z .presence)) (toBits 3 (z .presence))) → Laid m u v q r (axesBits z) → Laid (k + (l + m)) s v at r (preciseBits sent z)
-  unfolding preciseBits
-  precise-laid sent e a b c = laid-bind (laid-is (ap (λ (j : ℕ). only sent (toBits 1 j)) e) a) (laid-bind b c)

@@ -31,7 +31,7 @@ pub wide-off : {k n : ℕ} {on : Bool} (l : List ℕ) → on ≡ false → n ≡
 wide-off l e f = rw e (record { same = f; most = omega arith })
 
 -- what is promised of packed bits: what they are, and how wide
-module _ {k : ℕ} {p : Packed} {l : List ℕ} (h : PacksIn 1 k p l) where
+module _ {i k : ℕ} {p : Packed} {l : List ℕ} (h : PacksIn i k p l) where
   pub packed-wide : Wide k (p .width .0) l
   packed-wide = record { same = packs-length (h .packs); most = h .most }
 

@@ -39,13 +39,10 @@ mostObjectFields objects = mostTiming + (1 + mostObject * objects)
 -- ---- the extended object element
 
 abbrev pub mostDivergence : ℕ
-mostDivergence = 1 + (2 + (2 + 6))
-
-abbrev pub mostAxes : ℕ
-mostAxes = 2 + (2 + 2)
+mostDivergence = 11
 
 abbrev pub mostPrecise : ℕ
-mostPrecise = 1 + (3 + mostAxes)
+mostPrecise = 10
 
 -- of one record, either of the two
 abbrev pub mostExtra : ℕ
@@ -56,14 +53,8 @@ mostExtendedFields count = 1 + (mostExtra * count + (1 + mostExtra * count))
 
 -- ---- the trim element
 
-abbrev pub mostBalances : ℕ
-mostBalances = 1 + (4 + (1 + 4))
-
-abbrev pub mostTrims : ℕ
-mostTrims = 4 + (4 + (4 + mostBalances))
-
 abbrev pub mostConfig : ℕ
-mostConfig = 1 + (1 + (5 + mostTrims))
+mostConfig = 29
 
 abbrev pub mostConfigs : ℕ
 mostConfigs = trimConfigs * mostConfig

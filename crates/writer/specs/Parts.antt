@@ -5,14 +5,11 @@ use mathlib.Core.List.{List, [], _++_}
 use Prim.Native.Nat.{ℕ, _+_, _*_, _≤_}
 use lib.ListN.{length}
 use Rattle.bits.specs.Language.{pick}
-use Rattle.bits.specs.Writes.{toBits, only, eachBits}
-use Rattle.oamd.specs.declared.Precise.{Precise}
+use Rattle.bits.specs.Writes.{eachBits}
 use Rattle.oamd.specs.declared.Programme.{Programme}
 use Rattle.oamd.specs.declared.Timing.{Timing}
-use Rattle.oamd.specs.declared.TrimConfig.{TrimConfig}
 use Rattle.oamd.specs.Tables.{mostBeds, mostBlocks, recordStride}
-use Rattle.oamd.specs.Extended.{hasX, hasY, hasZ}
-use Rattle.oamd.specs.Trim.{hasCentre, hasSurround, hasHeight, hasTb, hasLis, trimNeeded}
+use Rattle.oamd.specs.Trim.{trimNeeded}
 use Rattle.oamd.specs.Record.{Record, carries}
 use Rattle.oamd.specs.Payload.{Tables}
 use Rattle.form.specs.Valid.{recordCount}
@@ -32,24 +29,6 @@ extraBits false r = preciseBits (carries (r .scene)) (r .precise)
 -- of each of n records
 abbrev pub extrasBits : Bool → List ℕ → ℕ → List ℕ
 extrasBits first s n = eachBits (λ i r. extraBits first r) 0 (recordsAt s n 0)
-
--- of a precise position: its axes
-abbrev pub axesBits : Precise → List ℕ
-axesBits p = only (hasX (p .presence)) (toBits 2 (p .x)) ++ (only (hasY (p .presence)) (toBits 2 (p .y)) ++ only (hasZ (p .presence)) (toBits 2 (p .z)))
-
--- of a trim configuration: the two balances
-abbrev pub balancesBits : TrimConfig → List ℕ
-balancesBits c =
-    only (hasTb (c .presence)) (toBits 1 (c .tbsign))
-    ++ (only (hasTb (c .presence)) (toBits 4 (c .tbamount))
-    ++ (only (hasLis (c .presence)) (toBits 1 (c .lissign)) ++ only (hasLis (c .presence)) (toBits 4 (c .lisamount))))
-
--- the three trims, and the balances
-abbrev pub trimsBits : TrimConfig → List ℕ
-trimsBits c =
-    only (hasCentre (c .presence)) (toBits 4 (c .centre))
-    ++ (only (hasSurround (c .presence)) (toBits 4 (c .surround))
-    ++ (only (hasHeight (c .presence)) (toBits 4 (c .height)) ++ balancesBits c))
 
 -- the blocks of n objects, each with so many records
 abbrev pub objectsBits : List ℕ → ℕ → ℕ → List ℕ

@@ -7,14 +7,13 @@ ghost use Rattle.oamd.specs.Record.{carries};
 ghost use Rattle.form.specs.Form.{divergenceBits, preciseBits, extendedElementBits};
 ghost use Rattle.record.specs.Bytes.{sceneAt, divergenceAt, preciseAt, recordAt, recordsAt};
 ghost use Rattle.laying.specs.Laying.{Laid, mostPosition};
-ghost use Rattle.writer.specs.Most.{mostDivergence, mostAxes, mostPrecise, mostExtra, mostExtendedFields};
-ghost use Rattle.writer.specs.Parts.{axesBits, extraBits, extrasBits, Stand, Needed};
+ghost use Rattle.writer.specs.Most.{mostDivergence, mostPrecise, mostExtra, mostExtendedFields};
+ghost use Rattle.writer.specs.Parts.{extraBits, extrasBits, Stand, Needed};
 use crate::Groups;
+use crate::putting::put;
+use crate::putting::put_some;
 use bits::as_flag;
 use bits::either;
-use crate::putting::put;
-use crate::putting::put_both;
-use crate::putting::put_if;
 use oamd::Divergence;
 use oamd::Precise;
 use record::divergence_at;
@@ -26,32 +25,16 @@ fn put_divergence(sent: bool, out: &mut [u8], at: BitPos, d: Divergence) -> BitP
     requires { ⌜ at .0 + mostDivergence ≤ mostPosition ⌝ }
     ensures { λ r. ⌜ Laid mostDivergence (now (out .entry)) (now (out .exit)) (at .0) (r .0) (divergenceBits sent d) ⌝ }
 {
-    let next = put_if(sent, out, at, 1, d.used as u32);
-    let next = put_if(d.used == 1, out, next, 2, d.mode as u32);
-    let next = put_both(d.used == 1, d.mode == 0, out, next, 2, d.value as u32);
-    put_if(d.mode == 2, out, next, 6, d.value as u32)
-}
-
-fn put_axes(out: &mut [u8], at: BitPos, precise: Precise) -> BitPos
-    requires { ⌜ at .0 + mostAxes ≤ mostPosition ⌝ }
-    ensures { λ r. ⌜ Laid mostAxes (now (out .entry)) (now (out .exit)) (at .0) (r .0) (axesBits precise) ⌝ }
-{
-    let x = oamd::has_x(precise.presence as u32);
-    let y = oamd::has_y(precise.presence as u32);
-    let z = oamd::has_z(precise.presence as u32);
-    let next = put_if(x, out, at, 2, precise.x as u32);
-    let next = put_if(y, out, next, 2, precise.y as u32);
-    put_if(z, out, next, 2, precise.z as u32)
+    let all = coding::divergence(sent, d);
+    put_some(out, at, all)
 }
 
 fn put_precise(sent: bool, out: &mut [u8], at: BitPos, precise: Precise) -> BitPos
     requires { ⌜ at .0 + mostPrecise ≤ mostPosition ⌝ }
     ensures { λ r. ⌜ Laid mostPrecise (now (out .entry)) (now (out .exit)) (at .0) (r .0) (preciseBits sent precise) ⌝ }
 {
-    let some = as_flag(0 < precise.presence);
-    let next = put_if(sent, out, at, 1, some as u32);
-    let next = put_if(0 < precise.presence, out, next, 3, precise.presence as u32);
-    put_axes(out, next, precise)
+    let all = coding::precise(sent, precise);
+    put_some(out, at, all)
 }
 
 fn put_divergence_at(out: &mut [u8], at: BitPos, records: &[u8], k: usize) -> BitPos

@@ -9,8 +9,8 @@ ghost use Rattle.writer.specs.Most.{mostObject, mostObjectFields, mostCo
 ghost use Rattle.writer.specs.Parts.{objectsBits, objectBits, Wide, Blocks};
 use crate::blocks::block_width;
 use crate::blocks::put_block;
-use crate::timing::put_timing;
 use crate::putting::put;
+use crate::timing::put_timing;
 use oamd::Programme;
 use oamd::Timing;
 use record::scene_at;

@@ -1,8 +1,8 @@
 // A field, and what is made of it: laid into the lent buffer at a position.
 ghost use Prim.Native.Nat.{_+_, _≤_, _<_};
 ghost use lib.ListN.{replicate};
-ghost use Rattle.bits.specs.Language.{both, widestField};
-ghost use Rattle.bits.specs.Writes.{toBits, only};
+ghost use Rattle.bits.specs.Language.{widestField};
+ghost use Rattle.bits.specs.Writes.{toBits};
 ghost use Rattle.laying.specs.Laying.{Laid, mostPosition, widestPut};
 use coding::Packed;
 use units::BitCount;
@@ -27,26 +27,17 @@ pub fn put_packed(out: &mut [u8], at: BitPos, packed: Packed) -> BitPos
     laying::put(out, at, width.raw(), packed.value)
 }
 
-// A field where a flag says that it is there.
-pub fn put_if(on: bool, out: &mut [u8], at: BitPos, w: u32, v: u32) -> BitPos
-    requires { ⌜ (1 ≤ w) × (w ≤ widestField) ⌝ }
-    requires { ⌜ at .0 + w ≤ mostPosition ⌝ }
-    ensures { λ r. ⌜ Laid w (now (out .entry)) (now (out .exit)) (at .0) (r .0) (only on (toBits w v)) ⌝ }
+// The same, or no bits at all.
+pub fn put_some(out: &mut [u8], at: BitPos, packed: Packed) -> BitPos
+    requires { ⌜ packed .width .0 ≤ widestPut ⌝ }
+    requires { ⌜ at .0 + packed .width .0 ≤ mostPosition ⌝ }
+    ensures { λ r. ⌜ Laid (packed .width .0) (now (out .entry)) (now (out .exit)) (at .0) (r .0) (toBits (packed .width .0) (packed .value)) ⌝ }
 {
-    if on {
-        return put(out, at, w, v);
+    let width = packed.width;
+    if width.raw() == 0 {
+        return at;
     }
-    at
-}
-
-// A field where two tests hold.
-pub fn put_both(a: bool, b: bool, out: &mut [u8], at: BitPos, w: u32, v: u32) -> BitPos
-    requires { ⌜ (1 ≤ w) × (w ≤ widestField) ⌝ }
-    requires { ⌜ at .0 + w ≤ mostPosition ⌝ }
-    ensures { λ r. ⌜ Laid w (now (out .entry)) (now (out .exit)) (at .0) (r .0) (only (both a b) (toBits w v)) ⌝ }
-{
-    let on = bits::both(a, b);
-    put_if(on, out, at, w, v)
+    put_packed(out, at, packed)
 }
 
 // Fewer than 8 zeros.

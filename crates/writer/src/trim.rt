@@ -7,57 +7,19 @@ ghost use Rattle.form.specs.Form.{configBits, trimElementBits};
 ghost use Rattle.record.specs.Bytes.{bytesAt};
 ghost use Rattle.form.specs.Answer.{configsAt, trimAt};
 ghost use Rattle.laying.specs.Laying.{Laid, mostPosition};
-ghost use Rattle.writer.specs.Most.{mostBalances, mostTrims, mostConfig, mostConfigs, mostTrimFields};
-ghost use Rattle.writer.specs.Parts.{balancesBits, trimsBits};
+ghost use Rattle.writer.specs.Most.{mostConfig, mostConfigs, mostTrimFields};
 use crate::putting::put;
-use crate::putting::put_both;
-use crate::putting::put_if;
+use crate::putting::put_packed;
 use oamd::TrimConfig;
 use units::BitPos;
 use valid::config_at;
-
-// The two balances: a sign and an amount each (Table 34).
-fn put_balances(out: &mut [u8], at: BitPos, config: TrimConfig) -> BitPos
-    requires { ⌜ at .0 + mostBalances ≤ mostPosition ⌝ }
-    ensures { λ r. ⌜ Laid mostBalances (now (out .entry)) (now (out .exit)) (at .0) (r .0) (balancesBits config) ⌝ }
-{
-    let tb = oamd::has_tb(config.presence as u32);
-    let lis = oamd::has_lis(config.presence as u32);
-    let next = put_if(tb, out, at, 1, config.tbsign as u32);
-    let next = put_if(tb, out, next, 4, config.tbamount as u32);
-    let next = put_if(lis, out, next, 1, config.lissign as u32);
-    put_if(lis, out, next, 4, config.lisamount as u32)
-}
-
-// The three trims, and the balances.
-fn put_trims(out: &mut [u8], at: BitPos, config: TrimConfig) -> BitPos
-    requires { ⌜ at .0 + mostTrims ≤ mostPosition ⌝ }
-    ensures { λ r. ⌜ Laid mostTrims (now (out .entry)) (now (out .exit)) (at .0) (r .0) (trimsBits config) ⌝ }
-{
-    let centre = oamd::has_centre(config.presence as u32);
-    let surround = oamd::has_surround(config.presence as u32);
-    let height = oamd::has_height(config.presence as u32);
-    let next = put_if(centre, out, at, 4, config.centre as u32);
-    let next = put_if(surround, out, next, 4, config.surround as u32);
-    let next = put_if(height, out, next, 4, config.height as u32);
-    put_balances(out, next, config)
-}
 
 fn put_config(out: &mut [u8], at: BitPos, config: TrimConfig) -> BitPos
     requires { ⌜ at .0 + mostConfig ≤ mostPosition ⌝ }
     ensures { λ r. ⌜ Laid mostConfig (now (out .entry)) (now (out .exit)) (at .0) (r .0) (configBits config) ⌝ }
 {
-    let next = put(out, at, 1, config.bydefault as u32);
-    let next = put_if(config.bydefault == 0, out, next, 1, config.disabled as u32);
-    let next = put_both(
-        config.bydefault == 0,
-        config.disabled == 0,
-        out,
-        next,
-        5,
-        config.presence as u32,
-    );
-    put_trims(out, next, config)
+    let all = coding::config(config);
+    put_packed(out, at, all)
 }
 
 // The nine configurations.

@@ -15,7 +15,9 @@ returns c =
     let length = code .before in
     let begin = length .before in
     let start = begin .before in
-    packs-is (update-is (start .args .u) (begin .raw .ensures) (length .raw2 .ensures) (code .ramp-code .ensures) (indexed .ramp-indexed .ensures) (index .ramp-index .ensures) (bits .ramp-bits .ensures))
+    packs-is
+    (update-is (start .args .u) (begin .raw .ensures) (length .raw2 .ensures) (code .ramp-code .ensures) (indexed .ramp-indexed .ensures) (index .ramp-index .ensures)
+    (bits .ramp-bits .ensures))
     (nonempty ((none .nothing .ensures ▹ factor .pack .ensures) ▹ c .ramp .ensures))
 
 pub update-spec : {M : Type 1} → statement M
