@@ -1,3 +1,4 @@
 pub mod Width
 pub mod Sticky
 pub mod SizeSteps
+pub mod Free

@@ -2,16 +2,29 @@
 use mathlib.Core.Path.{_≡_}
 use mathlib.Core.Bool.{Bool, true}
 use mathlib.Core.List.{List}
-use Prim.Native.Nat.{ℕ, _+_, _-_, _*_, _<_}
+use Prim.Native.Nat.{ℕ, _+_, _-_, _*_, _/_, _%_, _^_, _≤_, _<_}
 use lib.ListN.{getD}
 use lib.Dec.{eqb, leb}
 use Rattle.bits.specs.declared.Cur.{Cur}
 use Rattle.bits.specs.declared.Limit.{Limit}
-use Rattle.bits.specs.Language.{Res, ok, no, pick, Bits, P, run, pastPayload, pastDeclared}
+use Rattle.bits.specs.declared.Sighted.{Sighted}
+use Rattle.bits.specs.Language.{Res, ok, no, pick, Bits, slice, number, P, run, pastPayload, pastDeclared}
 
 -- the four bytes from i as one number, the first the highest; past the end they are 0
 abbrev pub wordAt : List ℕ → ℕ → ℕ
 wordAt s i = ((getD s i 0 * 256 + getD s (i + 1) 0) * 256 + getD s (i + 2) 0) * 256 + getD s (i + 3) 0
+
+-- the eight bytes from i
+abbrev pub wideAt : List ℕ → ℕ → ℕ
+wideAt s i = wordAt s i * 4294967296 + wordAt s (i + 4)
+
+-- n bits of a number of 64 bits, o bits behind its first
+abbrev pub looked : ℕ → ℕ → ℕ → ℕ
+looked x o n = x * 2 ^ o % 2 ^ 64 / 2 ^ (64 - n)
+
+-- x holds the 64 bits from base on
+pub record Sees (x : ℕ) (b : Bits) (base : ℕ) : Type 0 where
+  pub sight : (o n : ℕ) → o + n ≤ 64 → looked x o n ≡ number (slice b (base + o) n)
 
 -- the refusal for passing a limit's end
 abbrev pub overOf : Bool → ℕ
@@ -63,3 +76,25 @@ innerOf l c n =
 -- the cursor behind the element, where nothing in it was refused
 unfoldable pub closeAt : Cur → Limit → Cur
 closeAt e l = pick (eqb (e .no) 0) (record { v = 0; missing = e .missing; at = l .end; no = 0 }) e
+
+-- from the position at the reader p gives the value v and comes to the position to, wherever behind it the end lies
+pub record Freely {A : Type 0} (p : P A) (b : Bits) (at : ℕ) (v : A) (to : ℕ) : Type 0 where
+  pub forward : at ≤ to
+  pub same : (e o : ℕ) → to ≤ e → run p b at e o ≡ ok v to
+
+-- of every 64 bits that x holds the reader p reads, from o bits behind the first on, the value v, and comes to the bit to of them
+pub record Looks {A : Type 0} (p : P A) (x o : ℕ) (v : A) (to : ℕ) : Type 0 where
+  pub free : (b : Bits) (base : ℕ) → Sees x b base → Freely p b (base + o) v (base + to)
+
+-- a field that was looked at, of up to n bits
+pub record Looked (p : P ℕ) (n x o : ℕ) (r : Sighted) : Type 0 where
+  pub looks : Looks p x o (r .v) (r .off)
+  pub small : r .v < 2 ^ n
+  pub near : r .off ≤ o + n
+
+-- the field of n bits, and none
+abbrev pub sightOf : ℕ → ℕ → ℕ → Sighted
+sightOf x o n = record { v = looked x o n; off = o + n }
+
+abbrev pub noSight : ℕ → Sighted
+noSight o = record { v = 0; off = o }

@@ -1,7 +1,7 @@
 // The one function that reads a field.
 ghost use mathlib.Core.Path.{_≡_};
-ghost use Prim.Native.Nat.{_/_, _^_, _≤_, _<_};
-ghost use lib.ListN.{getD};
+ghost use Prim.Native.Nat.{_+_, _/_, _^_, _≤_, _<_};
+ghost use lib.ListN.{getD, length};
 ghost use Rattle.bits.specs.Language.{bits, bit, widestField};
 ghost use Rattle.bits.specs.View.{wordAt, overOf, Took};
 use crate::Cur;
@@ -22,13 +22,21 @@ fn byte(s: &[u8], i: usize) -> u32
     if i < s.len() { wide(s[i]) } else { 0 }
 }
 
-// The four bytes from i as one number, bytes past the end as 0.
-fn word_from(s: &[u8], i: usize) -> u32
-    requires { ⌜ i < 536870912 ⌝ }
+// The four bytes from i as one number.
+pub fn word_in(s: &[u8], i: usize) -> u32
+    requires { ⌜ i + 4 ≤ length (now s) ⌝ }
+    ensures { λ r. ⌜ r ≡ wordAt (now (s .entry)) i ⌝ }
+{
+    ((wide(s[i]) * 256 + wide(s[i + 1])) * 256 + wide(s[i + 2])) * 256 + wide(s[i + 3])
+}
+
+// The same, bytes past the end as 0.
+pub fn word_from(s: &[u8], i: usize) -> u32
+    requires { ⌜ i < 1000000000 ⌝ }
     ensures { λ r. ⌜ r ≡ wordAt (now (s .entry)) i ⌝ }
 {
     if i + 4 <= s.len() {
-        ((wide(s[i]) * 256 + wide(s[i + 1])) * 256 + wide(s[i + 2])) * 256 + wide(s[i + 3])
+        word_in(s, i)
     } else {
         ((byte(s, i) * 256 + byte(s, i + 1)) * 256 + byte(s, i + 2)) * 256 + byte(s, i + 3)
     }

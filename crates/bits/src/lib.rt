@@ -2,6 +2,7 @@
 use units::BitPos;
 
 mod leaf; // leaf.rt: a field of any width up to 24
+mod sight; // sight.rt: eight bytes looked at once
 mod cursor; // cursor.rt: fields that may be absent, runs, refusals, declared ends
 mod sizes; // sizes.rt: an element's size
 mod choices; // choices.rt: a flag of an array of flags, tests joined, a choice, a difference
@@ -25,6 +26,9 @@ pub use cursor::with_value;
 pub use leaf::take;
 pub use leaf::word;
 pub use numbers::number;
+pub use sight::look;
+pub use sight::look_if;
+pub use sight::window;
 pub use sizes::read_size;
 
 // Where reading stands. While no is 0: the value of the last field, and the position after it; missing is as it came. Else the first refusal: its
@@ -34,6 +38,12 @@ pub struct Cur {
     pub v: u32,
     pub at: BitPos,
     pub no: u8,
+}
+
+// A field of a window: its value, and where in the window the next one begins.
+pub struct Sighted {
+    pub v: u32,
+    pub off: u32,
 }
 
 // How far may be read: up to the end of the payload, or, inside, up to the end that an element declares.

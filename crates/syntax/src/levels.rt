@@ -13,7 +13,7 @@ use oamd::Gain;
 use oamd::Priority;
 use oamd::Status;
 
-fn status_of(code: u32) -> Status
+pub fn status_of(code: u32) -> Status
     ensures { λ r. ⌜ r ≡ statusOf code ⌝ }
 {
     match code {

@@ -8,10 +8,12 @@ use oamd::BlockUpdate;
 use oamd::Distance;
 use oamd::Divergence;
 use oamd::Extent;
+use oamd::Gain;
 use oamd::MOST_BEDS;
 use oamd::Offset;
 use oamd::Position;
 use oamd::Precise;
+use oamd::Priority;
 use oamd::Programme;
 use oamd::Render;
 use oamd::Screen;
@@ -24,6 +26,8 @@ mod programme; // programme.rt: the program assignment
 mod timing; // timing.rt: sample offset and block updates
 mod levels; // levels.rt: statuses and basic info
 mod render; // render.rt: render info
+mod glance; // glance.rt: statuses and basic info, looked at in a window
+mod view; // view.rt: render info, looked at in two windows
 mod block; // block.rt: a block of an object
 mod extended; // extended.rt: divergence and precise positions
 mod trim; // trim.rt: a trim configuration
@@ -112,6 +116,67 @@ pub struct RenderStep {
 pub struct BlockStep {
     pub block: Block,
     pub cur: Cur,
+}
+
+// Each look: what was seen in a window, and where in it the next field begins; good, unless a reserved code was met.
+pub struct StatusLook {
+    pub status: Status,
+    pub off: u32,
+}
+
+pub struct GainLook {
+    pub gain: Gain,
+    pub off: u32,
+}
+
+pub struct PriorityLook {
+    pub priority: Priority,
+    pub off: u32,
+}
+
+pub struct BasicLook {
+    pub basic: Basic,
+    pub off: u32,
+}
+
+pub struct PositionLook {
+    pub position: Position,
+    pub off: u32,
+}
+
+pub struct DistanceLook {
+    pub distance: Distance,
+    pub off: u32,
+}
+
+pub struct ZoneLook {
+    pub zone: Zone,
+    pub off: u32,
+    pub good: bool,
+}
+
+pub struct ExtentLook {
+    pub extent: Extent,
+    pub off: u32,
+    pub good: bool,
+}
+
+pub struct ScreenLook {
+    pub screen: Screen,
+    pub off: u32,
+}
+
+// The same over several windows: the position behind it.
+pub struct RenderLook {
+    pub render: Render,
+    pub to: u32,
+    pub good: bool,
+}
+
+pub struct BlockLook {
+    pub block: Block,
+    pub to: u32,
+    pub good: bool,
 }
 
 pub struct DivergenceStep {

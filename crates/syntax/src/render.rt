@@ -130,7 +130,7 @@ fn read_screen(s: &[u8], l: Limit, c: Cur, on: bool) -> ScreenStep
 }
 
 // Whether anything is sent at all.
-fn sends_any(status: Status) -> bool
+pub fn sends_any(status: Status) -> bool
     ensures { λ r. ⌜ r ≡ sends status ⌝ }
 {
     match status {

@@ -6,6 +6,8 @@ use denote.Ref.{now}
 use Rattle.bits.proofs.Size as size
 use Rattle.bits.proofs.close as close
 use Rattle.bits.proofs.inner_of as inner-of
+use Rattle.bits.proofs.look as look
+use Rattle.bits.proofs.look_if as look-if
 use Rattle.bits.proofs.open as opens
 use Rattle.bits.proofs.read_size as read-size
 use Rattle.bits.proofs.refuse_if as refuse-if
@@ -13,6 +15,7 @@ use Rattle.bits.proofs.skip_if as skip-if
 use Rattle.bits.proofs.take as take
 use Rattle.bits.proofs.take_if as take-if
 use Rattle.bits.proofs.take_unless as take-unless
+use Rattle.bits.proofs.window as window
 use Rattle.bits.proofs.with_value as with-value
 use Rattle.bits.proofs.word as word
 use Rattle.bits.specs.declared.Cur.{Cur}
@@ -21,7 +24,7 @@ use Rattle.bits.specs.Language.{bit, bits, between, bitsIf, bitsUnless, skip, w
 use Rattle.bits.specs.Refusals.{numberOf}
 use Rattle.bits.specs.Size.{variable-bits-max}
 use Rattle.bits.specs.Unique.{one-reads, one-gave}
-use Rattle.bits.specs.View.{wordAt, Reads, Gave, valued}
+use Rattle.bits.specs.View.{wordAt, wideAt, Reads, Gave, valued}
 use Rattle.bits.proofs.as_flag as as-flag
 use Rattle.bits.proofs.both as both
 use Rattle.bits.proofs.choice as choice
@@ -47,6 +50,15 @@ one-with-value = by-equation (result-set with-value.ended) (λ w. refl) _ (λ w 
 
 pub one-word : OneAnswer word.ended (λ M. word.clauses) (λ M. word.spec) (λ κs a. now (a .0) beside a .1) (λ κs a r z. r)
 one-word = by-equation (result-set word.ended) (λ w. refl) (λ i. wordAt (i .0) (i .1 .0 .0 / 8)) (λ w κs a r z p. said (λ h. h) (p .holds))
+
+pub one-window : OneAnswer window.ended (λ M. window.clauses) (λ M. window.spec) (λ κs a. now (a .0) beside a .1) (λ κs a r z. r)
+one-window = by-equation (result-set window.ended) (λ w. refl) (λ i. wideAt (i .0) (i .1 .0 .0 / 8)) (λ w κs a r z p. said (λ h. h .0) (p .holds))
+
+pub one-look : OneAnswer look.ended (λ M. look.clauses) (λ M. look.spec) (λ κs a. a) (λ κs a r z. r)
+one-look = by-equation (result-set look.ended) (λ w. refl) _ (λ w κs a r z p. said (λ h. h .0) (p .holds))
+
+pub one-look-if : OneAnswer look-if.ended (λ M. look-if.clauses) (λ M. look-if.spec) (λ κs a. a) (λ κs a r z. r)
+one-look-if = by-equation (result-set look-if.ended) (λ w. refl) _ (λ w κs a r z p. said (λ h. h .0) (p .holds))
 
 pub one-take : OneAnswer take.ended (λ M. take.clauses) (λ M. take.spec) (λ κs a. now (a .0) beside a .1) (λ κs a r z. holding r)
 one-take =

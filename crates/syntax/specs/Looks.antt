@@ -1,0 +1,27 @@
+-- What a function promises that looks at a window: what it read of it, and that it came at most so many bits further.
+use mathlib.Core.Path.{_≡_}
+use mathlib.Core.Bool.{Bool, true}
+use Prim.Native.Nat.{ℕ, _+_, _≤_}
+use Rattle.bits.specs.Language.{Bits, P}
+use Rattle.bits.specs.View.{Freely, Looks}
+
+pub record Seen {A : Type 0} (p : P A) (n x o : ℕ) (v : A) (off : ℕ) : Type 0 where
+  pub looks : Looks p x o v off
+  pub near : off ≤ o + n
+
+-- the same, unless a reserved code was met
+pub record SeenIf {A : Type 0} (good : Bool) (p : P A) (n x o : ℕ) (v : A) (off : ℕ) : Type 0 where
+  pub looks : good ≡ true → Looks p x o v off
+  pub near : off ≤ o + n
+
+-- from one position to another, at most n bits further, unless a reserved code was met
+pub record Passed {A : Type 0} (good : Bool) (p : P A) (n : ℕ) (b : Bits) (at : ℕ) (v : A) (to : ℕ) : Type 0 where
+  pub freely : good ≡ true → Freely p b at v to
+  pub near : to ≤ at + n
+
+-- two fields, the second of which may hang on the first
+pub record Pair (p : P ℕ) (k : ℕ → P ℕ) (n x o v w off : ℕ) : Type 0 where
+  pub mid : ℕ
+  pub first : Looks p x o v mid
+  pub second : Looks (k v) x mid w off
+  pub near : off ≤ o + n
