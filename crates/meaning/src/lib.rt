@@ -1,4 +1,9 @@
 // What coded fields mean (5.6): every function here is total, and equals its definition in oamd.
+use oamd::Location;
+use oamd::Screen;
+use oamd::Volume;
+use oamd::Zone;
+
 mod programme; // programme.rt: how many objects of each class
 mod timing; // timing.rt: starts and ramps
 mod values; // values.rt: a group's value, by its own fields
@@ -11,3 +16,12 @@ pub use scenes::idle;
 pub use scenes::resolved;
 pub use timing::no_timing;
 pub use timing::update_of;
+
+// What object_render_info gives of a scene.
+pub struct Shown {
+    pub location: Location,
+    pub volume: Volume,
+    pub zone: Zone,
+    pub screen: Screen,
+    pub snap: u8,
+}

@@ -1,7 +1,10 @@
 // What an object is from a block on: each group's value by its status (Tables 28 and 29).
 ghost use mathlib.Core.Path.{_≡_};
-ghost use Rattle.oamd.specs.Block.{hasGain, hasPriority, hasPosition, hasZone, hasSize, hasScreen};
-ghost use Rattle.oamd.specs.Meaning.{valueOf, gainOf, priorityOf, distanceOf, locationOf, volumeOf, defaultLocation, defaultVolume, defaultZone, defaultScreen, idle, resolve};
+ghost use Rattle.bits.specs.Language.{pick};
+ghost use Rattle.oamd.specs.Block.{hasGain, hasPriority};
+ghost use Rattle.oamd.specs.Meaning.{valueOf, gainOf, priorityOf, defaultLocation, defaultVolume, defaultZone, defaultScreen, idle, resolve};
+ghost use Rattle.meaning.specs.Shown.{shownOf, sentOf, mixedOf};
+use crate::Shown;
 use crate::values::distance_of;
 use crate::values::gain_of;
 use crate::values::location_of;
@@ -113,62 +116,99 @@ fn priority_after(valuebefore: u8, b: Basic) -> u8
     )
 }
 
-fn location_after(valuebefore: Location, n: Render) -> Location
-    ensures { λ r. ⌜ r ≡ valueOf (n .status) (hasPosition (n .parts)) defaultLocation valuebefore (locationOf (n .position) (distanceOf (n .distance)) valuebefore) ⌝ }
+// The first, where a test holds, else the second: of each group of object_render_info.
+fn location_if(sent: bool, value: Location, valuebefore: Location) -> Location
+    ensures { λ r. ⌜ r ≡ pick sent value valuebefore ⌝ }
 {
-    let status = n.status;
+    if sent { value } else { valuebefore }
+}
+
+fn volume_if(sent: bool, value: Volume, valuebefore: Volume) -> Volume
+    ensures { λ r. ⌜ r ≡ pick sent value valuebefore ⌝ }
+{
+    if sent { value } else { valuebefore }
+}
+
+fn zone_if(sent: bool, value: Zone, valuebefore: Zone) -> Zone
+    ensures { λ r. ⌜ r ≡ pick sent value valuebefore ⌝ }
+{
+    if sent { value } else { valuebefore }
+}
+
+fn screen_if(sent: bool, value: Screen, valuebefore: Screen) -> Screen
+    ensures { λ r. ⌜ r ≡ pick sent value valuebefore ⌝ }
+{
+    if sent { value } else { valuebefore }
+}
+
+// What is sent, group by group.
+fn sent_shown(locationbefore: Location, n: Render) -> Shown
+    ensures { λ r. ⌜ r ≡ sentOf locationbefore n ⌝ }
+{
     let position = n.position;
     let distance = n.distance;
-    let value = location_of(position, distance_of(distance), valuebefore);
-    let sent = oamd::has_position(n.parts as u32);
-    match status {
-        Status::Default => default_location(),
-        Status::Full => value,
-        Status::Reuse => valuebefore,
-        Status::Mixed => { if sent { value } else { valuebefore } }
-    }
-}
-
-fn volume_after(valuebefore: Volume, n: Render) -> Volume
-    ensures { λ r. ⌜ r ≡ valueOf (n .status) (hasSize (n .parts)) defaultVolume valuebefore (volumeOf (n .extent)) ⌝ }
-{
-    let status = n.status;
     let extent = n.extent;
-    let value = volume_of(extent);
-    let sent = oamd::has_size(n.parts as u32);
-    match status {
-        Status::Default => default_volume(),
-        Status::Full => value,
-        Status::Reuse => valuebefore,
-        Status::Mixed => { if sent { value } else { valuebefore } }
+    let zone = n.zone;
+    let screen = n.screen;
+    Shown {
+        location: location_of(position, distance_of(distance), locationbefore),
+        volume: volume_of(extent),
+        zone,
+        screen,
+        snap: n.snap,
     }
 }
 
-fn zone_after(valuebefore: Zone, n: Render) -> Zone
-    ensures { λ r. ⌜ r ≡ valueOf (n .status) (hasZone (n .parts)) defaultZone valuebefore (n .zone) ⌝ }
+// Each group as sent, or else that of the block before.
+fn mixed_shown(before: Scene, parts: u32, sent: Shown) -> Shown
+    ensures { λ r. ⌜ r ≡ mixedOf before parts sent ⌝ }
 {
-    let status = n.status;
-    let value = n.zone;
-    let sent = oamd::has_zone(n.parts as u32);
-    match status {
-        Status::Default => default_zone(),
-        Status::Full => value,
-        Status::Reuse => valuebefore,
-        Status::Mixed => { if sent { value } else { valuebefore } }
+    let location = before.location;
+    let volume = before.volume;
+    let zone = before.zone;
+    let screen = before.screen;
+    let place = sent.location;
+    let size = sent.volume;
+    let area = sent.zone;
+    let reference = sent.screen;
+    Shown {
+        location: location_if(oamd::has_position(parts), place, location),
+        volume: volume_if(oamd::has_size(parts), size, volume),
+        zone: zone_if(oamd::has_zone(parts), area, zone),
+        screen: screen_if(oamd::has_screen(parts), reference, screen),
+        snap: sent.snap,
     }
 }
 
-fn screen_after(valuebefore: Screen, n: Render) -> Screen
-    ensures { λ r. ⌜ r ≡ valueOf (n .status) (hasScreen (n .parts)) defaultScreen valuebefore (n .screen) ⌝ }
+// What object_render_info gives: one look at its status for all of its groups.
+fn shown_after(before: Scene, n: Render) -> Shown
+    ensures { λ r. ⌜ r ≡ shownOf before n ⌝ }
 {
     let status = n.status;
-    let value = n.screen;
-    let sent = oamd::has_screen(n.parts as u32);
+    let location = before.location;
+    let volume = before.volume;
+    let zone = before.zone;
+    let screen = before.screen;
     match status {
-        Status::Default => default_screen(),
-        Status::Full => value,
-        Status::Reuse => valuebefore,
-        Status::Mixed => { if sent { value } else { valuebefore } }
+        Status::Default => Shown {
+            location: default_location(),
+            volume: default_volume(),
+            zone: default_zone(),
+            screen: default_screen(),
+            snap: 0,
+        },
+        Status::Full => sent_shown(location, n),
+        Status::Reuse => Shown {
+            location,
+            volume,
+            zone,
+            screen,
+            snap: before.snap,
+        },
+        Status::Mixed => {
+            let sent = sent_shown(location, n);
+            mixed_shown(before, n.parts as u32, sent)
+        }
     }
 }
 
@@ -178,20 +218,20 @@ pub fn resolved(blockbefore: Scene, gainbefore: u8, b: Block) -> Scene
 {
     let basic = b.basic;
     let render = b.render;
-    let status = render.status;
-    let location = blockbefore.location;
-    let volume = blockbefore.volume;
-    let zone = blockbefore.zone;
-    let screen = blockbefore.screen;
+    let shown = shown_after(blockbefore, render);
+    let location = shown.location;
+    let volume = shown.volume;
+    let zone = shown.zone;
+    let screen = shown.screen;
     Scene {
         active: b.active,
         class: b.class,
         gain: gain_after(blockbefore.gain, gainbefore, basic),
         priority: priority_after(blockbefore.priority, basic),
-        location: location_after(location, render),
-        volume: volume_after(volume, render),
-        zone: zone_after(zone, render),
-        screen: screen_after(screen, render),
-        snap: number_by(status, true, blockbefore.snap, render.snap),
+        location,
+        volume,
+        zone,
+        screen,
+        snap: shown.snap,
     }
 }

@@ -97,7 +97,10 @@ look-block-spec =
     (λ c κs. search needs)
     (λ c κs. search needs)
     (λ c κs. let idle = c .before .before in omega (arith, idle .look .ensures .1 .near, c .look-status .ensures .near))
-    (λ c κs. let basic = c .before .before .before in let idle = basic .before .before .before in omega (arith, idle .look .ensures .1 .near, basic .before .look-status .ensures .near, basic .look-basic .ensures .near))
+    (λ c κs.
+    let basic = c .before .before .before in
+    let idle = basic .before .before .before in
+    omega (arith, idle .look .ensures .1 .near, basic .before .look-status .ensures .near, basic .look-basic .ensures .near))
     (λ c. search needs)
     look-render-requires
     (λ c. omega (arith, c .before .before .before .before .before .before .before .before .before .before .look .ensures .1 .small))
