@@ -30,11 +30,22 @@ pub fn pack(p: Packed, w: u32, v: u64) -> Packed
 }
 
 // The bits of more, which begin with those of p, where a test holds; else those of p. What is not kept is computed all the same: that costs less than a
-// branch that is guessed wrong.
+// branch that is guessed wrong. Field by field, so that nothing of it goes through memory.
 pub fn kept_if(on: bool, more: Packed, p: Packed) -> Packed
     ensures { λ r. ⌜ r ≡ pick on more p ⌝ }
 {
-    if on { more } else { p }
+    if on {
+        let width = more.width;
+        return Packed {
+            width,
+            value: more.value,
+        };
+    }
+    let width = p.width;
+    Packed {
+        width,
+        value: p.value,
+    }
 }
 
 // A field where a test holds.
