@@ -1,5 +1,5 @@
 -- Reading without an end: one law for each step, and the end held against where it came to.
-use mathlib.Core.Path.{_≡_, refl, ap, subst, _∙_}
+use mathlib.Core.Path.{_≡_, refl, subst, _∙_}
 use mathlib.Core.Bool.{Bool, false}
 use mathlib.Core.List.{List}
 use Prim.Native.Nat.{ℕ, _+_, _≤_}
@@ -8,9 +8,9 @@ use borrow.Author.Tests.{le-leb}
 use Rattle.units.specs.declared.BitPos.{BitPos}
 use Rattle.bits.specs.declared.Cur.{Cur}
 use Rattle.bits.specs.declared.Limit.{Limit}
-use Rattle.bits.specs.Language.{Bits, slice, number, P, give, field, _>>=_, run, ok, pick, bits, refuseIf}
+use Rattle.bits.specs.Language.{Bits, slice, P, give, field, _>>=_, run, bits, refuseIf}
 use Rattle.bits.specs.Steps.{bind-is}
-use Rattle.bits.specs.View.{overOf, Reads, Freely, looked, Sees, Looks}
+use Rattle.bits.specs.View.{overOf, Reads, Freely, looked, Looks}
 
 module _ {b : Bits} where
   pub free-give : {A : Type 0} {v : A} {at : ℕ} → Freely (give v) b at v at
@@ -61,10 +61,3 @@ module _ {x : ℕ} where
   pub _▹_ : {A B : Type 0} {p : P A} {k : A → P B} {o m to : ℕ} {v : A} {w : B}
       → Looks p x o v m → Looks (k v) x m w to → Looks (p >>= k) x o w to
   f ▹ g = looks-bind f g
-
--- what was looked at from the cursor on, and does not pass the limit's end, is read
-pub looked-at : {A : Type 0} {p : P A} {b : Bits} {c : Cur} {l : Limit} {v : A} {x y o base to : ℕ} {at : BitPos}
-    → Looks p x o v to → Sees x b base → c .no ≡ 0 → c .at .0 ≡ base + o → base + to ≤ l .end .0 → at .0 ≡ base + to
-    → Reads p b c l v (record { v = y; missing = c .missing; at = at; no = 0 })
-looked-at {p = p} {b} {c} {l} {v} {x} {y} {o} {base} {to} f s z q h r =
-    held (subst (λ (k : ℕ). Freely p b k v (base + to)) (let e : base + o ≡ c .at .0 = omega arith in e) (f .free b base s)) z h r
