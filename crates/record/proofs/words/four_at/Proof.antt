@@ -1,7 +1,7 @@
 use borrow.Author.Needs.{needs}
 use Rattle.record.proofs.Times.{four}
-use Rattle.record.proofs.time.four_at.Statement.{statement}
-use Rattle.record.proofs.time.four_at.Tie as tie
+use Rattle.record.proofs.words.four_at.Statement.{statement}
+use Rattle.record.proofs.words.four_at.Tie as tie
 
 returns : tie.Need-returns
 returns c =
