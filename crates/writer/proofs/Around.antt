@@ -34,10 +34,6 @@ module _ {k n v : ℕ} {fields : List ℕ} (i : Inside k n fields) (z : Sized n 
       ∙ ap (λ (x : ℕ). toBits 4 id ++ (sizeBits (sizeFor x) ++ ((toBits 1 0 ++ fields) ++ replicate (8 * (sizeFor x + 1) - x) 0))) (i .same))
       (laid-bind front (laid-bind body zeros))
 
--- an element that ends no further than mostPosition has no more inside
-pub fits-inside : {k n : ℕ} {fields : List ℕ} (at : ℕ) → Inside k n fields → at + mostElement k ≤ mostPosition → n + mostPadding ≤ mostPosition
-fits-inside at i h = omega (arith, i .most)
-
 -- the bits inside, from a part laid where there is no room
 pub laid-inside : {k at r fields n one : ℕ} {s t l : List ℕ} → Laid k s t at r l → fields ≡ r - at → one ≡ 1 → n ≡ (one + fields) % 4294967296
     → at + k ≤ mostPosition → Inside k n l

@@ -11,13 +11,11 @@ ghost use Rattle.writer.specs.Most.{mostFront, mostPadding, mostObjectEl
 ghost use Rattle.writer.specs.Parts.{objectBits, extendedBits, trimBits, objectElement, extendedElement, trimElement, Blocks, Stand, Needed, Inside, Sized};
 use crate::Groups;
 use crate::extended::put_extended_fields;
-use crate::objects::objects_width;
 use crate::objects::put_object_fields;
 use crate::putting::put_packed;
 use crate::putting::put_zeros;
 use crate::sizes::padding;
 use crate::sizes::size_for;
-use crate::timing::timing_width;
 use crate::trim::put_trim_fields;
 use bits::either;
 use oamd::Programme;
@@ -49,16 +47,6 @@ fn close_element(out: &mut [u8], at: BitPos, v: u32, n: BitCount) -> BitPos
 {
     let pad = padding(v, n);
     put_zeros(out, at, pad)
-}
-
-// The bits inside the object element: the discard flag, the timing, the flag for reserved data, and the objects.
-pub fn object_inside(programme: Programme, timing: Timing, records: &[u8]) -> BitCount
-    requires { ⌜ Blocks (programme .objects) (timing .blocks) (now records) ⌝ }
-    ensures { λ r. ⌜ Inside (mostObjectFields (programme .objects)) (r .0) (objectBits programme timing (now (records .entry))) ⌝ }
-{
-    let before = timing_width(timing);
-    let objects = objects_width(records, programme.objects as usize, timing.blocks as usize);
-    BitCount::new(2).plus(before).plus(objects)
 }
 
 // The bits inside the extended object element: the discard flag and its fields, laid where there is no room; most payloads have none of them, which is told at once.
