@@ -23,7 +23,7 @@ pub record Made {A B : Type 0} (f : A → B) (v : B) (Q : A → Type 0) : Type 0
 abbrev pub LevelsFound : Status → Scene → ℕ → ℕ → ℕ → LevelsLook → Type 0
 LevelsFound status before gainBefore x o r = Made (levelsOf before gainBefore) (r .levels) (λ b. Seen (object-basic-info status) 16 x o b (r .off))
 
--- the window x, of the bits from base on, holds all that stands before the second window of a block whose object_render_info begins o bits behind its first
+-- x holds the 64 bits from base on, and object_render_info begins at bit o of them
 pub record Opened (b : Bits) (x base o : ℕ) : Type 0 where
   pub near : o ≤ 28
   pub few : base ≤ 4000000000
