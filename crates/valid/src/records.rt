@@ -7,7 +7,8 @@ ghost use Rattle.form.specs.Valid.{recordValid};
 ghost use Rattle.valid.specs.Turns.{turnBehind};
 ghost use Rattle.record.specs.Bytes.{recordAt};
 use crate::Turn;
-use crate::scenes::record_valid;
+use crate::scenes::sent_valid;
+use crate::scenes::unsent_valid;
 
 // The turn behind: the next block of the object, or the first of the next object.
 pub fn next_turn(t: Turn, blocks: u32) -> Turn
@@ -27,15 +28,18 @@ pub fn next_turn(t: Turn, blocks: u32) -> Turn
     }
 }
 
-// The record that begins at `at`, of an object of a class.
+// The record that begins at `at`, of an object of a class. Whether its render info is sent is told once, not at each value.
 pub fn valid_at(class: u8, records: &[u8], at: usize) -> bool
     requires { ⌜ at + recordStride ≤ length (now records) ⌝ }
     ensures { λ r. ⌜ r ≡ recordValid class (recordAt (now (records .entry)) at) ⌝ }
 {
+    if record::carries_at(records, at) {
+        return sent_valid(class, records, at);
+    }
     let scene = record::scene_at(records, at);
     let divergence = record::divergence_at(records, at);
     let precise = record::precise_at(records, at);
-    record_valid(class, scene, divergence, precise)
+    unsent_valid(class, scene, divergence, precise)
 }
 
 // How many records a programme and a timing ask for.
