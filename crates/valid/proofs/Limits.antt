@@ -54,7 +54,7 @@ swapped : (a b : Bool) → both a b ≡ both b a
 swapped true b = sym (both-true b)
 swapped false b = sym (both-false b)
 
--- of two tests, one behind the other
+-- of two tests: their limits together, and what hangs beside them together
 exchanged : (u h v k : Bool) → both (both u h) (both v k) ≡ both (both u v) (both h k)
 exchanged true h true k = refl
 exchanged true h false k = both-false h

@@ -183,7 +183,8 @@ fn refining_valid(p: Precise) -> bool
     precise_valid(true, p)
 }
 
-// A record whose render info is sent: its limits, and what they do not tell.
+// A record whose render info is sent: its limits, and what they do not tell, which is the class, the least z, and what stands only by a value before it. Its bytes
+// are read where they stand: taken out of a scene, they would not be looked at all at once.
 pub fn sent_valid(class: u8, records: &[u8], at: usize) -> bool
     requires { ⌜ (at + recordBytes ≤ length (now records)) × (carries (sceneAt (now records) at) ≡ true) ⌝ }
     ensures { λ r. ⌜ r ≡ recordValid class (recordAt (now (records .entry)) at) ⌝ }

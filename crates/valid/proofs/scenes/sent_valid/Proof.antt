@@ -1,5 +1,4 @@
 use borrow.Author.Needs.{needs}
-use native.Mathlib.Omega.{arith}
 use Rattle.record.specs.Bytes.{recordAt, sceneAt}
 use Rattle.valid.proofs.Limits.{sent-is}
 use Rattle.valid.proofs.scenes.sent_valid.Statement.{statement}
@@ -19,9 +18,10 @@ returns c =
     let screen = high-on .before in
     let limits = screen .before .before .before .before .before in
     let start = limits .before .before in
-    rw (c .both5 .ensures, hanging-on .both4 .ensures, extended .both3 .ensures, precise .refining-valid .ensures, refined .precise-at .ensures .0 (omega (arith, start .pre)))
-    (rw (divergence .diverging-valid .ensures, diverged .divergence-at .ensures .0 (omega (arith, start .pre)), hanging .both2 .ensures, high-on .both .ensures, screen .either .ensures, limits .within-limits .ensures)
-    (sent-is (start .args .class) (recordAt (start .args .records .now) (start .args .at)) (start .pre .1)))
+    rw (c .both5 .ensures, hanging-on .both4 .ensures, extended .both3 .ensures, precise .refining-valid .ensures, refined .precise-at .ensures .0 (start .pre .0))
+    (rw (divergence .diverging-valid .ensures, diverged .divergence-at .ensures .0 (start .pre .0), hanging .both2 .ensures, high-on .both .ensures)
+    (rw (screen .either .ensures, limits .within-limits .ensures)
+    (sent-is (start .args .class) (recordAt (start .args .records .now) (start .args .at)) (start .pre .1))))
 
 pub sent-valid-spec : {M : Type 1} → statement M
 sent-valid-spec =
