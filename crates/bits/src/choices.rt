@@ -38,6 +38,13 @@ pub fn choice(t: bool, a: u8, b: u8) -> u8
     if t { a } else { b }
 }
 
+// The same of larger numbers.
+pub fn chosen(t: bool, a: u32, b: u32) -> u32
+    ensures { λ r. ⌜ r ≡ pick t a b ⌝ }
+{
+    if t { a } else { b }
+}
+
 pub fn as_flag(t: bool) -> u8
     ensures { λ r. ⌜ r ≡ asFlag t ⌝ }
 {

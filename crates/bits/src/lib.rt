@@ -11,6 +11,7 @@ mod numbers; // numbers.rt: the refusals' numbers
 pub use choices::as_flag;
 pub use choices::both;
 pub use choices::choice;
+pub use choices::chosen;
 pub use choices::either;
 pub use choices::flag;
 pub use choices::less;

@@ -1,18 +1,18 @@
 -- The laws of packing: a field behind the bits that stand, one behind the other, and a field that may be absent. Assumes nothing.
-use mathlib.Core.Path.{_≡_, refl, sym, ap, ap₂, _∙_, subst}
+use mathlib.Core.Path.{_≡_, sym, ap, ap₂, _∙_, subst}
 use mathlib.Core.Bool.{Bool, true, false}
 use mathlib.Core.List.{List, _++_, append-assoc, append-nil}
 use Prim.Native.Nat.{ℕ, suc, _+_, _-_, _*_, _/_, _%_, _^_, _≤_, _<_}
-use native.Mathlib.Nat.{mod-lt, mod-eq-of-lt, lt-of-lt-of-le, pow-le-pow-right, zero-lt-suc}
+use native.Mathlib.Nat.{mod-eq-of-lt, lt-of-lt-of-le, pow-le-pow-right, zero-lt-suc}
 use native.Mathlib.Omega.{arith}
 use lib.Arith.{digits-lt}
 use lib.ListN.{length, length-append}
-use lib.Pow.{shl-shr, shl-exact, field, pow-add, pow-pos}
+use lib.Pow.{shl-shr, shl-exact, field, pow-add}
 use Rattle.bits.specs.Language.{number, pick}
 use Rattle.bits.specs.Writes.{toBits, only}
 use Rattle.bits.specs.Lists.{length-toBits, number-toBits, binary-toBits, binary-append, bits-number, number-append}
 use Rattle.coding.specs.declared.Packed.{Packed}
-use Rattle.coding.specs.Packing.{widestPacked, Packs, PacksIn, Room, Behind}
+use Rattle.coding.specs.Packing.{widestPacked, Packs, PacksIn, Room, Whole, Behind}
 
 -- shifting up and down leaves the low w bits
 pub low-bits : (w v : ℕ) → w ≤ 64 → v * 2 ^ (64 - w) % 2 ^ 64 / 2 ^ (64 - w) ≡ v % 2 ^ w
@@ -22,45 +22,42 @@ low-bits w v h =
     ∙ field (v * 2 ^ (64 - w)) w (64 - w)
     ∙ ap (λ (y : ℕ). y % 2 ^ w) (shl-shr v (64 - w))
 
--- a field of n bits, the low bits of v, behind the w bits of u
-module _ (w n u v : ℕ) (small : u < 2 ^ w) where
-  abbrev joined : ℕ
-  joined = u * 2 ^ n + v % 2 ^ n
+-- the low bits of a number are its bits
+pub same-bits : (w v : ℕ) → toBits w (v % 2 ^ w) ≡ toBits w v
+same-bits w v = ap₂ toBits (sym (length-toBits w v)) (sym (number-toBits w v)) ∙ bits-number (toBits w v) (binary-toBits w v)
 
-  abbrev joinedBits : List ℕ
-  joinedBits = toBits w u ++ toBits n v
-
-  joined-bits : toBits (w + n) joined ≡ joinedBits
+-- v, which n bits hold, behind the w bits of u
+module _ (w n u v : ℕ) (small : u < 2 ^ w) (few : v < 2 ^ n) where
+  pub joined-bits : toBits (w + n) (u * 2 ^ n + v) ≡ toBits w u ++ toBits n v
   joined-bits =
-      let a : w + n ≡ length joinedBits = omega (arith, length-append (toBits w u) (toBits n v), length-toBits w u, length-toBits n v) in
-      let b : joined ≡ number joinedBits =
-      ap₂ (λ (x y : ℕ). x * 2 ^ n + y) (sym (number-toBits w u ∙ mod-eq-of-lt small)) (sym (number-toBits n v))
-      ∙ ap (λ (k : ℕ). number (toBits w u) * 2 ^ k + number (toBits n v)) (sym (length-toBits n v))
-      ∙ sym (number-append (toBits w u) (toBits n v)) in
-      ap₂ toBits a b ∙ bits-number joinedBits (binary-append (toBits w u) (toBits n v) (binary-toBits w u) (binary-toBits n v))
+      let l : List ℕ = toBits w u ++ toBits n v in
+      let a : w + n ≡ length l = omega (arith, length-append (toBits w u) (toBits n v), length-toBits w u, length-toBits n v) in
+      let b : number l ≡ u * 2 ^ n + v =
+      number-append (toBits w u) (toBits n v) ∙ rw (number-toBits w u, number-toBits n v, length-toBits n v, mod-eq-of-lt small, mod-eq-of-lt few) in
+      ap₂ toBits a (sym b) ∙ bits-number l (binary-append (toBits w u) (toBits n v) (binary-toBits w u) (binary-toBits n v))
 
-  joined-small : joined < 2 ^ (w + n)
-  joined-small = subst (λ (k : ℕ). joined < k) (sym (pow-add 2 w n)) (digits-lt small (mod-lt v (pow-pos n)))
+  pub joined-small : u * 2 ^ n + v < 2 ^ (w + n)
+  joined-small = subst (λ (k : ℕ). u * 2 ^ n + v < k) (sym (pow-add 2 w n)) (digits-lt small few)
 
--- what `pack` computes
-module _ (w v : ℕ) (p : Packed) (room : Room w p) where
+-- what `pack_whole` computes
+module _ (w v : ℕ) (p : Packed) (h : Whole w v p) where
   abbrev sum : ℕ
-  sum = p .value * 2 ^ w % 2 ^ 64 + v * 2 ^ (64 - w) % 2 ^ 64 / 2 ^ (64 - w)
+  sum = p .value * 2 ^ w % 2 ^ 64 + v
 
-  sum-is : sum ≡ joined (p .width .0) w (p .value) v (room .small)
-  sum-is = ap₂ (λ (x y : ℕ). x + y) (shl-exact (p .width .0) w 64 (room .small) (omega arith)) (low-bits w v (omega arith))
+  sum-is : sum ≡ p .value * 2 ^ w + v
+  sum-is = ap (λ (x : ℕ). x + v) (shl-exact (p .width .0) w 64 (h .room .small) (omega arith))
 
   -- below 2^56, so below 2^64
   pub sum-fits : sum < 2 ^ 64
   sum-fits =
-      let under : joined (p .width .0) w (p .value) v (room .small) < 2 ^ widestPacked =
-      lt-of-lt-of-le (joined-small (p .width .0) w (p .value) v (room .small)) (pow-le-pow-right (zero-lt-suc 1) (room .fits)) in
+      let under : p .value * 2 ^ w + v < 2 ^ widestPacked =
+      lt-of-lt-of-le (joined-small (p .width .0) w (p .value) v (h .room .small) (h .all)) (pow-le-pow-right (zero-lt-suc 1) (h .room .fits)) in
       rw sum-is (omega arith)
 
   pub sum-behind : (r : Packed) → r .width .0 ≡ p .width .0 + w → r .value ≡ sum → Behind w w p r (toBits w v)
   sum-behind r width value = record {
-    same = ap₂ toBits width (value ∙ sum-is) ∙ joined-bits (p .width .0) w (p .value) v (room .small);
-    small = rw (width, value, sum-is) (joined-small (p .width .0) w (p .value) v (room .small));
+    same = ap₂ toBits width (value ∙ sum-is) ∙ joined-bits (p .width .0) w (p .value) v (h .room .small) (h .all);
+    small = rw (width, value, sum-is) (joined-small (p .width .0) w (p .value) v (h .room .small) (h .all));
     least = omega arith;
     most = omega arith;
   }
@@ -110,11 +107,6 @@ behind-if {p = p} false room h e = rw e (record {
   least = omega arith;
   most = omega arith;
 })
-
--- three fields under one test are each under that test
-pub each-if : (on : Bool) (l m n : List ℕ) → only on (l ++ (m ++ n)) ≡ only on l ++ (only on m ++ only on n)
-each-if true l m n = refl
-each-if false l m n = refl
 
 pub packs-length : {p : Packed} {l : List ℕ} → Packs p l → p .width .0 ≡ length l
 packs-length {p} h = sym (length-toBits (p .width .0) (p .value)) ∙ ap length (h .same)

@@ -38,6 +38,11 @@ pub record Room (n : ℕ) (p : Packed) : Type 0 where
   pub fits : p .width .0 + n ≤ widestPacked
   pub small : p .value < 2 ^ p .width .0
 
+-- and w of them hold all of v
+pub record Whole (w v : ℕ) (p : Packed) : Type 0 where
+  pub room : Room w p
+  pub all : v < 2 ^ w
+
 -- the bits of r are those of p and behind them those of l, which are at least low and at most high in number
 pub record Behind (low high : ℕ) (p r : Packed) (l : List ℕ) : Type 0 where
   pub same : toBits (r .width .0) (r .value) ≡ toBits (p .width .0) (p .value) ++ l

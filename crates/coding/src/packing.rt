@@ -3,7 +3,7 @@ ghost use mathlib.Core.List.{[]};
 ghost use mathlib.Core.Path.{_≡_};
 ghost use Rattle.bits.specs.Language.{both, pick};
 ghost use Rattle.bits.specs.Writes.{toBits, only};
-ghost use Rattle.coding.specs.Packing.{PacksIn, Room, Behind};
+ghost use Rattle.coding.specs.Packing.{PacksIn, Room, Whole, Behind};
 use crate::Packed;
 use units::BitCount;
 
@@ -17,16 +17,24 @@ pub fn nothing() -> Packed
     }
 }
 
-// A field of w bits, the low bits of v, behind the bits of p.
-pub fn pack(p: Packed, w: u32, v: u64) -> Packed
-    requires { ⌜ Room w p ⌝ }
+// w bits that hold all of v, behind the bits of p.
+pub fn pack_whole(p: Packed, w: u32, v: u64) -> Packed
+    requires { ⌜ Whole w v p ⌝ }
     ensures { λ r. ⌜ Behind w w p r (toBits w v) ⌝ }
 {
     let width = p.width;
     Packed {
         width: width.plus(BitCount::new(w)),
-        value: (p.value << w) + ((v << (64 - w)) >> (64 - w)),
+        value: (p.value << w) + v,
     }
+}
+
+// A field of w bits, the low bits of v, behind the bits of p.
+pub fn pack(p: Packed, w: u32, v: u64) -> Packed
+    requires { ⌜ Room w p ⌝ }
+    ensures { λ r. ⌜ Behind w w p r (toBits w v) ⌝ }
+{
+    pack_whole(p, w, (v << (64 - w)) >> (64 - w))
 }
 
 // The bits of more, which begin with those of p, where a test holds; else those of p. What is not kept is computed all the same: that costs less than a

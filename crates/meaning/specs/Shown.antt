@@ -9,6 +9,19 @@ use Rattle.oamd.specs.Block.{hasPosition, hasZone, hasSize, hasScreen}
 use Rattle.oamd.specs.Meaning.{valueOf, distanceOf, locationOf, volumeOf, defaultLocation, defaultVolume, defaultZone, defaultScreen}
 use Rattle.meaning.specs.declared.Shown.{Shown}
 
+abbrev pub defaultShown : Shown
+defaultShown = record { location = defaultLocation; volume = defaultVolume; zone = defaultZone; screen = defaultScreen; snap = 0 }
+
+-- the groups of the block before
+abbrev pub shownBefore : Scene → Shown
+shownBefore before = record {
+  location = before .location;
+  volume = before .volume;
+  zone = before .zone;
+  screen = before .screen;
+  snap = before .snap;
+}
+
 abbrev pub shownOf : Scene → Render → Shown
 shownOf before n = record {
   location = valueOf (n .status) (hasPosition (n .parts)) defaultLocation (before .location) (locationOf (n .position) (distanceOf (n .distance)) (before .location));

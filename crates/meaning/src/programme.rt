@@ -38,11 +38,15 @@ fn nonstd_labels(v: u32) -> u32
     sum
 }
 
+// A bed without an assignment, as of an entry that is not used, has no labels to count.
 fn bed_objects(b: Bed) -> u32
     ensures { λ r. ⌜ (r ≡ bedObjects b) × (r ≤ 20) ⌝ }
 {
     if b.lfeonly == 1 {
         return 1;
+    }
+    if b.assignment == 0 {
+        return 0;
     }
     if b.standard == 1 {
         return standard_labels(b.assignment);

@@ -3,7 +3,7 @@ ghost use mathlib.Core.Path.{_≡_};
 ghost use Rattle.bits.specs.Language.{pick};
 ghost use Rattle.oamd.specs.Block.{hasGain, hasPriority};
 ghost use Rattle.oamd.specs.Meaning.{valueOf, gainOf, priorityOf, defaultLocation, defaultVolume, defaultZone, defaultScreen, idle, resolve};
-ghost use Rattle.meaning.specs.Shown.{shownOf, sentOf, mixedOf};
+ghost use Rattle.meaning.specs.Shown.{defaultShown, shownBefore, shownOf, sentOf, mixedOf};
 use crate::Shown;
 use crate::values::distance_of;
 use crate::values::gain_of;
@@ -57,6 +57,36 @@ fn default_screen() -> Screen
         used: 0,
         factor: 0,
         depth: 0,
+    }
+}
+
+// What object_render_info gives by default.
+pub fn default_shown() -> Shown
+    ensures { λ r. ⌜ r ≡ defaultShown ⌝ }
+{
+    Shown {
+        location: default_location(),
+        volume: default_volume(),
+        zone: default_zone(),
+        screen: default_screen(),
+        snap: 0,
+    }
+}
+
+// What it gives where nothing is sent: the groups of the block before.
+pub fn shown_before(before: Scene) -> Shown
+    ensures { λ r. ⌜ r ≡ shownBefore before ⌝ }
+{
+    let location = before.location;
+    let volume = before.volume;
+    let zone = before.zone;
+    let screen = before.screen;
+    Shown {
+        location,
+        volume,
+        zone,
+        screen,
+        snap: before.snap,
     }
 }
 
@@ -160,7 +190,7 @@ fn sent_shown(locationbefore: Location, n: Render) -> Shown
 }
 
 // Each group as sent, or else that of the block before.
-fn mixed_shown(before: Scene, parts: u32, sent: Shown) -> Shown
+pub fn mixed_shown(before: Scene, parts: u32, sent: Shown) -> Shown
     ensures { λ r. ⌜ r ≡ mixedOf before parts sent ⌝ }
 {
     let location = before.location;
@@ -186,25 +216,10 @@ fn shown_after(before: Scene, n: Render) -> Shown
 {
     let status = n.status;
     let location = before.location;
-    let volume = before.volume;
-    let zone = before.zone;
-    let screen = before.screen;
     match status {
-        Status::Default => Shown {
-            location: default_location(),
-            volume: default_volume(),
-            zone: default_zone(),
-            screen: default_screen(),
-            snap: 0,
-        },
+        Status::Default => default_shown(),
         Status::Full => sent_shown(location, n),
-        Status::Reuse => Shown {
-            location,
-            volume,
-            zone,
-            screen,
-            snap: before.snap,
-        },
+        Status::Reuse => shown_before(before),
         Status::Mixed => {
             let sent = sent_shown(location, n);
             mixed_shown(before, n.parts as u32, sent)

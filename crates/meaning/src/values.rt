@@ -1,6 +1,7 @@
 // The value of each group of a block, by its own fields (5.6.1).
 ghost use mathlib.Core.Path.{_≡_};
-ghost use Rattle.oamd.specs.Meaning.{gainOf, priorityOf, clamp, movedBy, across, upright, heightOf, distanceOf, locationOf, volumeOf};
+ghost use Rattle.oamd.specs.Meaning.{gainOf, priorityOf, movedBy, across, upright, heightOf, distanceOf, locationOf, volumeOf};
+use bits::choice;
 use bits::less;
 use oamd::Distance;
 use oamd::Extent;
@@ -22,19 +23,9 @@ pub fn gain_of(g: Gain, gainbefore: u8) -> u8
 {
     let index = g.index;
     let bits = g.bits;
-    if index == 0 {
-        return ZERO_DB;
-    }
-    if index == 1 {
-        return 0;
-    }
-    if index == 2 {
-        if bits < 15 {
-            return less(ZERO_DB + 15, bits);
-        }
-        return less(ZERO_DB + 14, bits);
-    }
-    gainbefore
+    let fine = less(choice(bits < 15, ZERO_DB + 15, ZERO_DB + 14), bits);
+    let sent = choice(index == 2, fine, gainbefore);
+    choice(index == 0, ZERO_DB, choice(index == 1, 0, sent))
 }
 
 // The priority in 32nds.
@@ -120,17 +111,11 @@ pub fn location_of(p: Position, distance: u8, locationbefore: Location) -> Locat
 pub fn volume_of(e: Extent) -> Volume
     ensures { λ r. ⌜ r ≡ volumeOf e ⌝ }
 {
-    if e.index == 2 {
-        return Volume {
-            width: e.width,
-            depth: e.depth,
-            height: e.height,
-        };
-    }
-    let all = if e.index == 1 { e.all } else { 0 };
+    let all = choice(e.index == 1, e.all, 0);
+    let each = e.index == 2;
     Volume {
-        width: all,
-        depth: all,
-        height: all,
+        width: choice(each, e.width, all),
+        depth: choice(each, e.depth, all),
+        height: choice(each, e.height, all),
     }
 }

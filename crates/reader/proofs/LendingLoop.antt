@@ -1,11 +1,11 @@
 -- Records laid into a lent buffer, each with its time. Assumes nothing.
 use mathlib.Core.Path.{_≡_, refl, sym, ap, ap₂, _∙_}
 use mathlib.Core.List.{List, [], _∷_, _++_, append-assoc, append-nil}
-use Prim.Native.Nat.{ℕ, suc, _+_, _-_, _*_, _%_, _≤_, _<_}
+use Prim.Native.Nat.{ℕ, suc, _+_, _*_, _%_, _≤_, _<_}
 use native.Mathlib.Omega.{arith}
-use native.Mathlib.Nat.{zero-mod, mod-lt}
+use native.Mathlib.Nat.{add-assoc, zero-mod, mod-lt}
 use lib.Dec.{ltb}
-use lib.ListN.{length, getD, set, take, drop, length-append, length-set}
+use lib.ListN.{length, getD, take, drop, length-append}
 use lib.Seq.{drop-at, take-at}
 use Rattle.bits.specs.Language.{pick}
 use Rattle.oamd.specs.declared.Timing.{Timing}
@@ -19,35 +19,18 @@ use Rattle.record.specs.Bytes.{setFrom, bytesAt}
 use Rattle.record.specs.Stored.{seam, length-setFrom}
 use Rattle.record.specs.Entries.{from-first, bytes-are}
 use Rattle.record.specs.Laws.{next-block}
+use Rattle.record.specs.Numbers.{Number}
+use Rattle.record.proofs.Times.{as-bytes}
 use Rattle.reader.specs.Lending.{Lent}
 use Rattle.reader.proofs.Bytes.{around}
 
--- ---- one record, byte by byte
+-- ---- one record, by words of eight bytes
 
--- before byte k: what is left from there gives what the whole gives
-pub record Copying (s : List ℕ) (from at : ℕ) (out₀ out : List ℕ) (k : ℕ) : Type 0 where
-  pub within : k ≤ recordBytes
-  pub same : length out ≡ length out₀
-  pub rest : setFrom at k (bytesAt s (recordBytes - k) (from + k)) out ≡ setFrom at 0 (bytesAt s recordBytes from) out₀
-
-module _ {s : List ℕ} {from at : ℕ} {out₀ : List ℕ} where
-  pub begun : Copying s from at out₀ out₀ 0
-  begun = record { within = omega arith; same = refl; rest = let e : from + 0 ≡ from = omega arith in rw e refl }
-
-  pub copied : {out : List ℕ} {k : ℕ} → Copying s from at out₀ out k → k < recordBytes → Copying s from at out₀ (set out (at + k) (getD s (from + k) 0)) (k + 1)
-  unfolding bytesAt
-  copied {out} {k} x h =
-      let m : recordBytes - k ≡ suc (recordBytes - (k + 1)) = omega arith in
-      let e : from + (k + 1) ≡ from + k + 1 = omega arith in
-      record {
-        within = omega arith;
-        same = length-set out (at + k) (getD s (from + k) 0) ∙ x .same;
-        rest = rw e (rw m at (x .rest));
-      }
-
-  pub ended : {out : List ℕ} {k : ℕ} → Copying s from at out₀ out k → recordBytes ≤ k → out ≡ setFrom at 0 (bytesAt s recordBytes from) out₀
-  unfolding bytesAt
-  ended {out} {k} x h = let m : recordBytes - k ≡ 0 = omega (arith, x .within) in rw m at (x .rest)
+pub copied : {s out₁ out₂ out₃ : List ℕ} {v₁ v₂ v₃ : ℕ} (from at : ℕ) (out : List ℕ) → Number 8 s from v₁ → out₁ ≡ setFrom at 0 (leastFirst 8 v₁) out
+    → Number 8 s (from + 8) v₂ → out₂ ≡ setFrom (at + 8) 0 (leastFirst 8 v₂) out₁
+    → Number 8 s (from + 16) v₃ → out₃ ≡ setFrom (at + 16) 0 (leastFirst 8 v₃) out₂ → out₃ ≡ setFrom at 0 (bytesAt s recordBytes from) out
+unfolding bytesAt
+copied from at out n₁ e₁ n₂ e₂ n₃ e₃ = rw (e₃, e₂, e₁, as-bytes n₁, as-bytes n₂, as-bytes n₃) (simp add-assoc)
 
 -- ---- all records
 

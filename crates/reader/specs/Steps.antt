@@ -56,13 +56,13 @@ pub record TimingRead (b : Bits) (c : Cur) (l : Limit) (r : TimingStep) : Type 0
 abbrev pub Standing : List Scene → List ℕ → List ℕ → Type 0
 Standing ss t out = out ≡ onto (bytesOf (plainRecords ss)) t
 
--- whatever scenes stand before it, those of the object's blocks stand behind them
+-- whatever scenes stand before it, those of the object's blocks stand behind them, unless something was refused
 pub record ObjectRead (class blocks at : ℕ) (b : Bits) (c : Cur) (l : Limit) (out : List ℕ) (d : Cur) (out' : List ℕ) : Type 0 where
   pub value : List Block
   pub reads : Reads (object-data blocks class) b c l value d
   pub long : length value ≡ blocks
   pub size : length out' ≡ length out
-  pub stand : (ss : List Scene) (t : List ℕ) → Standing ss t out → at ≡ recordBytes * length ss → length t ≡ length out
+  pub stand : d .no ≡ 0 → (ss : List Scene) (t : List ℕ) → Standing ss t out → at ≡ recordBytes * length ss → length t ≡ length out
       → Standing (withBlocks blocks ss nothingBefore value) t out'
 
 pub record ObjectsRead (n : ℕ) (s : Shares) (blocks : ℕ) (b : Bits) (c : Cur) (l : Limit) (out : List ℕ) (d : Cur) (out' : List ℕ) : Type 0 where

@@ -1,6 +1,6 @@
 // The records of an accepted payload, from the scratch into the lent buffer: behind each stands its time.
 ghost use mathlib.Core.Path.{_≡_};
-ghost use Prim.Native.Nat.{_+_, _*_, _≤_};
+ghost use Prim.Native.Nat.{_+_, _≤_};
 ghost use lib.ListN.{length};
 ghost use Rattle.oamd.specs.Tables.{recordBytes, recordStride};
 ghost use Rattle.record.specs.Bytes.{setFrom, bytesAt};
@@ -9,17 +9,15 @@ use oamd::RECORD_BYTES;
 use oamd::RECORD_STRIDE;
 use oamd::Timing;
 
-// A record without its time: the bytes from `from` on, laid from `at` on.
+// A record without its time, by words of eight bytes: the bytes from `from` on, laid from `at` on.
 fn copy_record(scratch: &[u8], from: usize, records: &mut [u8], at: usize)
     requires { ⌜ from + recordBytes ≤ length (now scratch) ⌝ }
     requires { ⌜ at + recordStride ≤ length (now records) ⌝ }
     ensures { λ _. ⌜ now (records .exit) ≡ setFrom at 0 (bytesAt (now (scratch .entry)) recordBytes from) (now (records .entry)) ⌝ }
 {
-    let mut k: usize = 0;
-    while k < RECORD_BYTES {
-        records[at + k] = scratch[from + k];
-        k = k + 1;
-    }
+    record::store_eight(records, at, record::eight_at(scratch, from));
+    record::store_eight(records, at + 8, record::eight_at(scratch, from + 8));
+    record::store_eight(records, at + 16, record::eight_at(scratch, from + 16));
 }
 
 // All of them, object by object and of each object block by block.

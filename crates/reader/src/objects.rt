@@ -1,5 +1,4 @@
 // The object element (5.5.5, 5.5.8), laid out as records while it is read.
-ghost use mathlib.Core.Path.{_≡_};
 ghost use Rattle.bits.specs.Language.{bit};
 ghost use Rattle.reader.specs.Rooms.{ObjectRoom, ObjectsRoom, ElementRoom};
 ghost use Rattle.reader.specs.Steps.{ObjectRead, ObjectsRead, ElementRead};
@@ -31,10 +30,9 @@ fn read_object(
     let mut at = from;
     let mut i: usize = 0;
     while i < blocks {
-        let step = syntax::read_block(s, l, cur, class, i as u32);
-        let block = step.block;
         let gain = gain_of_object_before(out, at, back);
-        scene = meaning::resolved(scene, gain, block);
+        let step = scenes::read_scene(s, l, cur, class, i as u32, scene, gain);
+        scene = step.scene;
         record::store_scene(out, at, scene);
         cur = step.cur;
         at = at + RECORD_BYTES;

@@ -1,7 +1,7 @@
--- Two numbers are the same exactly if their bytes are. Assumes nothing.
+-- Bytes as a number: two numbers are the same exactly if their bytes are, and a number has the bytes that it was made of. Assumes nothing.
 use mathlib.Core.Path.{_≡_, refl, ap, _∙_}
 use mathlib.Core.Bool.{Bool, true, false}
-use mathlib.Core.List.{List}
+use mathlib.Core.List.{List, _∷_}
 use Prim.Native.Nat.{ℕ, zero, suc, _+_, _*_, _/_, _%_, _^_, _<_}
 use native.Mathlib.Nat.{pow-suc}
 use native.Mathlib.Numerals.{add-one}
@@ -61,3 +61,16 @@ eight {s} {at} {low} {high} x y =
       below = omega (arith, x .below, y .below);
       bytes = rw e (x .bytes .0, (x .bytes .1 .0, (x .bytes .1 .1 .0, (x .bytes .1 .1 .1 .0, y .bytes))));
     }
+
+-- its bytes are those that it was made of
+again : (n : ℕ) (s : List ℕ) (at : ℕ) → Every (λ b. b < 256) (bytesAt s n at) → leastFirst n (leastAt n s at) ≡ bytesAt s n at
+unfolding leastAt bytesAt leastFirst
+again zero s at small = refl
+again (suc n) s at small =
+    let w : ℕ = leastAt n s (suc at) in
+    let low : (getD s at 0 + 256 * w) % 256 ≡ getD s at 0 = omega (arith, small .0) in
+    let high : (getD s at 0 + 256 * w) / 256 ≡ w = omega (arith, small .0) in
+    rw (low, high, ← add-one at) (ap (λ (xs : List ℕ). getD s at 0 ∷ xs) (again n s (at + 1) (small .1)))
+
+pub as-bytes : {n : ℕ} {s : List ℕ} {at r : ℕ} → Number n s at r → leastFirst n r ≡ bytesAt s n at
+as-bytes {n} {s} {at} x = ap (leastFirst n) (x .is) ∙ again n s at (x .bytes)

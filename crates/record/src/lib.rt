@@ -2,6 +2,7 @@
 mod laying; // laying.rt: values into bytes
 mod taking; // taking.rt: values out of bytes
 mod carrying; // carrying.rt: whether a record can carry what the extended element has
+mod words; // words.rt: eight bytes as a number
 mod time; // time.rt: a record's time
 
 pub use carrying::carries;
@@ -18,3 +19,5 @@ pub use time::has_time;
 pub use time::next_block;
 pub use time::store_time;
 pub use time::time_of;
+pub use words::eight_at;
+pub use words::store_eight;

@@ -1,13 +1,14 @@
 // A record's time: the eight bytes behind those that the payload gives, least byte first.
 ghost use mathlib.Core.Path.{_≡_};
-ghost use Prim.Native.Nat.{_+_, _*_, _≤_, _<_};
+ghost use Prim.Native.Nat.{_+_, _*_, _≤_};
 ghost use lib.Dec.{ltb};
 ghost use lib.ListN.{length};
 ghost use Rattle.bits.specs.Language.{pick};
 ghost use Rattle.oamd.specs.Tables.{recordBytes, recordStride, frameSamples};
 ghost use Rattle.oamd.specs.Time.{timeBytesOf};
 ghost use Rattle.record.specs.Bytes.{setFrom, timeAt, sameBytes};
-ghost use Rattle.record.specs.Numbers.{Number};
+use crate::words::eight_at;
+use crate::words::store_eight;
 use oamd::FRAME_SAMPLES;
 use oamd::RECORD_BYTES;
 use units::SampleCount;
@@ -36,30 +37,7 @@ pub fn store_time(records: &mut [u8], at: usize, time: SampleTime)
     requires { ⌜ at + recordStride ≤ length (now records) ⌝ }
     ensures { λ _. ⌜ now (records .exit) ≡ setFrom at recordBytes (timeBytesOf (time .0)) (now (records .entry)) ⌝ }
 {
-    let v = time.raw();
-    records[at + 24] = (v % 256) as u8;
-    records[at + 25] = (v / 256 % 256) as u8;
-    records[at + 26] = (v / 256 / 256 % 256) as u8;
-    records[at + 27] = (v / 256 / 256 / 256 % 256) as u8;
-    records[at + 28] = (v / 256 / 256 / 256 / 256 % 256) as u8;
-    records[at + 29] = (v / 256 / 256 / 256 / 256 / 256 % 256) as u8;
-    records[at + 30] = (v / 256 / 256 / 256 / 256 / 256 / 256 % 256) as u8;
-    records[at + 31] = (v / 256 / 256 / 256 / 256 / 256 / 256 / 256 % 256) as u8;
-}
-
-fn wide(x: u8) -> u64
-    ensures { λ r. ⌜ (r ≡ x) × (r < 256) ⌝ }
-{
-    x as u64
-}
-
-// Four bytes as a number, the least first.
-fn four_at(bytes: &[u8], at: usize) -> u64
-    requires { ⌜ at + 4 ≤ length (now bytes) ⌝ }
-    ensures { λ r. ⌜ Number 4 (now (bytes .entry)) at r ⌝ }
-{
-    wide(bytes[at])
-        + 256 * (wide(bytes[at + 1]) + 256 * (wide(bytes[at + 2]) + 256 * wide(bytes[at + 3])))
+    store_eight(records, at + RECORD_BYTES, time.raw());
 }
 
 // Whether bytes 24 to 31 of the record that begins at `at` are those of a time. There must be a whole record, as in laying.rt.
@@ -67,8 +45,5 @@ pub fn has_time(records: &[u8], at: usize, time: SampleTime) -> bool
     requires { ⌜ at + recordStride ≤ length (now records) ⌝ }
     ensures { λ r. ⌜ r ≡ sameBytes (timeAt (now (records .entry)) at) (timeBytesOf (time .0)) ⌝ }
 {
-    let from = at + RECORD_BYTES;
-    let low = four_at(records, from);
-    let high = four_at(records, from + 4);
-    low + 4294967296 * high == time.raw()
+    eight_at(records, at + RECORD_BYTES) == time.raw()
 }

@@ -5,14 +5,10 @@ ghost use Rattle.bits.specs.Language.{bit};
 ghost use Rattle.bits.specs.View.{Gave};
 ghost use Rattle.oamd.specs.Block.{additional-table-data, object-info-block};
 ghost use Rattle.syntax.specs.Looks.{Passed};
-use crate::BlockLook;
 use crate::BlockStep;
-use crate::glance::look_basic;
-use crate::glance::look_status;
 use crate::levels::read_basic;
 use crate::levels::read_status;
 use crate::render::read_render;
-use crate::view::look_render;
 use bits::Cur;
 use bits::Limit;
 use oamd::Block;
@@ -29,7 +25,7 @@ fn pass_additional(s: &[u8], l: Limit, c: Cur) -> Cur
 }
 
 // Where additional table data ends.
-fn look_additional(s: &[u8], at: u32) -> u32
+pub fn look_additional(s: &[u8], at: u32) -> u32
     requires { ⌜ at ≤ 4000000200 ⌝ }
     ensures { λ r. ⌜ Passed true additional-table-data 133 (bit (now (s .entry))) at 0 r ⌝ }
 {
@@ -44,38 +40,8 @@ fn look_additional(s: &[u8], at: u32) -> u32
     }
 }
 
-// A block, looked at as if nothing could end.
-fn look_block(s: &[u8], at: BitPos, class: u8, blk: u32) -> BlockLook
-    requires { ⌜ at .0 ≤ 4000000000 ⌝ }
-    ensures { λ r. ⌜ Passed (r .good) (object-info-block class blk) 280 (bit (now (s .entry))) (at .0) (r .block) (r .to) ⌝ }
-{
-    let p = at.raw();
-    let x = bits::window(s, at);
-    let begins = blk == 0;
-    let idle = bits::look(x, p % 8, 1);
-    let level = look_status(x, idle.off, idle.v == 1, begins);
-    let basic_status = level.status;
-    let b = look_basic(x, level.off, basic_status);
-    let basic = b.basic;
-    let fixed = if idle.v == 1 { true } else { class != 2 };
-    let shown = look_status(x, b.off, fixed, begins);
-    let render_status = shown.status;
-    let n = look_render(s, p - p % 8, x, shown.off, render_status, begins);
-    let render = n.render;
-    BlockLook {
-        block: Block {
-            class,
-            active: (1 - idle.v) as u8,
-            basic,
-            render,
-        },
-        to: look_additional(s, n.to),
-        good: n.good,
-    }
-}
-
 // Block blk of an object of a class, field by field, each held to the end.
-fn read_fields(s: &[u8], l: Limit, c: Cur, class: u8, blk: u32) -> BlockStep
+pub fn read_block(s: &[u8], l: Limit, c: Cur, class: u8, blk: u32) -> BlockStep
     ensures { λ r. ⌜ Gave (object-info-block class blk) (bit (now (s .entry))) c l (r .block) (r .cur) ⌝ }
 {
     let first = blk == 0;
@@ -99,31 +65,4 @@ fn read_fields(s: &[u8], l: Limit, c: Cur, class: u8, blk: u32) -> BlockStep
         },
         cur,
     }
-}
-
-// Block blk of an object of a class. What passes the end, or has a reserved code, is read field by field.
-pub fn read_block(s: &[u8], l: Limit, c: Cur, class: u8, blk: u32) -> BlockStep
-    ensures { λ r. ⌜ Gave (object-info-block class blk) (bit (now (s .entry))) c l (r .block) (r .cur) ⌝ }
-{
-    let at = c.at;
-    if c.no == 0 {
-        if at.raw() <= 4000000000 {
-            let b = look_block(s, at, class, blk);
-            if b.to <= l.end.raw() {
-                if b.good {
-                    let block = b.block;
-                    return BlockStep {
-                        block,
-                        cur: Cur {
-                            missing: c.missing,
-                            v: 0,
-                            at: BitPos::new(b.to),
-                            no: 0,
-                        },
-                    };
-                }
-            }
-        }
-    }
-    read_fields(s, l, c, class, blk)
 }

@@ -26,15 +26,19 @@ mod programme; // programme.rt: the program assignment
 mod timing; // timing.rt: sample offset and block updates
 mod levels; // levels.rt: statuses and basic info
 mod render; // render.rt: render info
-mod glance; // glance.rt: statuses and basic info, looked at in a window
-mod view; // view.rt: render info, looked at in two windows
+mod glance; // glance.rt: statuses, gain and priority, looked at in a window
+mod view; // view.rt: the groups of render info, looked at in a window
 mod block; // block.rt: a block of an object
 mod extended; // extended.rt: divergence and precise positions
 mod trim; // trim.rt: a trim configuration
 
+pub use block::look_additional;
 pub use block::read_block;
 pub use extended::read_divergence;
 pub use extended::read_precise;
+pub use glance::look_gain;
+pub use glance::look_priority;
+pub use glance::look_status;
 pub use header::read_element_count;
 pub use header::read_object_count;
 pub use header::read_version;
@@ -42,6 +46,11 @@ pub use programme::read_assignment;
 pub use timing::read_offset;
 pub use timing::read_update;
 pub use trim::read_trim_config;
+pub use view::look_distance;
+pub use view::look_extent;
+pub use view::look_position;
+pub use view::look_screen;
+pub use view::look_zone;
 
 // Each step: what was read, and where reading stands behind it.
 pub struct BedStep {
@@ -124,6 +133,12 @@ pub struct StatusLook {
     pub off: u32,
 }
 
+pub struct PairLook {
+    pub code: u8,
+    pub more: u8,
+    pub off: u32,
+}
+
 pub struct GainLook {
     pub gain: Gain,
     pub off: u32,
@@ -131,11 +146,6 @@ pub struct GainLook {
 
 pub struct PriorityLook {
     pub priority: Priority,
-    pub off: u32,
-}
-
-pub struct BasicLook {
-    pub basic: Basic,
     pub off: u32,
 }
 
@@ -164,19 +174,6 @@ pub struct ExtentLook {
 pub struct ScreenLook {
     pub screen: Screen,
     pub off: u32,
-}
-
-// The same over several windows: the position behind it.
-pub struct RenderLook {
-    pub render: Render,
-    pub to: u32,
-    pub good: bool,
-}
-
-pub struct BlockLook {
-    pub block: Block,
-    pub to: u32,
-    pub good: bool,
 }
 
 pub struct DivergenceStep {

@@ -28,6 +28,7 @@ use Rattle.bits.specs.View.{wordAt, wideAt, Reads, Gave, valued}
 use Rattle.bits.proofs.as_flag as as-flag
 use Rattle.bits.proofs.both as both
 use Rattle.bits.proofs.choice as choice
+use Rattle.bits.proofs.chosen as chosen
 use Rattle.bits.proofs.either as either
 use Rattle.bits.proofs.flag as flag
 use Rattle.bits.proofs.less as less
@@ -114,6 +115,9 @@ one-both = by-equation (result-set both.ended) (λ w. refl) _ (λ w κs a r z p.
 
 pub one-choice : OneAnswer choice.ended (λ M. choice.clauses) (λ M. choice.spec) (λ κs a. a) (λ κs a r z. r)
 one-choice = by-equation (result-set choice.ended) (λ w. refl) _ (λ w κs a r z p. said (λ h. h) (p .holds))
+
+pub one-chosen : OneAnswer chosen.ended (λ M. chosen.clauses) (λ M. chosen.spec) (λ κs a. a) (λ κs a r z. r)
+one-chosen = by-equation (result-set chosen.ended) (λ w. refl) _ (λ w κs a r z p. said (λ h. h) (p .holds))
 
 pub one-either : OneAnswer either.ended (λ M. either.clauses) (λ M. either.spec) (λ κs a. a) (λ κs a r z. r)
 one-either = by-equation (result-set either.ended) (λ w. refl) _ (λ w κs a r z p. said (λ h. h) (p .holds))

@@ -1,6 +1,7 @@
 pub mod OneAnswer
 pub mod Sets
 pub mod Readings
+pub mod Sights
 pub mod Batch
 pub mod Summary
 pub mod Catalogue
@@ -10,6 +11,7 @@ pub mod Bits
 pub mod Oamd
 pub mod Meaning
 pub mod Syntax
+pub mod Scenes
 pub mod Record
 pub mod Valid
 pub mod Coding

@@ -19,11 +19,14 @@ use Rattle.record.proofs.scene_at as scene-at
 use Rattle.record.proofs.store_divergence as store-divergence
 use Rattle.record.proofs.store_precise as store-precise
 use Rattle.record.proofs.store_scene as store-scene
+use Rattle.record.proofs.eight_at as eight-at
 use Rattle.record.proofs.has_time as has-time
 use Rattle.record.proofs.next_block as next-block
+use Rattle.record.proofs.store_eight as store-eight
 use Rattle.record.proofs.store_time as store-time
 use Rattle.record.proofs.time_of as time-of
 use Rattle.oamd.specs.Extended.{noDivergence, noPrecise}
+use Rattle.oamd.specs.LeastFirst.{leastFirst, leastAt}
 use Rattle.oamd.specs.Meaning.{idle}
 use Rattle.oamd.specs.Record.{recordOf, recordBytesOf, divergenceBytes, preciseBytes}
 use Rattle.oamd.specs.Tables.{recordBytes, frameSamples}
@@ -82,6 +85,9 @@ one-has-time =
     by-equation (result-set has-time.ended) (λ w. refl) (λ i. sameBytes (timeAt (i .0) (i .1 .0)) (timeBytesOf (i .1 .1 .0 .0)))
     (λ w κs a r z p. said (λ h. h) (p .holds))
 
+pub one-eight-at : OneAnswer eight-at.ended (λ M. eight-at.clauses) (λ M. eight-at.spec) (λ κs a. now (a .0) beside a .1) (λ κs a r z. r)
+one-eight-at = by-equation (result-set eight-at.ended) (λ w. refl) (λ i. leastAt 8 (i .0) (i .1 .0)) (λ w κs a r z p. said (λ h. h .is) (p .holds))
+
 -- ---- what is stored: the bytes that are left in the lent buffer
 
 bytes-set : IsSet (List ℕ)
@@ -108,3 +114,7 @@ one-store-precise =
 pub one-store-time : OneAnswer store-time.ended (λ M. store-time.clauses) (λ M. store-time.spec) (λ κs a. now (a .0) beside a .1) (λ κs a r z. z .0)
 one-store-time =
     by-equation (λ κs. bytes-set) (λ w. refl) (λ i. setFrom (i .1 .0) recordBytes (timeBytesOf (i .1 .1 .0 .0)) (i .0)) (λ w κs a r z p. said (λ h. h) (p .holds))
+
+pub one-store-eight : OneAnswer store-eight.ended (λ M. store-eight.clauses) (λ M. store-eight.spec) (λ κs a. now (a .0) beside a .1) (λ κs a r z. z .0)
+one-store-eight =
+    by-equation (λ κs. bytes-set) (λ w. refl) (λ i. setFrom (i .1 .0) 0 (leastFirst 8 (i .1 .1 .0)) (i .0)) (λ w κs a r z p. said (λ h. h) (p .holds))

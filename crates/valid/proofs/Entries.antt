@@ -18,7 +18,7 @@ pub both-assoc : (a b c : Bool) → both (both a b) c ≡ both a (both b c)
 both-assoc true b c = refl
 both-assoc false b c = refl
 
-both-true : (a : Bool) → both a true ≡ a
+pub both-true : (a : Bool) → both a true ≡ a
 both-true true = refl
 both-true false = refl
 

@@ -1,5 +1,6 @@
 pub mod Entries
 pub mod Zeros
+pub mod Limits
 pub mod Search
 pub mod Sent
 pub mod Joined

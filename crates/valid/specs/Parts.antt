@@ -2,7 +2,7 @@
 use mathlib.Core.Bool.{Bool}
 use mathlib.Core.List.{List}
 use Prim.Native.Nat.{ℕ, zero, suc, _+_}
-use lib.Dec.{eqb}
+use lib.Dec.{leb, eqb}
 use lib.ListN.{length, getD}
 use Rattle.oamd.specs.declared.Bed.{Bed}
 use Rattle.oamd.specs.declared.Programme.{Programme}
@@ -10,6 +10,7 @@ use Rattle.oamd.specs.declared.Scene.{Scene}
 use Rattle.oamd.specs.declared.TrimConfig.{TrimConfig}
 use Rattle.oamd.specs.declared.Update.{Update}
 use Rattle.oamd.specs.Tables.{mostBeds, mostBlocks}
+use Rattle.oamd.specs.Record.{Record}
 use Rattle.oamd.specs.Programme.{set?, hasBeds, hasIsf, hasDynamic, bedInstances, agrees}
 use Rattle.oamd.specs.Trim.{hasCentre, hasSurround, hasHeight, hasTb, hasLis}
 use Rattle.form.specs.Valid.{_and_, betweenIf, entriesValid, bedValid, updateValid, locationValid, volumeValid, zoneValid, screenValid}
@@ -44,6 +45,22 @@ renderedValid sent s =
     and zoneValid sent (s .zone)
     and screenValid sent (s .screen)
     and betweenIf sent 0 1 (s .snap)
+
+-- four bytes are at most their limits
+abbrev pub within4 : List ℕ → ℕ → ℕ → ℕ → ℕ → ℕ → Bool
+within4 s at a b c d = leb (getD s at 0) a and leb (getD s (at + 1) 0) b and leb (getD s (at + 2) 0) c and leb (getD s (at + 3) 0) d
+
+-- of a record whose render info is sent: bytes 2 to 17 are at most what they may be
+unfoldable pub withinLimits : Record → Bool
+withinLimits r =
+    (leb (r .scene .gain) 65
+    and leb (r .scene .priority) 32
+    and (leb (r .scene .location .x) 62 and leb (r .scene .location .y) 62 and leb (r .scene .location .z) 79 and leb (r .scene .location .distance) 17)
+    and (leb (r .scene .volume .width) 31 and leb (r .scene .volume .depth) 31 and leb (r .scene .volume .height) 31)
+    and (leb (r .scene .zone .index) 5 and leb (r .scene .zone .elevation) 1)
+    and (leb (r .scene .screen .used) 1 and leb (r .scene .screen .factor) 7 and leb (r .scene .screen .depth) 3)
+    and leb (r .scene .snap) 1)
+    and leb (r .divergence .used) 1
 
 -- of a trim configuration: the two balances
 unfoldable pub balancesValid : TrimConfig → Bool

@@ -1,23 +1,28 @@
 // One record: each of its values by what the record itself carries (Tables 28 and 29, 5.5.14, 5.5.15).
+ghost use mathlib.Core.Bool.{true, false};
 ghost use mathlib.Core.Path.{_≡_};
+ghost use Prim.Native.Nat.{_+_, _≤_};
+ghost use lib.Dec.{eqb};
+ghost use lib.ListN.{length};
+ghost use Rattle.oamd.specs.Tables.{recordBytes};
 ghost use Rattle.oamd.specs.Record.{recordOf, carries};
-ghost use Rattle.form.specs.Valid.{locationValid, volumeValid, zoneValid, screenValid, sceneValid};
-ghost use Rattle.form.specs.Valid.{leastDivergence, mostDivergence, divergenceValid, preciseValid, recordValid};
-ghost use Rattle.valid.specs.Parts.{renderedValid};
+ghost use Rattle.record.specs.Bytes.{sceneAt, recordAt};
+ghost use Rattle.form.specs.Valid.{sceneValid, leastDivergence, mostDivergence, divergenceValid, preciseValid, recordValid};
+ghost use Rattle.valid.specs.Parts.{within4, withinLimits, renderedValid};
 use crate::ranges::between;
 use crate::ranges::between_if;
-use crate::ranges::between_or;
 use bits::both;
+use bits::either;
+use bits::less;
 use oamd::Divergence;
-use oamd::Location;
 use oamd::Precise;
 use oamd::Scene;
-use oamd::Screen;
-use oamd::Volume;
-use oamd::Zone;
+
+// The class of a dynamic object, the only one whose render info is sent.
+const DYNAMIC: u8 = 2;
 
 // x and y in 62nds: at the most, and the default.
-const MOST_ACROSS: u8 = 62;
+const MOST_XY: u8 = 62;
 
 const MIDDLE: u8 = 31;
 
@@ -56,71 +61,60 @@ const ALL_AXES: u8 = 7;
 
 const MOST_PRECISE: u8 = 3;
 
-// Bytes 4 to 7.
-fn location_valid(sent: bool, p: Location) -> bool
-    ensures { λ r. ⌜ r ≡ locationValid sent p ⌝ }
+// What four bytes have too much, joined: 0 where each is at most its limit.
+fn over(records: &[u8], at: usize, a: u8, b: u8, c: u8, d: u8) -> u8
+    requires { ⌜ at + 4 ≤ length (now records) ⌝ }
+    ensures { λ r. ⌜ eqb r 0 ≡ within4 (now (records .entry)) at a b c d ⌝ }
 {
-    let x = between_or(sent, 0, MOST_ACROSS, MIDDLE, p.x);
-    let y = between_or(sent, 0, MOST_ACROSS, MIDDLE, p.y);
-    let z = between_or(sent, LEAST_Z, MOST_Z, LEVEL, p.z);
-    let distance = between_if(sent, 0, MOST_DISTANCE, p.distance);
-    both(x, both(y, both(z, distance)))
+    less(records[at], a)
+        | less(records[at + 1], b)
+        | less(records[at + 2], c)
+        | less(records[at + 3], d)
 }
 
-// Bytes 8 to 10.
-fn volume_valid(sent: bool, v: Volume) -> bool
-    ensures { λ r. ⌜ r ≡ volumeValid sent v ⌝ }
+// Whether bytes 2 to 17 are at most what they may be where render info is sent. They are 16, one behind the other, joined with no test between: so the machine
+// looks at all of them at once. Those before are known by then, and those behind are 0 in most records.
+fn within_limits(records: &[u8], at: usize) -> bool
+    requires { ⌜ at + recordBytes ≤ length (now records) ⌝ }
+    ensures { λ r. ⌜ r ≡ withinLimits (recordAt (now (records .entry)) at) ⌝ }
 {
-    let width = between_if(sent, 0, MOST_SIZE, v.width);
-    let depth = between_if(sent, 0, MOST_SIZE, v.depth);
-    let height = between_if(sent, 0, MOST_SIZE, v.height);
-    both(width, both(depth, height))
+    let all = over(records, at + 2, MOST_GAIN, MOST_PRIORITY, MOST_XY, MOST_XY)
+        | over(records, at + 6, MOST_Z, MOST_DISTANCE, MOST_SIZE, MOST_SIZE)
+        | over(records, at + 10, MOST_SIZE, LAST_ZONE, 1, 1)
+        | over(records, at + 14, MOST_FACTOR, MOST_DEPTH, 1, 1);
+    all == 0
 }
 
-// Bytes 11 and 12.
-fn zone_valid(sent: bool, z: Zone) -> bool
-    ensures { λ r. ⌜ r ≡ zoneValid sent z ⌝ }
+// Bytes 4 to 16 where render info is not sent: the defaults.
+fn default_valid(s: Scene) -> bool
+    ensures { λ r. ⌜ r ≡ renderedValid false s ⌝ }
 {
-    let index = between_if(sent, 0, LAST_ZONE, z.index);
-    let elevation = between_or(sent, 0, 1, 1, z.elevation);
-    both(index, elevation)
+    let l = s.location;
+    let v = s.volume;
+    let z = s.zone;
+    let n = s.screen;
+    let located = both(
+        l.x == MIDDLE,
+        both(l.y == MIDDLE, both(l.z == LEVEL, l.distance == 0)),
+    );
+    let sized = v.width | v.depth | v.height == 0;
+    let zoned = both(z.index == 0, z.elevation == 1);
+    let screened = n.used | n.factor | n.depth == 0;
+    both(
+        located,
+        both(sized, both(zoned, both(screened, s.snap == 0))),
+    )
 }
 
-// Bytes 13 to 15: factor and depth only of a screen that is used.
-fn screen_valid(sent: bool, s: Screen) -> bool
-    ensures { λ r. ⌜ r ≡ screenValid sent s ⌝ }
-{
-    let used = between_if(sent, 0, 1, s.used);
-    let factor = between_if(s.used == 1, 0, MOST_FACTOR, s.factor);
-    let depth = between_if(s.used == 1, 0, MOST_DEPTH, s.depth);
-    both(used, both(factor, depth))
-}
-
-// Bytes 4 to 16.
-fn rendered_valid(sent: bool, s: Scene) -> bool
-    ensures { λ r. ⌜ r ≡ renderedValid sent s ⌝ }
-{
-    let location = s.location;
-    let volume = s.volume;
-    let zone = s.zone;
-    let screen = s.screen;
-    let located = location_valid(sent, location);
-    let sized = volume_valid(sent, volume);
-    let zoned = zone_valid(sent, zone);
-    let screened = screen_valid(sent, screen);
-    let snapped = between_if(sent, 0, 1, s.snap);
-    both(located, both(sized, both(zoned, both(screened, snapped))))
-}
-
-// Bytes 0 to 16, of an object of a class, by whether render info is sent.
-fn scene_valid(class: u8, sent: bool, s: Scene) -> bool
-    requires { ⌜ carries s ≡ sent ⌝ }
+// Bytes 0 to 16, of an object of a class, where render info is not sent.
+fn scene_valid(class: u8, s: Scene) -> bool
+    requires { ⌜ carries s ≡ false ⌝ }
     ensures { λ r. ⌜ r ≡ sceneValid class s ⌝ }
 {
     let active = between(0, 1, s.active);
     let gain = between_if(s.active == 1, 0, MOST_GAIN, s.gain);
     let priority = between_if(s.active == 1, 0, MOST_PRIORITY, s.priority);
-    let rendered = rendered_valid(sent, s);
+    let rendered = default_valid(s);
     let rest = both(gain, both(priority, rendered));
     both(active, both(s.class == class, rest))
 }
@@ -169,17 +163,50 @@ fn precise_valid(sent: bool, p: Precise) -> bool
     both(presence, both(x, both(y, z)))
 }
 
-// All bytes, of an object of a class. What is sent and what is not is told once, not at each value.
-pub fn record_valid(class: u8, s: Scene, d: Divergence, p: Precise) -> bool
+// The same where it is sent; most are not used, and their zeros are looked at together.
+fn diverging_valid(d: Divergence) -> bool
+    ensures { λ r. ⌜ r ≡ divergenceValid true d ⌝ }
+{
+    if d.used == 0 {
+        return d.mode | d.value == 0;
+    }
+    divergence_valid(true, d)
+}
+
+// And so those of a precise position without axes.
+fn refining_valid(p: Precise) -> bool
+    ensures { λ r. ⌜ r ≡ preciseValid true p ⌝ }
+{
+    if p.presence == 0 {
+        return p.x | p.y | p.z == 0;
+    }
+    precise_valid(true, p)
+}
+
+// A record whose render info is sent: its limits, and what they do not tell, which is the class, the least z, and what stands only by a value before it. Its bytes
+// are read where they stand: taken out of a scene, they would not be looked at all at once.
+pub fn sent_valid(class: u8, records: &[u8], at: usize) -> bool
+    requires { ⌜ (at + recordBytes ≤ length (now records)) × (carries (sceneAt (now records) at) ≡ true) ⌝ }
+    ensures { λ r. ⌜ r ≡ recordValid class (recordAt (now (records .entry)) at) ⌝ }
+{
+    let limits = within_limits(records, at);
+    let high = LEAST_Z <= records[at + 6];
+    let screen = either(
+        records[at + 13] == 1,
+        records[at + 14] | records[at + 15] == 0,
+    );
+    let hanging = both(DYNAMIC == class, both(high, screen));
+    let divergence = diverging_valid(record::divergence_at(records, at));
+    let precise = refining_valid(record::precise_at(records, at));
+    both(limits, both(hanging, both(divergence, precise)))
+}
+
+// A record whose render info is not sent.
+pub fn unsent_valid(class: u8, s: Scene, d: Divergence, p: Precise) -> bool
+    requires { ⌜ carries s ≡ false ⌝ }
     ensures { λ r. ⌜ r ≡ recordValid class (recordOf s d p) ⌝ }
 {
-    if record::carries(s) {
-        let scene = scene_valid(class, true, s);
-        let divergence = divergence_valid(true, d);
-        let precise = precise_valid(true, p);
-        return both(scene, both(divergence, precise));
-    }
-    let scene = scene_valid(class, false, s);
+    let scene = scene_valid(class, s);
     let divergence = divergence_valid(false, d);
     let precise = precise_valid(false, p);
     both(scene, both(divergence, precise))

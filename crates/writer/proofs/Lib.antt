@@ -1,4 +1,5 @@
 pub mod Widths
+pub mod Surveys
 pub mod Parts
 pub mod Entries
 pub mod Heads

@@ -25,20 +25,30 @@ module _ (f : ℕ → Record → List ℕ) (s : List ℕ) (n i k : ℕ) where
   records-none = steps-none f (recordsAt s) (λ j. refl) n i k
 
 -- the first m records, and those behind them
-take-records : (s : List ℕ) (m r k : ℕ) → take m (recordsAt s (m + r) k) ≡ recordsAt s m k
+pub take-records : (s : List ℕ) (m r k : ℕ) → take m (recordsAt s (m + r) k) ≡ recordsAt s m k
 unfolding recordsAt
 take-records s zero r k = refl
 take-records s (suc m) r k =
     ap (λ (j : ℕ). take (suc m) (recordsAt s j k)) (let e : suc m + r ≡ suc (m + r) = omega arith in e)
     ∙ ap (λ (rs : List Record). recordAt s k ∷ rs) (take-records s m r (k + recordStride))
 
-drop-records : (s : List ℕ) (m r k : ℕ) → drop m (recordsAt s (m + r) k) ≡ recordsAt s r (k + recordStride * m)
+pub drop-records : (s : List ℕ) (m r k : ℕ) → drop m (recordsAt s (m + r) k) ≡ recordsAt s r (k + recordStride * m)
 unfolding recordsAt
 drop-records s zero r k = ap₂ (λ (j i : ℕ). recordsAt s j i) (let e : 0 + r ≡ r = omega arith in e) (let e : k ≡ k + recordStride * 0 = omega arith in e)
 drop-records s (suc m) r k =
     ap (λ (j : ℕ). drop (suc m) (recordsAt s j k)) (let e : suc m + r ≡ suc (m + r) = omega arith in e)
     ∙ drop-records s m r (k + recordStride)
     ∙ ap (λ (j : ℕ). recordsAt s r j) (let e : k + recordStride + recordStride * m ≡ k + recordStride * suc m = omega arith in e)
+
+-- m records, and those behind them
+pub records-append : (s : List ℕ) (m r k : ℕ) → recordsAt s (m + r) k ≡ recordsAt s m k ++ recordsAt s r (k + recordStride * m)
+unfolding recordsAt
+records-append s zero r k = ap₂ (λ (j i : ℕ). recordsAt s j i) (let e : 0 + r ≡ r = omega arith in e) (let e : k ≡ k + recordStride * 0 = omega arith in e)
+records-append s (suc m) r k =
+    ap (λ (j : ℕ). recordsAt s j k) (let e : suc m + r ≡ suc (m + r) = omega arith in e)
+    ∙ ap (λ (rs : List Record). recordAt s k ∷ rs)
+    (records-append s m r (k + recordStride)
+    ∙ ap (λ (j : ℕ). recordsAt s m (k + recordStride) ++ recordsAt s r j) (let e : k + recordStride + recordStride * m ≡ k + recordStride * suc m = omega arith in e))
 
 pub left-more : (n m i : ℕ) → i < n → (n - i) * m ≡ m + (n - (i + 1)) * m
 left-more n m i h = ap (λ (j : ℕ). j * m) (let e : n - i ≡ suc (n - (i + 1)) = omega arith in e) ∙ (let g : suc (n - (i + 1)) * m ≡ m + (n - (i + 1)) * m = omega arith in g)

@@ -24,12 +24,6 @@ wide-is {k} {n} e h = subst (λ (x : List ℕ). Wide k n x) e h
 pub wide-within : {k j n : ℕ} {l : List ℕ} → k ≤ j → Wide k n l → Wide j n l
 wide-within e h = record { same = h .same; most = omega (arith, h .most) }
 
-pub wide-on : {k n : ℕ} {on : Bool} {l : List ℕ} → on ≡ true → Wide k n l → Wide k n (only on l)
-wide-on e h = rw e h
-
-pub wide-off : {k n : ℕ} {on : Bool} (l : List ℕ) → on ≡ false → n ≡ 0 → Wide k n (only on l)
-wide-off l e f = rw e (record { same = f; most = omega arith })
-
 -- what is promised of packed bits: what they are, and how wide
 module _ {i k : ℕ} {p : Packed} {l : List ℕ} (h : PacksIn i k p l) where
   pub packed-wide : Wide k (p .width .0) l

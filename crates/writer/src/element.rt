@@ -11,18 +11,23 @@ ghost use Rattle.writer.specs.Most.{mostFront, mostPadding, mostObjectEl
 ghost use Rattle.writer.specs.Parts.{objectBits, extendedBits, trimBits, objectElement, extendedElement, trimElement, Blocks, Stand, Needed, Inside, Sized};
 use crate::Groups;
 use crate::extended::put_extended_fields;
-use crate::objects::objects_width;
 use crate::objects::put_object_fields;
 use crate::putting::put_packed;
 use crate::putting::put_zeros;
 use crate::sizes::padding;
 use crate::sizes::size_for;
-use crate::timing::timing_width;
 use crate::trim::put_trim_fields;
+use bits::either;
 use oamd::Programme;
 use oamd::Timing;
 use units::BitCount;
 use units::BitPos;
+
+// With neither of its groups the extended element has the discard flag and a flag for each.
+const BARE_EXTENDED: u32 = 3;
+
+// With neither configurations nor flags of the objects the trim element has the discard flag, three fields of 2 bits, and the flag for the objects.
+const BARE_TRIM: u32 = 8;
 
 // What stands before the fields: id, size and the discard flag.
 fn open_element(out: &mut [u8], at: BitPos, id: u32, v: u32) -> BitPos
@@ -44,33 +49,29 @@ fn close_element(out: &mut [u8], at: BitPos, v: u32, n: BitCount) -> BitPos
     put_zeros(out, at, pad)
 }
 
-// The bits inside the object element: the discard flag, the timing, the flag for reserved data, and the objects.
-pub fn object_inside(programme: Programme, timing: Timing, records: &[u8]) -> BitCount
-    requires { ⌜ Blocks (programme .objects) (timing .blocks) (now records) ⌝ }
-    ensures { λ r. ⌜ Inside (mostObjectFields (programme .objects)) (r .0) (objectBits programme timing (now (records .entry))) ⌝ }
-{
-    let before = timing_width(timing);
-    let objects = objects_width(records, programme.objects as usize, timing.blocks as usize);
-    BitCount::new(2).plus(before).plus(objects)
-}
-
-// The bits inside the extended object element: the discard flag and its fields, laid where there is no room.
+// The bits inside the extended object element: the discard flag and its fields, laid where there is no room; most payloads have none of them, which is told at once.
 pub fn extended_inside(records: &[u8], count: usize, groups: Groups) -> BitCount
     requires { ⌜ Stand count (now records) ⌝ }
     requires { ⌜ Needed (recordsAt (now records) count 0) groups ⌝ }
     ensures { λ r. ⌜ Inside (mostExtendedFields count) (r .0) (extendedBits (now (records .entry)) count) ⌝ }
 {
+    if !either(groups.diverges, groups.refines) {
+        return BitCount::new(BARE_EXTENDED);
+    }
     let mut scratch = [0u8; 64];
     let start = BitPos::new(0);
     let fields = put_extended_fields(&mut scratch, start, records, count, groups).since(start);
     BitCount::new(1).plus(fields)
 }
 
-// The bits inside the trim element: the discard flag and its fields, laid where there is no room.
+// The bits inside the trim element, likewise.
 pub fn trim_inside(trim: &[u8], objects: u8) -> BitCount
     requires { ⌜ trimFixed + objects ≤ length (now trim) ⌝ }
     ensures { λ r. ⌜ Inside (mostTrimFields objects) (r .0) (trimBits (now (trim .entry)) objects) ⌝ }
 {
+    if !either(trim[2] == 2, trim[oamd::PER_OBJECT_BYTE] == 1) {
+        return BitCount::new(BARE_TRIM);
+    }
     let mut scratch = [0u8; 64];
     let start = BitPos::new(0);
     let fields = put_trim_fields(&mut scratch, start, trim, objects).since(start);

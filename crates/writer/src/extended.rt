@@ -13,7 +13,6 @@ use crate::Groups;
 use crate::putting::put;
 use crate::putting::put_some;
 use bits::as_flag;
-use bits::either;
 use oamd::Divergence;
 use oamd::Precise;
 use record::divergence_at;
@@ -104,26 +103,6 @@ fn put_extras_if(
         return put_extras(first, out, at, records, n);
     }
     at
-}
-
-// Which of the two groups some record needs.
-pub fn groups_of(records: &[u8], n: usize) -> Groups
-    requires { ⌜ Stand n (now records) ⌝ }
-    ensures { λ r. ⌜ Needed (recordsAt (now (records .entry)) n 0) r ⌝ }
-{
-    let mut diverges = false;
-    let mut refines = false;
-    let mut k: usize = 0;
-    let mut i: usize = 0;
-    while i < n {
-        let d = divergence_at(records, k);
-        let precise = precise_at(records, k);
-        diverges = either(diverges, d.used == 1);
-        refines = either(refines, 0 < precise.presence);
-        k = k + oamd::RECORD_STRIDE;
-        i = i + 1;
-    }
-    Groups { diverges, refines }
 }
 
 // Each of its two groups only where some record needs it.

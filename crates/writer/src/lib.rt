@@ -1,11 +1,11 @@
 // `write`: a programme, a timing, a frame number, record bytes and a trim table to a payload in a lent buffer, in the one form of documents 01 and 02. The parts lay their
 // fields clause by clause of the definition; what does not fit is not stored, so that a part laid over no room gives its length.
 ghost use mathlib.Core.Path.{_≡_};
-ghost use Prim.Native.Nat.{min};
 ghost use Rattle.bits.specs.Refusals.{numberOf};
 ghost use Rattle.form.specs.Form.{form};
 ghost use Rattle.form.specs.Answer.{tablesOf, refusedWrite, fitted, writing};
 ghost use Rattle.writer.specs.Parts.{Enough};
+ghost use Rattle.writer.specs.Survey.{Gathered};
 use bits::Refusal;
 use oamd::Programme;
 use oamd::Timing;
@@ -15,6 +15,7 @@ use units::ByteCount;
 
 mod putting; // putting.rt: a field
 mod blocks; // blocks.rt: a block
+mod survey; // survey.rt: all records, before a bit is laid
 mod header; // header.rt: what stands before the elements
 mod timing; // timing.rt: the timing
 mod objects; // objects.rt: the object element's fields
@@ -28,6 +29,13 @@ mod payload; // payload.rt: the whole form
 pub struct Groups {
     pub diverges: bool,
     pub refines: bool,
+}
+
+// What one pass over the records finds: the index of the first that is refused, or their number; and where none is, which groups they need, and how many bits their blocks take.
+pub struct Found {
+    pub seen: usize,
+    pub groups: Groups,
+    pub width: BitCount,
 }
 
 // Found before a bit is laid: how many records there are, which groups they need, the bits inside each element, and those of the whole form.
@@ -56,12 +64,14 @@ fn write_form(
     timing: Timing,
     records: &[u8],
     trim: &[u8],
+    found: Found,
     payload: &mut [u8],
 ) -> WriteAnswer
     requires { ⌜ Enough programme timing (now records) (now trim) ⌝ }
+    requires { ⌜ Gathered programme timing (now records) found ⌝ }
     ensures { λ r. ⌜ (record { answer = r; out = now (payload .exit) }) ≡ fitted (now (payload .entry)) (form (tablesOf programme timing (now (records .entry)) (now (trim .entry)))) ⌝ }
 {
-    let m = payload::measure(programme, timing, records, trim);
+    let m = payload::measure(programme, timing, records, trim, found);
     let whole = m.whole;
     let length = whole.bytes();
     let bytes = length.raw();
@@ -78,15 +88,6 @@ fn write_form(
         length,
         refusal: 0,
     }
-}
-
-fn lesser(a: usize, b: usize) -> usize
-    ensures { λ r. ⌜ r ≡ min a b ⌝ }
-{
-    if b < a {
-        return b;
-    }
-    a
 }
 
 // Writes tables. `frame` is the number of the frame, from 0: bytes 24 to 31 of each record must be its block's time in that frame. The payload is the same for every frame.
@@ -111,14 +112,13 @@ pub fn write(
     if records.len() < oamd::RECORD_STRIDE * count {
         return refused(Refusal::NotValid, 0);
     }
-    let bad = valid::first_bad(programme, timing, records);
-    let mistimed = valid::first_mistimed(programme, timing, frame, records);
-    let bad = lesser(bad, mistimed);
-    if bad < count {
-        return refused(Refusal::NotValid, 1 + bad as u64);
+    let shares = meaning::shares(programme);
+    let found = survey::survey(shares, timing, frame, records, count);
+    if found.seen < count {
+        return refused(Refusal::NotValid, 1 + found.seen as u64);
     }
     if !valid::trim_valid(programme.objects, trim) {
         return refused(Refusal::NotValid, 1 + count as u64);
     }
-    write_form(programme, timing, records, trim, payload)
+    write_form(programme, timing, records, trim, found, payload)
 }

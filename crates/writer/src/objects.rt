@@ -6,15 +6,13 @@ ghost use Rattle.form.specs.Form.{objectDataBits};
 ghost use Rattle.record.specs.Bytes.{recordsAt};
 ghost use Rattle.laying.specs.Laying.{Laid, mostPosition};
 ghost use Rattle.writer.specs.Most.{mostObject, mostObjectFields, mostCounted};
-ghost use Rattle.writer.specs.Parts.{objectsBits, objectBits, Wide, Blocks};
-use crate::blocks::block_width;
+ghost use Rattle.writer.specs.Parts.{objectsBits, objectBits, Blocks};
 use crate::blocks::put_block;
 use crate::putting::put;
 use crate::timing::put_timing;
 use oamd::Programme;
 use oamd::Timing;
 use record::scene_at;
-use units::BitCount;
 use units::BitPos;
 
 // The blocks of one object, whose records begin at a byte.
@@ -51,42 +49,6 @@ fn put_objects(out: &mut [u8], at: BitPos, records: &[u8], objects: usize, block
         i = i + 1;
     }
     next
-}
-
-// How many bits the blocks of one object take.
-fn object_data_width(records: &[u8], from: usize, blocks: usize) -> BitCount
-    requires { ⌜ (blocks ≤ mostBlocks) × (from + recordStride * blocks ≤ length (now records)) ⌝ }
-    ensures { λ r. ⌜ Wide mostObject (r .0) (objectDataBits (recordsAt (now (records .entry)) blocks from)) ⌝ }
-{
-    let mut total = BitCount::new(0);
-    let mut k = from;
-    let mut i: usize = 0;
-    while i < blocks {
-        let s = scene_at(records, k);
-        let width = block_width(i == 0, s);
-        total = total.plus(width);
-        k = k + oamd::RECORD_STRIDE;
-        i = i + 1;
-    }
-    total
-}
-
-// How many bits the blocks of all objects take.
-pub fn objects_width(records: &[u8], objects: usize, blocks: usize) -> BitCount
-    requires { ⌜ (objects ≤ mostCounted) × Blocks objects blocks (now records) ⌝ }
-    ensures { λ r. ⌜ Wide (mostObject * objects) (r .0) (objectsBits (now (records .entry)) objects blocks) ⌝ }
-{
-    let step = oamd::RECORD_STRIDE * blocks;
-    let mut total = BitCount::new(0);
-    let mut k: usize = 0;
-    let mut i: usize = 0;
-    while i < objects {
-        let width = object_data_width(records, k, blocks);
-        total = total.plus(width);
-        k = k + step;
-        i = i + 1;
-    }
-    total
 }
 
 // The flag says that no reserved data is there.

@@ -7,20 +7,21 @@ ghost use Rattle.form.specs.Answer.{tablesOf};
 ghost use Rattle.laying.specs.Laying.{Laid, mostPosition};
 ghost use Rattle.writer.specs.Most.{mostPadding, mostForm};
 ghost use Rattle.writer.specs.Parts.{Framed, Enough, Measured};
+ghost use Rattle.writer.specs.Survey.{Gathered};
+use crate::Found;
 use crate::Measures;
 use crate::element::extended_inside;
-use crate::element::object_inside;
 use crate::element::put_extended_element;
 use crate::element::put_object_element;
 use crate::element::put_trim_element;
 use crate::element::trim_inside;
-use crate::extended::groups_of;
 use crate::header::header_width;
 use crate::header::put_header;
 use crate::putting::put;
 use crate::putting::put_zeros;
 use crate::sizes::room_of;
 use crate::sizes::size_for;
+use crate::timing::timing_width;
 use bits::as_flag;
 use bits::either;
 use oamd::Programme;
@@ -43,13 +44,21 @@ fn element_bits(on: bool, n: BitCount) -> BitCount
 }
 
 // How long the form and its parts are, before a byte is written.
-pub fn measure(programme: Programme, timing: Timing, records: &[u8], trim: &[u8]) -> Measures
+pub fn measure(
+    programme: Programme,
+    timing: Timing,
+    records: &[u8],
+    trim: &[u8],
+    found: Found,
+) -> Measures
     requires { ⌜ Enough programme timing (now records) (now trim) ⌝ }
+    requires { ⌜ Gathered programme timing (now records) found ⌝ }
     ensures { λ r. ⌜ Measured (tablesOf programme timing (now (records .entry)) (now (trim .entry))) r ⌝ }
 {
     let count = record_count(programme.objects, timing.blocks);
-    let groups = groups_of(records, count);
-    let object = object_inside(programme, timing, records);
+    let groups = found.groups;
+    let blocks = found.width;
+    let object = BitCount::new(2).plus(timing_width(timing)).plus(blocks);
     let extended = extended_inside(records, count, groups);
     let trims = trim_inside(trim, programme.objects);
     let first = element_bits(0 < timing.blocks, object);

@@ -14,6 +14,12 @@ use Rattle.form.specs.Valid.{programmeValid, timingValid, recordCount}
 use Rattle.form.specs.Answer.{refusedWrite, firstRefused}
 use Rattle.form.specs.Lemmas.Tests.{halves}
 use Rattle.form.specs.Lemmas.Facts.{timing-facts, programme-facts, beds-le}
+use Rattle.oamd.specs.declared.Shares.{Shares}
+use Rattle.oamd.specs.Tables.{mostBlocks}
+use Rattle.oamd.specs.Time.{timeOf}
+use Rattle.form.specs.Valid.{firstBad, firstMistimed}
+use Rattle.record.specs.Bytes.{recordsAt, timesAt}
+use Rattle.writer.proofs.Surveys.{gathered}
 use Rattle.writer.proofs.Whole.{gives, Accepted, bad-programme, bad-timing, few-bytes, bad-record, bad-trim, good-trim}
 use Rattle.writer.proofs.write.Statement.{statement}
 use Rattle.writer.proofs.write.Tie as tie
@@ -44,20 +50,19 @@ accepted c =
     let programme = timing .before .before in
     record { programme = good-programme programme; timing = good-timing timing; whole = omega (arith, counted (programme .before), c .if3 .left) }
 
-abbrev to-bytes : tie.After-lesser → tie.Else3
-to-bytes c = c .before .before .before
-
-first : (c : tie.After-lesser) → let a = from-count (to-bytes c) .args in c .lesser .result ≡ firstRefused (a .frame) (a .programme) (a .timing) (now (a .records))
-unfolding firstRefused
-first c =
-    let timed = c .before in
-    let mistimed = timed .first-mistimed .ensures in
-    let bad = timed .before .first-bad .ensures in
-    let given = accepted (to-bytes c) in
-    c .lesser .ensures ∙ ap₂ min (bad .0 (given .whole)) (mistimed .0 (record { few = timing-facts _ (given .timing) .blocks; bytes = given .whole }))
+abbrev to-bytes : tie.After-survey → tie.Else3
+to-bytes c = c .before .before
 
 count-there : (c : tie.Else3) → c .before .before .before .before .before .record-count .result ≡ recordCount (from-count c .args .programme) (from-count c .args .timing)
 count-there c = counted (c .before .before .before .before)
+
+first : (c : tie.After-survey) → let a = from-count (to-bytes c) .args in c .survey .result .seen ≡ firstRefused (a .frame) (a .programme) (a .timing) (now (a .records))
+unfolding firstRefused
+first c =
+    let a = from-count (to-bytes c) .args in
+    c .survey .ensures .seen
+    ∙ ap₂ (λ (x : Shares) (n : ℕ). min (firstBad x (a .timing .blocks) 0 (recordsAt (now (a .records)) n 0)) (firstMistimed (timeOf (a .frame) (a .timing)) 0 (timesAt (now (a .records)) n 0)))
+    (c .before .shares .ensures .0) (count-there (to-bytes c))
 
 returns : tie.Need-returns
 returns c =
@@ -89,7 +94,7 @@ returns-3 c =
 returns-4 : tie.Need-returns-4
 returns-4 c =
     let test = c .before in
-    let found = test .before in
+    let found = test .before .before in
     let bytes = to-bytes found in
     let a = from-count bytes .args in
     ap (λ (r : WriteAnswer). gives r (now (a .payload))) (c .refused4 .ensures)
@@ -101,27 +106,49 @@ returns-5 c =
     let test = c .before in
     let trim = test .before in
     let records = trim .before in
-    let found = records .before in
+    let found = records .before .before in
     let bytes = to-bytes found in
     let a = from-count bytes .args in
     ap (λ (r : WriteAnswer). gives r (now (a .payload))) (c .refused5 .ensures ∙ ap (λ (k : ℕ). refusedWrite (numberOf NotValid) (1 + k)) (count-there bytes))
     ∙ bad-trim (a .frame) (a .programme) (a .timing) (now (a .records)) (now (a .trim)) (now (a .payload)) (accepted bytes) (first found)
     (omega (arith, count-there bytes, records .if4 .left)) (sym (trim .trim-valid .ensures) ∙ not-true _ (test .if5 .taken))
 
+survey-requires : tie.Need-survey-requires
+survey-requires c κs =
+    let bytes = c .before in
+    let tables = accepted bytes in
+    let few = timing-facts _ (tables .timing) .blocks in
+    let count = count-there bytes in
+    (omega (arith, tables .whole, count), omega (arith, bytes .before .before .before .before .before .record-count .ensures .1), few)
+
+few-records : (c : tie.Else3) → c .before .before .before .before .before .record-count .result ≤ 255 * mostBlocks
+few-records c = omega (arith, c .before .before .before .before .before .record-count .ensures .1, timing-facts _ (accepted c .timing) .blocks)
+
+add-refused : tie.Need-add-refused
+add-refused c = omega (arith, c .if4 .taken, few-records (to-bytes (c .before .before)))
+
+add-refused-2 : tie.Need-add-refused-2
+add-refused-2 c = omega (arith, few-records (to-bytes (c .before .before .before .before)))
+
 write-form-requires : tie.Need-write-form-requires
 write-form-requires c κs =
     let test = c .before in
     let trim = test .before in
-    let bytes = to-bytes (trim .before .before) in
+    let records = trim .before in
+    let found = records .before .before in
+    let bytes = to-bytes found in
     let a = from-count bytes .args in
     let tables = accepted bytes in
     let facts = programme-facts (a .programme) (tables .programme) in
-    record {
-      beds = omega (arith, beds-le (a .programme) facts, facts .nine);
-      blocks = timing-facts (a .timing) (tables .timing) .blocks;
-      records = tables .whole;
-      trim = leb-true _ _ (halves _ _ (sym (trim .trim-valid .ensures) ∙ not-false _ (test .if5 .left)) .0);
-    }
+    let few = timing-facts (a .timing) (tables .timing) .blocks in (
+      record {
+        beds = omega (arith, beds-le (a .programme) facts, facts .nine);
+        blocks = few;
+        records = tables .whole;
+        trim = leb-true _ _ (halves _ _ (sym (trim .trim-valid .ensures) ∙ not-false _ (test .if5 .left)) .0);
+      },
+      gathered _ _ (a .programme) (a .timing) _ (found .survey .ensures) (count-there bytes) (records .if4 .left) few,
+    )
 
 returns-6 : tie.Need-returns-6
 returns-6 c =
@@ -129,7 +156,7 @@ returns-6 c =
     let test = all .before .before in
     let trim = test .before in
     let records = trim .before in
-    let found = records .before in
+    let found = records .before .before in
     let bytes = to-bytes found in
     let a = from-count bytes .args in
     all .write-form .ensures
@@ -151,13 +178,12 @@ write-spec =
     (λ c κs. search needs)
     returns-3
     (λ c κs. search needs)
-    (λ c κs. search needs)
-    (λ c κs. search needs)
-    (λ c. search needs)
+    survey-requires
+    add-refused
     (λ c κs. search needs)
     returns-4
     (λ c κs. search needs)
-    (λ c. search needs)
+    add-refused-2
     (λ c κs. search needs)
     returns-5
     write-form-requires

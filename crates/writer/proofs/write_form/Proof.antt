@@ -51,7 +51,7 @@ fill-requires c κs =
     let raw = room .before in
     let bytes = raw .before in
     let measured = bytes .before .before in
-    (from-bytes raw .pre, (measured .measure .ensures, simp length-take (omega (arith, raw .raw .ensures, bytes .bytes .ensures, room .if1 .left))))
+    (from-bytes raw .pre .0, (measured .measure .ensures, simp length-take (omega (arith, raw .raw .ensures, bytes .bytes .ensures, room .if1 .left))))
 
 -- the form is laid, and behind it the buffer is as it was
 abbrev to-raw : tie.After-slice-known2 → tie.After-raw

@@ -1,30 +1,41 @@
 use borrow.Author.Needs.{needs}
-use mathlib.Core.Path.{ap}
-use lib.Dec.{eqb}
-use Rattle.bits.specs.Writes.{toBits}
-use Rattle.form.specs.Form.{extentBits}
-use Rattle.coding.proofs.Joins.{_▸_, behind-is, each-if}
+use Rattle.coding.proofs.Groups.{room-for, group-behind, extent-is}
 use Rattle.coding.proofs.parts.extent.Statement.{statement}
 use Rattle.coding.proofs.parts.extent.Tie as tie
 
+either-requires : tie.Need-either-requires
+either-requires c κs =
+    let value = c .before .before .before in
+    let width = value .before .before .before in
+    let even = width .before .before in
+    let start = even .before .before .before in
+    room-for (extent-is (start .args .v) (even .both .ensures) (width .choice .ensures) (value .choice2 .ensures)) (start .pre)
+
 returns : tie.Need-returns
-unfolding extentBits
 returns c =
-    let all = c .before .before in
-    let index = all .before .before .before in
-    let coded = index .before .before in
-    let e = coded .coded-extent .result in
-    let sizes = behind-is (each-if (eqb (e .index) 2) (toBits 5 (e .width)) (toBits 5 (e .depth)) (toBits 5 (e .height))) (c .sizes-if .ensures) in
-    behind-is (ap extentBits (coded .coded-extent .ensures)) (index .pack .ensures ▸ all .pack-if .ensures ▸ sizes)
+    let value = c .before .before .before .before in
+    let width = value .before .before .before in
+    let even = width .before .before in
+    let start = even .before .before .before in
+    group-behind (extent-is (start .args .v) (even .both .ensures) (width .choice .ensures) (value .choice2 .ensures)) (c .either .ensures)
 
 pub extent-spec : {M : Type 1} → statement M
 extent-spec =
     tie.close
     (tie.spec
     (λ c κs. search needs)
-    (λ c. search needs)
     (λ c κs. search needs)
     (λ c. search needs)
     (λ c κs. search needs)
-    (λ c κs. search needs)
+    (λ c. search needs)
+    (λ c. search needs)
+    (λ c. search needs)
+    (λ c. search needs)
+    (λ c. search needs)
+    (λ c. search needs)
+    (λ c. search needs)
+    (λ c. search needs)
+    (λ c. search needs)
+    (λ c. search needs)
+    either-requires
     returns)

@@ -3,17 +3,13 @@ use Rattle.meaning.proofs.scenes.shown_after.Statement.{statement}
 use Rattle.meaning.proofs.scenes.shown_after.Tie as tie
 
 returns : tie.Need-returns
-returns c =
-    let zoned = c .before in
-    let sized = zoned .before in
-    let placed = sized .before in
-    rw (placed .before .enum-told .given .1, placed .default-location .ensures, sized .default-volume .ensures, zoned .default-zone .ensures, c .default-screen .ensures)
+returns c = rw (c .default-shown .ensures, c .before .enum-told .given .1)
 
 returns-2 : tie.Need-returns-2
 returns-2 c = rw (c .sent-shown .ensures, c .before .enum-told2 .given .1)
 
 returns-3 : tie.Need-returns-3
-returns-3 c = rw (c .enum-told3 .given .1)
+returns-3 c = rw (c .shown-before .ensures, c .before .enum-told3 .given .1)
 
 returns-4 : tie.Need-returns-4
 returns-4 c =
@@ -26,12 +22,10 @@ shown-after-spec =
     (tie.spec
     (λ c. search needs)
     (λ c κs. search needs)
-    (λ c κs. search needs)
-    (λ c κs. search needs)
-    (λ c κs. search needs)
     (λ c. search needs)
     (λ c κs. search needs)
     (λ c. search needs)
+    (λ c κs. search needs)
     (λ c. search needs)
     (λ c κs. search needs)
     (λ c. search needs)

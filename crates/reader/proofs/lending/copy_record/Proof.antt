@@ -1,31 +1,32 @@
 -- `copy_record` meets its contract (`LendingLoop.antt`). Assumes nothing.
-use Prim.Native.Nat.{_-_}
-use native.Mathlib.Omega.{arith}
-use Rattle.oamd.specs.Tables.{recordBytes}
-use Rattle.reader.proofs.LendingLoop.{Copying, begun, copied, ended}
+use denote.Ref.{now}
 use borrow.Author.Needs.{needs}
+use Rattle.reader.proofs.LendingLoop.{copied}
 use Rattle.reader.proofs.lending.copy_record.Statement.{statement}
 use Rattle.reader.proofs.lending.copy_record.Tie as tie
 
-abbrev Inv-loop : tie.InvT-loop
-Inv-loop scratch from records₀ at k₀ records k = Copying scratch from at records₀ records k
-
-abbrev μ-loop : tie.MeasureT-loop
-μ-loop scratch from records₀ at k₀ records k = recordBytes - k
+returns : tie.Need-returns
+returns c =
+    let third = c .before .before in
+    let second = third .before .before .before .before .before in
+    let first = second .before .before .before .before .before in
+    let args = first .before .before .before .before .before .args in
+    copied (args .from) (args .at) (now (args .records)) (first .before .eight-at .ensures) (first .store-eight .ensures) (second .before .eight-at2 .ensures) (second .store-eight2 .ensures)
+    (third .before .eight-at3 .ensures) (third .store-eight3 .ensures)
 
 pub copy-record-spec : {M : Type 1} → statement M
 copy-record-spec =
     tie.close
     (tie.spec
-    Inv-loop
-    μ-loop
-    (λ c. begun)
+    (λ c κs. search needs)
+    (λ c κs. search needs)
     (λ c. search needs)
     (λ c. search needs)
+    (λ c κs. search needs)
+    (λ c κs. search needs)
     (λ c. search needs)
     (λ c. search needs)
+    (λ c κs. search needs)
+    (λ c κs. search needs)
     (λ c. search needs)
-    (λ c. search needs)
-    (λ c. copied (c .before .before .loop .inv) (omega arith))
-    (λ c. c .before .loop .inv .same)
-    (λ c. ended (c .before .loop .inv) (omega arith)))
+    returns)

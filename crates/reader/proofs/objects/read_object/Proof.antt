@@ -28,7 +28,7 @@ fits c =
 
 -- the loop's head, from the end of a turn
 abbrev top : tie.After-cur Inv-loop μ-loop → tie.At-loop Inv-loop μ-loop
-top c = let stored = c .before .before .before in stored .before .before .before .before .before .before .before .before
+top c = let stored = c .before .before .before in stored .before .before .before .before .before .before .before
 
 add-at : tie.Need-add-at Inv-loop μ-loop
 add-at c = let head = top c in omega (arith, head .loop .inv .place, head .before .before .before .before .pre .near)
@@ -39,14 +39,12 @@ add-i c = omega (arith, top c .before .before .before .before .pre .few)
 loop-again : tie.Need-loop-again Inv-loop μ-loop
 loop-again c =
     let storing = c .before .before .before in
-    let resolving = storing .before .before in
-    let above = resolving .before in
-    let reading = above .before .before .before in
-    let turning = reading .before in
-    let head = turning .before in
+    let reading = storing .before .before .before in
+    let above = reading .before in
+    let turning = above .before .before in
     rw (storing .store-scene .ensures)
-    (turn (above .gain-of-object-before .result) (head .loop .inv) (omega arith) (fits turning) (reading .read-block .ensures .reads)
-    (above .gain-of-object-before .ensures) (resolving .resolved .ensures))
+    (turn (above .gain-of-object-before .result) (turning .before .loop .inv) (omega arith) (fits turning) (above .gain-of-object-before .ensures)
+    (reading .read-scene .ensures .reads))
 
 returns : tie.Need-returns Inv-loop μ-loop
 returns c = leave (c .before .loop .inv) (omega arith)
@@ -60,9 +58,8 @@ read-object-spec =
     (λ c. search needs)
     (λ c κs. search needs)
     loop-holds
+    (λ c κs. search needs)
     (λ c. search needs)
-    (λ c κs. search needs)
-    (λ c κs. search needs)
     (λ c κs. search needs)
     (λ c κs. search needs)
     add-at

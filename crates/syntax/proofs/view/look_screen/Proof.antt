@@ -13,32 +13,26 @@ unfolding screen
 returns c =
     let used = c .before .before in
     let look = used .before .before in
-    let o = look .before .before .args .o in
+    let o = look .before .args .o in
     let e = look .look .ensures .0 in
-    rw (look .before .if1 .taken)
-    (record {
+    record {
       looks = slot o 0 1 5 o (o + 1) e (omega arith) (omega arith) (omega arith)
-          ▹ sent (eq-eqb _ _ (used .if2 .taken)) (slot o 1 3 2 (o + 1) (o + 4) e (omega arith) (omega arith) (omega arith))
-          ▹ sent (eq-eqb _ _ (used .if2 .taken)) (last o 4 2 (o + 4) e (omega arith) (omega arith))
+          ▹ sent (eq-eqb _ _ (used .if1 .taken)) (slot o 1 3 2 (o + 1) (o + 4) e (omega arith) (omega arith) (omega arith))
+          ▹ sent (eq-eqb _ _ (used .if1 .taken)) (last o 4 2 (o + 4) e (omega arith) (omega arith))
           ▹ looks-give;
       near = look .look .ensures .1 .near;
-    })
+    }
 
 returns-2 : tie.Need-returns-2
 unfolding screen
 returns-2 c =
     let look = c .before .before in
-    let o = look .before .before .args .o in
+    let o = look .before .args .o in
     let e = look .look .ensures .0 in
-    rw (look .before .if1 .taken)
-    (record {
-      looks = slot o 0 1 5 o (o + 1) e (omega arith) (omega arith) (omega arith) ▹ unsent 3 (ne-eqb _ _ (c .if2 .left)) ▹ unsent 2 (ne-eqb _ _ (c .if2 .left)) ▹ looks-give;
+    record {
+      looks = slot o 0 1 5 o (o + 1) e (omega arith) (omega arith) (omega arith) ▹ unsent 3 (ne-eqb _ _ (c .if1 .left)) ▹ unsent 2 (ne-eqb _ _ (c .if1 .left)) ▹ looks-give;
       near = omega arith;
-    })
-
-returns-3 : tie.Need-returns-3
-unfolding screen
-returns-3 c = rw (c .if1 .left) (record { looks = looks-give ▹ looks-give ▹ looks-give ▹ looks-give; near = omega arith })
+    }
 
 pub look-screen-spec : {M : Type 1} → statement M
 look-screen-spec =
@@ -51,5 +45,4 @@ look-screen-spec =
     returns
     (λ c. search needs)
     (λ c. search needs)
-    returns-2
-    returns-3)
+    returns-2)

@@ -14,8 +14,8 @@ returns c =
     let priority = rendered .before in
     let gain = priority .before .before in
     let active = gain .before .before in
-    rw (c .both4 .ensures, class-on .both3 .ensures, rest .both2 .ensures, priority-on .both .ensures, rendered .rendered-valid .ensures)
-    (rw (priority .between-if2 .ensures, gain .between-if .ensures, active .between .ensures, ← active .before .pre))
+    rw (c .both4 .ensures, class-on .both3 .ensures, rest .both2 .ensures, priority-on .both .ensures, rendered .default-valid .ensures)
+    (rw (priority .between-if2 .ensures, gain .between-if .ensures, active .between .ensures, active .before .pre))
 
 pub scene-valid-spec : {M : Type 1} → statement M
 scene-valid-spec =
