@@ -16,6 +16,7 @@
  *   request t, text, buffers of lines and records              answer: place, frames and bytes (8 bytes each), refusal, the bytes of both buffers
  *   request T, text, buffers of the update before, lines and records
  *                                                              answer: the same, the bytes of the three buffers
+ *   request y, payload, object, block and byte (4 bytes each)  answer: place, missing, refusal, count, all steps
  * A buffer is sent as it is lent and answered whole. It is lent at an address that leaves the remainder `skew` by 16, with canaries around it.
  * Exit status: 0 at the end of the input; 1 for a request that is not one, or a call that changed a canary or what it may only look at.
  */
@@ -409,6 +410,34 @@ static void serve_back(int behind)
     put_lent(&records);
 }
 
+static void serve_why(void)
+{
+    static given payload;
+    uint32_t object, block, byte;
+    skriemelt_why_answer a;
+    size_t i;
+
+    get_given(&payload);
+    object = get(4);
+    block = get(4);
+    byte = get(4);
+    a = skriemelt_why(payload.bytes, payload.length, object, block, byte);
+    hold_given(&payload);
+    put(a.place, 8);
+    put(a.missing, 4);
+    put(a.refusal, 1);
+    put(a.count, 1);
+    for (i = 0; i < SKRIEMELT_MOST_STEPS; i++) {
+        put(a.steps[i].bit, 4);
+        put(a.steps[i].object, 1);
+        put(a.steps[i].block, 1);
+        put(a.steps[i].value, 1);
+        put(a.steps[i].source, 1);
+        put(a.steps[i].field, 1);
+        put(a.steps[i].difference, 1);
+    }
+}
+
 static void serve_write(void)
 {
     static given records, trim;
@@ -448,6 +477,8 @@ int main(void)
             serve_summary();
         else if (request == 'w')
             serve_write();
+        else if (request == 'y')
+            serve_why();
         else if (request == 'c' || request == 'C')
             serve_catalogue(request == 'C');
         else if (request == 't' || request == 'T')

@@ -9,12 +9,12 @@ static int near(double a, double b)
 /* Each refusal has a sentence of its own; a number that is none has one too. */
 static void sentences(void)
 {
-    static const unsigned refusals[] = {0, 1, 2, 3, 4, 5, 6, 7, 8, 9, 10, 11, 12, 13, 16, 17, 18};
+    static const unsigned refusals[] = {0, 1, 2, 3, 4, 5, 6, 7, 8, 9, 10, 11, 12, 13, 14, 16, 17, 18};
     const size_t count = sizeof refusals / sizeof refusals[0];
     size_t i, j;
 
     for (i = 0; i < count; i++) {
-        check(strcmp(skriemelt_refusal_text(refusals[i]), skriemelt_refusal_text(14)) != 0, "a refusal has a sentence");
+        check(strcmp(skriemelt_refusal_text(refusals[i]), skriemelt_refusal_text(15)) != 0, "a refusal has a sentence");
         for (j = 0; j < i; j++)
             check(strcmp(skriemelt_refusal_text(refusals[i]), skriemelt_refusal_text(refusals[j])) != 0, "a sentence of its own");
     }
@@ -40,6 +40,7 @@ static int is_refused(uint8_t number)
     case SKRIEMELT_NO_FIT:
     case SKRIEMELT_OUTSIDE:
     case SKRIEMELT_LISTS:
+    case SKRIEMELT_NO_SUCH:
     case SKRIEMELT_TOO_MANY:
     case SKRIEMELT_BAD_LINE:
     case SKRIEMELT_SHORT_TEXT:
@@ -175,18 +176,73 @@ static void counts(void)
     check(are(skriemelt_counts_of(&p), 7, 10, 6), "two beds, SR7.3.0.0 and six more");
 }
 
+/* Names that are there up to the last and all differ. */
+static void all_differ(const char *(*name)(unsigned), unsigned first, unsigned end, const char *what)
+{
+    unsigned i, j;
+
+    for (i = first; i < end; i++) {
+        check(name(i) != NULL && name(i)[0] != '\0', what);
+        for (j = first; j < i; j++)
+            check(strcmp(name(i), name(j)) != 0, what);
+    }
+    check(name(end) == NULL && name(4000000000U) == NULL, what);
+}
+
+/* Names of a record's bytes, and the standard's names of fields, each end and one between. */
+static void names(void)
+{
+    all_differ(skriemelt_byte_name, 0, SKRIEMELT_RECORD_BYTES, "the name of a byte");
+    check(strcmp(skriemelt_byte_name(SKRIEMELT_RECORD_ACTIVE), "active") == 0, "the first byte's name");
+    check(strcmp(skriemelt_byte_name(SKRIEMELT_RECORD_SCREEN_DEPTH), "screen_depth") == 0, "the name of byte 15");
+    check(strcmp(skriemelt_byte_name(SKRIEMELT_RECORD_PRECISE_Z), "precise_z") == 0, "the last byte's name");
+    all_differ(skriemelt_field_name, SKRIEMELT_FIELD_NOT_ACTIVE, SKRIEMELT_FIELD_PRECISE_Z + 1, "the name of a field");
+    check(skriemelt_field_name(SKRIEMELT_FIELD_NONE) == NULL, "no field has no name");
+    check(strcmp(skriemelt_field_name(SKRIEMELT_FIELD_NOT_ACTIVE), "b_object_not_active") == 0, "the first field");
+    check(strcmp(skriemelt_field_name(SKRIEMELT_FIELD_ZONE_IDX), "zone_constraints_idx") == 0, "field 15");
+    check(strcmp(skriemelt_field_name(SKRIEMELT_FIELD_PRESENCE), "ext_prec_pos_presence[]") == 0, "an array");
+    check(strcmp(skriemelt_field_name(SKRIEMELT_FIELD_PRECISE_Z), "ext_prec_pos3D_Z") == 0, "the last field");
+}
+
+static void words(void)
+{
+    static const char *const expected[7] = {"field", "programme", "default", "default", "nothing", "block", "object"};
+    unsigned i;
+
+    for (i = SKRIEMELT_SOURCE_FIELD; i <= SKRIEMELT_SOURCE_OBJECT; i++)
+        check(strcmp(skriemelt_source_word(i), expected[i - 1]) == 0, "the word of a source");
+    check(skriemelt_source_word(0) == NULL && skriemelt_source_word(8) == NULL, "no such source");
+}
+
+/* Two's complement of 3 bits. */
+static void differences(void)
+{
+    static const int expected[8] = {0, 1, 2, 3, -4, -3, -2, -1};
+    skriemelt_why_step s;
+    unsigned i;
+
+    memset(&s, 0, sizeof s);
+    for (i = 0; i < 8; i++) {
+        s.difference = (uint8_t)i;
+        check(skriemelt_difference(&s) == expected[i], "a difference");
+    }
+}
+
 int main(void)
 {
     sentences();
-    check(is_refused(0) == 0 && is_refused(16) == 1 && is_refused(17) == 1 && is_refused(18) == 1 && is_refused(14) == -1, "a switch over the enum");
+    check(is_refused(0) == 0 && is_refused(14) == 1 && is_refused(16) == 1 && is_refused(17) == 1 && is_refused(18) == 1 && is_refused(15) == -1, "a switch over the enum");
     places();
     record_bytes();
     numbers();
     times();
     channels();
     counts();
+    names();
+    words();
+    differences();
     check(SKRIEMELT_VERSION == 1000 * SKRIEMELT_VERSION_MAJOR + SKRIEMELT_VERSION_MINOR, "the version's parts");
-    check(strcmp(SKRIEMELT_VERSION_STRING, "3.2") == 0, "the version's text");
+    check(strcmp(SKRIEMELT_VERSION_STRING, "3.3") == 0, "the version's text");
 #ifndef SKRIEMELT_TOO_LONG
     check(0, "the names are macros too");
 #endif

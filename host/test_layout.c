@@ -19,6 +19,8 @@ static void sizes(void)
     SIZE(skriemelt_back_answer, 32);
     SIZE(skriemelt_catalogue_frame, 40);
     SIZE(skriemelt_catalogue_before, 3817);
+    SIZE(skriemelt_why_step, 12);
+    SIZE(skriemelt_why_answer, 2008);
 }
 
 static void offsets(void)
@@ -86,11 +88,28 @@ static void catalogue_offsets(void)
     AT(skriemelt_catalogue_before, rows, 1);
 }
 
+static void why_offsets(void)
+{
+    AT(skriemelt_why_step, bit, 0);
+    AT(skriemelt_why_step, object, 4);
+    AT(skriemelt_why_step, block, 5);
+    AT(skriemelt_why_step, value, 6);
+    AT(skriemelt_why_step, source, 7);
+    AT(skriemelt_why_step, field, 8);
+    AT(skriemelt_why_step, difference, 9);
+    AT(skriemelt_why_answer, place, 0);
+    AT(skriemelt_why_answer, missing, 8);
+    AT(skriemelt_why_answer, refusal, 12);
+    AT(skriemelt_why_answer, count, 13);
+    AT(skriemelt_why_answer, steps, 16);
+}
+
 int main(void)
 {
     sizes();
     offsets();
     catalogue_offsets();
+    why_offsets();
     check(skriemelt_version() == SKRIEMELT_VERSION, "version");
     check(SKRIEMELT_RECORD_BYTES == SKRIEMELT_RECORD_PRECISE_Z + 1, "what the payload gives ends with the code of z");
     check(SKRIEMELT_RECORD_TIME == SKRIEMELT_RECORD_BYTES, "the time follows");
@@ -103,6 +122,7 @@ int main(void)
     check(SKRIEMELT_CLASSES == SKRIEMELT_CLASS_DYNAMIC + 1, "a summary counts every class");
     check(SKRIEMELT_PAYLOAD_ANSWERS == SKRIEMELT_OUTSIDE + 1, "a summary counts every answer of a payload");
     check(SKRIEMELT_BEFORE_BYTES == 1 + SKRIEMELT_RECORD_BYTES * SKRIEMELT_MOST_OBJECTS, "an update before has a count, and a row for each object");
+    check(SKRIEMELT_MOST_STEPS == SKRIEMELT_MOST_OBJECTS - 1 + SKRIEMELT_MOST_BLOCKS - 1 + 1, "each step goes back by a block or by an object");
     check(SKRIEMELT_MOST_TRIM_BYTES == SKRIEMELT_TRIM_FIXED + SKRIEMELT_MOST_OBJECTS, "the longest trim table");
     return finish("test_layout");
 }

@@ -17,11 +17,11 @@
  * the payload, listing: the text, catalogue: the text, or the lines and records read back from it, and the update before) as it came, and all fields of its answer but refusal and place,
  * and with SKRIEMELT_PAST_PAYLOAD the missing bits, are 0. An accepted read writes the first 32 * objects * blocks bytes of the record buffer, the first 94 + objects bytes of the trim
  * buffer, and no others; an accepted write writes the first `length` bytes of its buffer and no others. What a batch writes and what the calls of a catalogue write is said there. A summary
- * is lent nothing; refused, all its counters are 0.
+ * and a question why a byte is what it is are lent nothing; refused, all counters, and all steps, are 0.
  *
  * Threads. Every call works on its arguments and its own stack alone (a read: about 32 kB, a batch: about 35 kB, a summary: about 75 kB, a write: about 1 kB, a listing: about 75 kB, a catalogue,
- * written: about 95 kB, read back: about 45 kB). Calls may run at once in several threads, as long as no two are lent the same buffer to be filled; an update before is one. What a call only looks at
- * (read: the payload, batch, summary and catalogue: the store and the lists, write: the records and the trim table, listing: the payload, catalogue read back: the text) may be shared.
+ * written: about 95 kB, read back: about 45 kB, a question why: about 80 kB). Calls may run at once in several threads, as long as no two are lent the same buffer to be filled; an update before is one. What a call only looks at
+ * (read: the payload, batch, summary and catalogue: the store and the lists, write: the records and the trim table, listing and why: the payload, catalogue read back: the text) may be shared.
  *
  * There and back. A payload that is read and written again may have other bytes: the written form is the one form of the tables, and what is not in the tables
  * (unknown elements, reserved data, alternate ids, how a value was coded) is gone. Read again, it gives the same tables and no unknown element.
@@ -44,10 +44,10 @@ extern "C" {
 #endif
 
 /* The version of this interface: a thousand times the major number, plus the minor. A program built for a lower minor number of the same major one still works. */
-#define SKRIEMELT_VERSION 3002
+#define SKRIEMELT_VERSION 3003
 #define SKRIEMELT_VERSION_MAJOR 3
-#define SKRIEMELT_VERSION_MINOR 2
-#define SKRIEMELT_VERSION_STRING "3.2"
+#define SKRIEMELT_VERSION_MINOR 3
+#define SKRIEMELT_VERSION_STRING "3.3"
 
 /* A result that must not be dropped: the refusal stands in it. */
 #if defined(__GNUC__)
@@ -78,6 +78,7 @@ extern "C" {
 #define SKRIEMELT_MOST_TEXT_BYTES 100000  /* the listing of every payload fits */
 #define SKRIEMELT_MOST_ENTRIES 65536      /* payloads of a summary; more are refused with 16. A batch or catalogue may have any number */
 #define SKRIEMELT_MOST_FRAME_TEXT_BYTES 338558 /* the lines of every frame fit, in a catalogue that is written and in one that can be read back */
+#define SKRIEMELT_MOST_STEPS 166          /* steps of an answer why; one payload can need them all */
 
 /* Samples of a frame. A block may start past its end: that start is not folded into the next frame. */
 #define SKRIEMELT_FRAME_SAMPLES 1536
@@ -85,8 +86,8 @@ extern "C" {
 /*
  * Refusals. Where it says "bit", the place is a bit position counted from 0 at the top bit of the payload's first byte. A read is refused with 1 to 9, a write with
  * 10 or 11; 10 comes first. An entry of a batch is refused with 12 or as a read is, 12 first; a whole batch with 13; a summary with 13 or 16, 13 first; a listing with
- * 18. Writing a catalogue is refused with 13, then 9 for the update before, then 18; reading it back with 9 for the update before, then 17, then 9 for the records, then 9 for the lines. The
- * numbers between are not given. `switch ((skriemelt_refusal)answer.refusal)` lets the compiler say which case is missing.
+ * 18. Writing a catalogue is refused with 13, then 9 for the update before, then 18; reading it back with 9 for the update before, then 17, then 9 for the records, then 9 for the lines. A
+ * question why is refused with 1 to 8 as a read is, then with 14. 15 is not given. `switch ((skriemelt_refusal)answer.refusal)` lets the compiler say which case is missing.
  */
 typedef enum skriemelt_refusal {
     SKRIEMELT_ACCEPTED = 0,        /* place 0 */
@@ -106,6 +107,7 @@ typedef enum skriemelt_refusal {
     SKRIEMELT_NO_FIT = 11,         /* the form is longer than the payload buffer or 4,096 bytes; place: bytes needed */
     SKRIEMELT_OUTSIDE = 12,        /* start and length leave the store; place: the start, in bytes; of an entry alone, in a batch, summary or catalogue */
     SKRIEMELT_LISTS = 13,          /* the lists differ in length, or, in a batch, slots or answers of all entries do not fit; place: the number of starts */
+    SKRIEMELT_NO_SUCH = 14,        /* a question why: there is no such object, block or byte; place: 1, 2 or 3, for the first of these that there is not */
     SKRIEMELT_TOO_MANY = 16,       /* a summary of more than 65,536 payloads; place: their number */
     SKRIEMELT_BAD_LINE = 17,       /* a catalogue's text has a line that cannot stand there, or lines are missing at its end; place: the number of the first such line, from 1,
                                       one past the last where lines are missing */
@@ -127,6 +129,7 @@ typedef enum skriemelt_refusal {
 #define SKRIEMELT_NO_FIT SKRIEMELT_NO_FIT
 #define SKRIEMELT_OUTSIDE SKRIEMELT_OUTSIDE
 #define SKRIEMELT_LISTS SKRIEMELT_LISTS
+#define SKRIEMELT_NO_SUCH SKRIEMELT_NO_SUCH
 #define SKRIEMELT_TOO_MANY SKRIEMELT_TOO_MANY
 #define SKRIEMELT_BAD_LINE SKRIEMELT_BAD_LINE
 #define SKRIEMELT_SHORT_TEXT SKRIEMELT_SHORT_TEXT
@@ -347,6 +350,73 @@ typedef struct skriemelt_catalogue_before {
     uint8_t rows[SKRIEMELT_RECORD_BYTES * SKRIEMELT_MOST_OBJECTS]; /* the first SKRIEMELT_RECORD_BYTES bytes of each object's record, object by object */
 } skriemelt_catalogue_before;
 
+/*
+ * Where a byte of a record comes from (skriemelt_why_step.source; skriemelt_source_word). The last two lead to another step, all others end the chain.
+ */
+#define SKRIEMELT_SOURCE_FIELD 1          /* a field: the last one that was read for the byte */
+#define SKRIEMELT_SOURCE_PROGRAMME 2      /* the programme: the class, byte 1, alone */
+#define SKRIEMELT_SOURCE_BASIC_DEFAULT 3  /* a default of Table 28: bytes 2 and 3 of a block whose status says so, or that is not active */
+#define SKRIEMELT_SOURCE_RENDER_DEFAULT 4 /* a default of Table 29: bytes 4 to 16 likewise, and of every bed and ISF object */
+#define SKRIEMELT_SOURCE_NOTHING 5        /* nothing is carried for it: bytes 17 to 23, which are then 0 */
+#define SKRIEMELT_SOURCE_BLOCK 6          /* the same byte of the block before; with a field, moved by that field's difference, and held within the range of the byte */
+#define SKRIEMELT_SOURCE_OBJECT 7         /* the same byte of the object before, in the same block: byte 2 alone, by object_gain_idx 3 */
+
+/* The fields that a byte can come from (skriemelt_why_step.field; skriemelt_field_name gives the standard's names), in the order in which they are sent. */
+#define SKRIEMELT_FIELD_NONE 0
+#define SKRIEMELT_FIELD_NOT_ACTIVE 1          /* byte 0 */
+#define SKRIEMELT_FIELD_GAIN_IDX 2            /* byte 2 */
+#define SKRIEMELT_FIELD_GAIN_BITS 3           /* byte 2 */
+#define SKRIEMELT_FIELD_DEFAULT_PRIORITY 4    /* byte 3 */
+#define SKRIEMELT_FIELD_PRIORITY_BITS 5       /* byte 3 */
+#define SKRIEMELT_FIELD_DIFF_X 6              /* byte 4, with SKRIEMELT_SOURCE_BLOCK, as the two behind it */
+#define SKRIEMELT_FIELD_DIFF_Y 7              /* byte 5 */
+#define SKRIEMELT_FIELD_DIFF_Z 8              /* byte 6 */
+#define SKRIEMELT_FIELD_X 9                   /* byte 4 */
+#define SKRIEMELT_FIELD_Y 10                  /* byte 5 */
+#define SKRIEMELT_FIELD_Z 11                  /* byte 6; its sign is the bit before it */
+#define SKRIEMELT_FIELD_DISTANCE_SPECIFIED 12 /* byte 7, without a distance */
+#define SKRIEMELT_FIELD_AT_INFINITY 13        /* byte 7, at infinity */
+#define SKRIEMELT_FIELD_DISTANCE_IDX 14       /* byte 7 */
+#define SKRIEMELT_FIELD_ZONE_IDX 15           /* byte 11 */
+#define SKRIEMELT_FIELD_ELEVATION 16          /* byte 12 */
+#define SKRIEMELT_FIELD_SIZE_IDX 17           /* bytes 8 to 10, without a size */
+#define SKRIEMELT_FIELD_SIZE_BITS 18          /* bytes 8 to 10, one size for all */
+#define SKRIEMELT_FIELD_WIDTH 19              /* byte 8 */
+#define SKRIEMELT_FIELD_DEPTH 20              /* byte 9 */
+#define SKRIEMELT_FIELD_HEIGHT 21             /* byte 10 */
+#define SKRIEMELT_FIELD_SCREEN_REF 22         /* byte 13; bytes 14 and 15 without the flag */
+#define SKRIEMELT_FIELD_SCREEN_FACTOR 23      /* byte 14 */
+#define SKRIEMELT_FIELD_DEPTH_IDX 24          /* byte 15 */
+#define SKRIEMELT_FIELD_SNAP 25               /* byte 16 */
+#define SKRIEMELT_FIELD_DIVERGENCE 26         /* byte 17 */
+#define SKRIEMELT_FIELD_DIV_MODE 27           /* byte 18 */
+#define SKRIEMELT_FIELD_DIV_TABLE 28          /* byte 19, mode 0 */
+#define SKRIEMELT_FIELD_DIV_CODE 29           /* byte 19, mode 2 */
+#define SKRIEMELT_FIELD_PRESENCE 30           /* byte 20 */
+#define SKRIEMELT_FIELD_PRECISE_X 31          /* byte 21 */
+#define SKRIEMELT_FIELD_PRECISE_Y 32          /* byte 22 */
+#define SKRIEMELT_FIELD_PRECISE_Z 33          /* byte 23 */
+
+/* A step of the chain that leads back from a byte of a record. */
+typedef struct skriemelt_why_step {
+    uint32_t bit;       /* the first bit of the field, counted from 0 at the top bit of the payload's first byte; 0 without a field */
+    uint8_t object;     /* the object */
+    uint8_t block;      /* the block */
+    uint8_t value;      /* the byte of their record */
+    uint8_t source;     /* where it comes from: SKRIEMELT_SOURCE_.. */
+    uint8_t field;      /* SKRIEMELT_FIELD_..; 0 unless the source is a field, or the block before with a difference */
+    uint8_t difference; /* that difference, 3 bits as carried (skriemelt_difference gives -4 to 3), else 0 */
+} skriemelt_why_step;
+
+/* What a question why answers. On a refusal all but refusal and place is 0, and but missing with SKRIEMELT_PAST_PAYLOAD. */
+typedef struct skriemelt_why_answer {
+    uint64_t place;   /* see the refusals above */
+    uint32_t missing; /* as in skriemelt_read_answer */
+    uint8_t refusal;  /* SKRIEMELT_ACCEPTED, 1 to 8, or SKRIEMELT_NO_SUCH */
+    uint8_t count;    /* steps, 1 to object + block + 1 */
+    skriemelt_why_step steps[SKRIEMELT_MOST_STEPS]; /* from the byte that was asked for to the one that its value stems from; those from count on are 0 */
+} skriemelt_why_answer;
+
 SKRIEMELT_HAS_SIZE(skriemelt_bed, 8);
 SKRIEMELT_HAS_SIZE(skriemelt_programme, 84);
 SKRIEMELT_HAS_SIZE(skriemelt_update, 4);
@@ -360,6 +430,8 @@ SKRIEMELT_HAS_SIZE(skriemelt_catalogue_answer, 24);
 SKRIEMELT_HAS_SIZE(skriemelt_back_answer, 32);
 SKRIEMELT_HAS_SIZE(skriemelt_catalogue_frame, 40);
 SKRIEMELT_HAS_SIZE(skriemelt_catalogue_before, SKRIEMELT_BEFORE_BYTES);
+SKRIEMELT_HAS_SIZE(skriemelt_why_step, 12);
+SKRIEMELT_HAS_SIZE(skriemelt_why_answer, 2008);
 
 /* The version of the library; it equals SKRIEMELT_VERSION of the header that belongs to it. */
 SKRIEMELT_MUST_USE
@@ -536,6 +608,24 @@ SKRIEMELT_MUST_USE
 skriemelt_back_answer skriemelt_catalogue_read_on(const uint8_t *text, size_t text_bytes, skriemelt_catalogue_before *before, size_t before_bytes,
                                                   skriemelt_catalogue_frame *lines, size_t lines_bytes, uint8_t *records, size_t records_bytes);
 
+/*
+ * Why a byte of a record is what it is: where it comes from, and where that comes from, step by step, back to a field, the programme, a default or nothing carried. The byte is one of
+ * the first SKRIEMELT_RECORD_BYTES of the record of an object and a block, SKRIEMELT_RECORD_ACTIVE to SKRIEMELT_RECORD_PRECISE_Z; the time behind them is not asked about. Every
+ * input is answered: there is nothing to check beforehand.
+ *
+ * Steps. The first is the byte that was asked for. One with SKRIEMELT_SOURCE_BLOCK is followed by that of the same object in the block before, one with SKRIEMELT_SOURCE_OBJECT by
+ * that of the object before in the same block; any other is the last. From the last value back to the first, each is the one behind it, or that moved by the step's difference and
+ * held within 0 to 62 (x and y) or 49 to 79 (z) at each step. The last value is what the field at its bit gives, or the default, or 0.
+ *
+ * SKRIEMELT_TOO_LONG to SKRIEMELT_PAST_ELEMENT: as in reading. Then SKRIEMELT_NO_SUCH with place 1: object is not below the objects of the payload; else 2: block is not below its blocks, of
+ * which a payload without an object element has none; else 3: byte is not below SKRIEMELT_RECORD_BYTES.
+ *
+ * The call goes through the payload anew for each step; it is meant for a person's questions, not for whole libraries. The records are laid on its own stack, which takes about 80 kB: more than a
+ * small thread may have.
+ */
+SKRIEMELT_MUST_USE
+skriemelt_why_answer skriemelt_why(const uint8_t *payload, size_t payload_bytes, uint32_t object, uint32_t block, uint32_t byte);
+
 /* A sentence for a refusal; never NULL. */
 SKRIEMELT_INLINE const char *skriemelt_refusal_text(unsigned refusal)
 {
@@ -554,6 +644,7 @@ SKRIEMELT_INLINE const char *skriemelt_refusal_text(unsigned refusal)
     case SKRIEMELT_NO_FIT: return "the written form is longer than its buffer or than 4,096 bytes";
     case SKRIEMELT_OUTSIDE: return "the payload does not lie within the store";
     case SKRIEMELT_LISTS: return "the lists differ in length, or the slots or answers of a batch do not fit their buffers";
+    case SKRIEMELT_NO_SUCH: return "there is no such object, block or byte";
     case SKRIEMELT_TOO_MANY: return "there are more than 65,536 payloads";
     case SKRIEMELT_BAD_LINE: return "a line of the catalogue cannot stand where it stands, or lines are missing at its end";
     case SKRIEMELT_SHORT_TEXT: return "the text is longer than its buffer";
@@ -567,6 +658,74 @@ SKRIEMELT_INLINE const uint8_t *skriemelt_record(const skriemelt_read_answer *an
     if (object >= answer->programme.objects || block >= answer->timing.blocks)
         return NULL;
     return records + SKRIEMELT_RECORD_STRIDE * ((size_t)object * answer->timing.blocks + block);
+}
+
+/* The name of a byte of a record, as a catalogue has it as a key; NULL where there is no such byte, or a byte of the time. */
+SKRIEMELT_INLINE const char *skriemelt_byte_name(unsigned byte)
+{
+    static const char *const names[SKRIEMELT_RECORD_BYTES] = {
+        "active", "class", "gain", "priority", "x", "y", "z", "distance", "width", "depth", "height", "zone", "elevation", "screen", "screen_factor", "screen_depth", "snap",
+        "divergence", "divergence_mode", "divergence_value", "precise", "precise_x", "precise_y", "precise_z"};
+
+    return byte < SKRIEMELT_RECORD_BYTES ? names[byte] : NULL;
+}
+
+/* The name that the standard prints for a field of a step; NULL where there is none. */
+SKRIEMELT_INLINE const char *skriemelt_field_name(unsigned field)
+{
+    static const char *const names[SKRIEMELT_FIELD_PRECISE_Z + 1] = {
+        NULL,
+        "b_object_not_active",
+        "object_gain_idx",
+        "object_gain_bits",
+        "b_default_object_priority",
+        "object_priority_bits",
+        "diff_pos3D_X_bits",
+        "diff_pos3D_Y_bits",
+        "diff_pos3D_Z_bits",
+        "pos3D_X_bits",
+        "pos3D_Y_bits",
+        "pos3D_Z_bits",
+        "b_object_distance_specified",
+        "b_object_at_infinity",
+        "distance_factor_idx",
+        "zone_constraints_idx",
+        "b_enable_elevation",
+        "object_size_idx",
+        "object_size_bits",
+        "object_width_bits",
+        "object_depth_bits",
+        "object_height_bits",
+        "b_object_use_screen_ref",
+        "screen_factor_bits",
+        "depth_factor_idx",
+        "b_object_snap",
+        "b_object_divergence",
+        "object_div_mode",
+        "object_div_table",
+        "object_div_code",
+        "ext_prec_pos_presence[]",
+        "ext_prec_pos3D_X",
+        "ext_prec_pos3D_Y",
+        "ext_prec_pos3D_Z"};
+
+    return field <= SKRIEMELT_FIELD_PRECISE_Z ? names[field] : NULL;
+}
+
+/* A word for a source: field, programme, default (of either table), nothing, block or object; NULL where there is none. */
+SKRIEMELT_INLINE const char *skriemelt_source_word(unsigned source)
+{
+    static const char *const words[SKRIEMELT_SOURCE_OBJECT + 1] = {NULL, "field", "programme", "default", "default", "nothing", "block", "object"};
+
+    return source <= SKRIEMELT_SOURCE_OBJECT ? words[source] : NULL;
+}
+
+/* What a step's difference adds, -4 to 3; 0 where there is none. */
+SKRIEMELT_INLINE int skriemelt_difference(const skriemelt_why_step *step)
+{
+    int bits = step->difference & 7;
+
+    return bits < 4 ? bits : bits - 8;
 }
 
 /* How many bytes of records a frame of a catalogue has: those of the next frame begin behind them. */

@@ -17,6 +17,7 @@
     text = skriemelt.write_catalogue(store, [(0, 45), (45, 12)], frames=[7, 8])  # what changed from update to update, lines of key=value
     for frame in skriemelt.read_catalogue(text):          # and every record back
         print(frame.frame, frame.refusal, frame.updates, [record.time for record in frame.records])
+    print(skriemelt.why(payload, 1, 0, "gain"))           # where the gain of object 1 in block 0 comes from, step by step, in sentences
 
 Fields hold the numbers of include/skriemelt.h under its names, so that nothing is lost between a read and a write; properties say what they mean. Objects
 but Before are frozen: `dataclasses.replace` gives changed ones. What the library reads is proved; this module hands it bytes and names what it answers.
@@ -27,6 +28,8 @@ frame and timing, so that they can be made by hand, moved to another frame or gi
 A catalogue has a line for each frame, with its refusal or its counts, under it one for each update, and under that one for each object that is not as it was in the update before, with the fields that changed; the first update,
 and one with another number of objects than the update before, has every field of every object. A catalogue too long for one call is written, and read, in pieces that each begin with a frame: a `Before`, given to one call after the other,
 carries the update before from piece to piece.
+
+Why a byte of a record is what it is, `why` says: its steps lead from that byte back, over the block before and the object before, to the field, the programme or the default that gave the value.
 
 The library is looked for when the first call needs it. The environment variable SKRIEMELT_LIBRARY names it (a path, or a name for the loader); if that is
 not set, it is looked for beside this file, as libskriemelt.so.3 where the loader looks, and by ctypes.util.find_library. Its version must have the major
@@ -48,13 +51,13 @@ from dataclasses import astuple, dataclass, field, fields, replace
 from typing import Any, Dict, Iterable, Iterator, List, Optional, Sequence, Tuple, Union
 
 __all__ = [
-    "Bed", "Before", "CatalogueFrame", "Content", "FRAME_SAMPLES", "INTERFACE", "Library", "LibraryError", "MOST_BEDS", "MOST_BLOCKS", "MOST_ENTRIES", "MOST_FRAME_TEXT_BYTES", "MOST_OBJECTS", "MOST_PAYLOAD_BYTES",
-    "MOST_RECORD_BYTES", "MOST_TEXT_BYTES", "MOST_TRIM_BYTES", "MOST_UNKNOWN", "ObjectClass", "Programme", "RECORD_BYTES", "RECORD_STRIDE", "RECORD_TIME",
-    "Record", "Refusal", "Refused", "Summary", "TRIM_CONFIGS", "TRIM_CONFIG_STRIDE", "TRIM_FIXED", "Tables", "Timing", "Trim", "TrimCarried", "TrimConfig", "TrimMode", "Update", "Zone", "default_library",
-    "list_text", "read", "read_batch", "read_catalogue", "summarise", "write", "write_catalogue",
+    "Bed", "Before", "CatalogueFrame", "Content", "FRAME_SAMPLES", "Field", "INTERFACE", "Library", "LibraryError", "MOST_BEDS", "MOST_BLOCKS", "MOST_ENTRIES", "MOST_FRAME_TEXT_BYTES", "MOST_OBJECTS", "MOST_PAYLOAD_BYTES",
+    "MOST_RECORD_BYTES", "MOST_STEPS", "MOST_TEXT_BYTES", "MOST_TRIM_BYTES", "MOST_UNKNOWN", "ObjectClass", "Programme", "RECORD_BYTES", "RECORD_STRIDE", "RECORD_TIME",
+    "Record", "Refusal", "Refused", "Source", "Summary", "TRIM_CONFIGS", "TRIM_CONFIG_STRIDE", "TRIM_FIXED", "Tables", "Timing", "Trim", "TrimCarried", "TrimConfig", "TrimMode", "Update", "Why", "WhyStep", "Zone",
+    "default_library", "list_text", "read", "read_batch", "read_catalogue", "summarise", "why", "write", "write_catalogue",
 ]
 
-INTERFACE = 3002  # the version of the C interface that is needed: a thousand times the major number, plus the minor
+INTERFACE = 3003  # the version of the C interface that is needed: a thousand times the major number, plus the minor
 
 MOST_PAYLOAD_BYTES = 4096
 MOST_RECORD_BYTES = 40960
@@ -66,6 +69,7 @@ MOST_UNKNOWN = 46
 MOST_TEXT_BYTES = 100000  # the listing of every payload fits
 MOST_ENTRIES = 65536  # payloads of a summary
 MOST_FRAME_TEXT_BYTES = 338558  # all lines of a frame in a catalogue fit
+MOST_STEPS = 166  # of an answer why
 FRAME_SAMPLES = 1536  # samples of a frame
 RECORD_STRIDE = 32  # bytes of a record: those that the payload gives, and its time
 RECORD_BYTES = 24
@@ -80,6 +84,7 @@ TRIM_CONFIGS = 9
 TRIM_CONFIG_STRIDE = 10
 
 _MOST_FRAME = (1 << 32) - 1
+_MOST_ASKED = (1 << 32) - 1  # object, block and byte
 _MOST_TIME = (1 << 64) - 1
 _BATCH_ROOM = 1 << 23  # bytes that a batch borrows at once; longer lists are read in several calls
 
@@ -106,6 +111,7 @@ class Refusal(enum.IntEnum):
     NO_FIT = 11
     OUTSIDE = 12
     LISTS = 13
+    NO_SUCH = 14
     TOO_MANY = 16
     BAD_LINE = 17
     SHORT_TEXT = 18
@@ -157,6 +163,69 @@ class TrimCarried(enum.IntFlag):
     LIS = 16
 
 
+class Source(enum.IntEnum):
+    """Where a byte of a record comes from. BLOCK and OBJECT lead to another step, all others end the chain."""
+
+    FIELD = 1  # a field, the last one that was read for it
+    PROGRAMME = 2
+    BASIC_DEFAULT = 3  # a default of Table 28
+    RENDER_DEFAULT = 4  # a default of Table 29
+    NOTHING = 5  # nothing is carried for it
+    BLOCK = 6  # the block before; with a difference, moved by it
+    OBJECT = 7  # the object before
+
+
+class Field(enum.IntEnum):
+    """The fields that a byte of a record can come from, in the order in which they are sent; standard_name is what the standard calls them."""
+
+    NOT_ACTIVE = 1
+    GAIN_IDX = 2
+    GAIN_BITS = 3
+    DEFAULT_PRIORITY = 4
+    PRIORITY_BITS = 5
+    DIFF_X = 6
+    DIFF_Y = 7
+    DIFF_Z = 8
+    X = 9
+    Y = 10
+    Z = 11
+    DISTANCE_SPECIFIED = 12
+    AT_INFINITY = 13
+    DISTANCE_IDX = 14
+    ZONE_IDX = 15
+    ELEVATION = 16
+    SIZE_IDX = 17
+    SIZE_BITS = 18
+    WIDTH = 19
+    DEPTH = 20
+    HEIGHT = 21
+    SCREEN_REF = 22
+    SCREEN_FACTOR = 23
+    DEPTH_IDX = 24
+    SNAP = 25
+    DIVERGENCE = 26
+    DIV_MODE = 27
+    DIV_TABLE = 28
+    DIV_CODE = 29
+    PRESENCE = 30
+    PRECISE_X = 31
+    PRECISE_Y = 32
+    PRECISE_Z = 33
+
+    @property
+    def standard_name(self) -> str:
+        """The field's name in the standard."""
+        return _FIELD_NAMES[self - 1]
+
+
+_FIELD_NAMES = (
+    "b_object_not_active", "object_gain_idx", "object_gain_bits", "b_default_object_priority", "object_priority_bits", "diff_pos3D_X_bits", "diff_pos3D_Y_bits", "diff_pos3D_Z_bits", "pos3D_X_bits",
+    "pos3D_Y_bits", "pos3D_Z_bits", "b_object_distance_specified", "b_object_at_infinity", "distance_factor_idx", "zone_constraints_idx", "b_enable_elevation", "object_size_idx", "object_size_bits",
+    "object_width_bits", "object_depth_bits", "object_height_bits", "b_object_use_screen_ref", "screen_factor_bits", "depth_factor_idx", "b_object_snap", "b_object_divergence", "object_div_mode",
+    "object_div_table", "object_div_code", "ext_prec_pos_presence[]", "ext_prec_pos3D_X", "ext_prec_pos3D_Y", "ext_prec_pos3D_Z",
+)
+
+
 # What each refusal is given for, and what its place counts.
 _MEANINGS = {
     Refusal.TOO_LONG: ("the payload is longer than 4,096 bytes", "its length in bytes"),
@@ -172,6 +241,7 @@ _MEANINGS = {
     Refusal.NO_FIT: ("the form is longer than its room or than 4,096 bytes", "the bytes needed"),
     Refusal.OUTSIDE: ("start and length leave the store", "the start in bytes"),
     Refusal.LISTS: ("the lists differ in length, or the slots or answers of a batch do not fit", "the number of starts"),
+    Refusal.NO_SUCH: ("there is no such object, block or byte", "1 the object, 2 the block, 3 the byte"),
     Refusal.TOO_MANY: ("there are more than 65,536 payloads", "their number"),
     Refusal.BAD_LINE: ("a line of the catalogue cannot stand where it does", "the number of that line, from 1; one past the last if lines are missing at the end"),
     Refusal.SHORT_TEXT: ("the text is longer than its room", "the bytes needed"),
@@ -746,6 +816,74 @@ class CatalogueFrame:
         return self.records[_record_index(number, self.objects, block, self.blocks)]
 
 
+# ---- reasons
+
+
+@dataclass(frozen=True)
+class WhyStep:
+    """The byte in a block of an object, and where it comes from."""
+
+    object: int
+    block: int
+    value: int  # the byte of their record
+    source: Source
+    field: Optional[Field] = None  # with FIELD, and with BLOCK if the value is moved
+    bit: Optional[int] = None  # the field's first bit, counted from 0 at the top bit of the payload's first byte
+    difference: Optional[int] = None  # with BLOCK, if the value is moved: by how much, -4 to 3, before it is held within its range
+
+    @property
+    def reason(self) -> str:
+        """Where the value comes from, in words."""
+        named = f"{self.field.standard_name} at bit {self.bit}" if self.field is not None else ""
+        if self.difference is not None:
+            return f"that of the block before, moved by {self.difference:+d} ({named})"
+        return named or _REASONS[self.source]
+
+
+_REASONS = {
+    Source.FIELD: "a field",
+    Source.PROGRAMME: "the programme",
+    Source.BASIC_DEFAULT: "a default of Table 28",
+    Source.RENDER_DEFAULT: "a default of Table 29",
+    Source.NOTHING: "nothing is carried for it",
+    Source.BLOCK: "that of the block before",
+    Source.OBJECT: "that of the object before",
+}
+
+
+@dataclass(frozen=True)
+class Why:
+    """Why a byte of a record is what it is: the steps from it back to the value that it stems from. As a str, a sentence for each."""
+
+    name: str  # of the byte, as in Record
+    steps: Tuple[WhyStep, ...]  # 1 to MOST_STEPS; each leads to the next, by BLOCK or OBJECT, and the last does not
+
+    @property
+    def value(self) -> int:
+        """The byte that was asked for."""
+        return self.steps[0].value
+
+    @property
+    def origin(self) -> WhyStep:
+        """The last step: what gave the value, differences on the way aside."""
+        return self.steps[-1]
+
+    def __str__(self) -> str:
+        name = self.name.rstrip("_")
+        return "\n".join(f"{name} of object {step.object} in block {step.block} is {step.value}: {step.reason}." for step in self.steps)
+
+
+def _byte_number(byte: Union[int, str]) -> int:
+    """The number of a byte that is given by its number or its name; 'class' is class_, too."""
+    if not isinstance(byte, str):
+        return _number(byte, _MOST_ASKED, "byte")
+    if byte in _RECORD_NAMES:
+        return _RECORD_NAMES.index(byte)
+    if byte == "class":
+        return _RECORD_NAMES.index("class_")
+    raise ValueError(f"byte is {byte!r}, but must be a number or one of {', '.join(_RECORD_NAMES)}")
+
+
 # ---- the C interface
 
 
@@ -823,6 +961,20 @@ class _CatalogueFrame(ctypes.Structure):
     ]
 
 
+class _WhyStep(ctypes.Structure):
+    _fields_ = [("bit", ctypes.c_uint32)] + [(name, ctypes.c_uint8) for name in ("object", "block", "value", "source", "field", "difference")]
+
+
+class _WhyAnswer(ctypes.Structure):
+    _fields_ = [
+        ("place", ctypes.c_uint64),
+        ("missing", ctypes.c_uint32),
+        ("refusal", ctypes.c_uint8),
+        ("count", ctypes.c_uint8),
+        ("steps", _WhyStep * MOST_STEPS),
+    ]
+
+
 _SLICE = [ctypes.c_void_p, ctypes.c_size_t]
 _READ = (_ReadAnswer, _SLICE + [ctypes.c_uint32] + _SLICE * 2)
 _WRITE = (_WriteAnswer, [_Programme, _Timing, ctypes.c_uint32] + _SLICE * 3)
@@ -831,6 +983,7 @@ _SUMMARISE = (_Summary, _SLICE * 3)
 _LIST_TEXT = (_WriteAnswer, _SLICE * 2)
 _WRITE_CATALOGUE = (_CatalogueAnswer, _SLICE * 6)
 _READ_CATALOGUE = (_BackAnswer, _SLICE * 4)
+_WHY = (_WhyAnswer, _SLICE + [ctypes.c_uint32] * 3)
 _SONAME = f"libskriemelt.so.{INTERFACE // 1000}"
 
 
@@ -857,6 +1010,7 @@ class Library:
         self._list_text = self._function("skriemelt_list_text", *_LIST_TEXT)
         self._write_catalogue = self._function("skriemelt_catalogue_write_on", *_WRITE_CATALOGUE)
         self._read_catalogue = self._function("skriemelt_catalogue_read_on", *_READ_CATALOGUE)
+        self._why = self._function("skriemelt_why", *_WHY)
 
     def _function(self, name: str, result: Any, arguments: List[Any]) -> Any:
         try:
@@ -1159,3 +1313,28 @@ def read_catalogue(text: Union[str, BytesLike], before: Optional[Before] = None,
         at += len(raw)
     carried._keep(lent)
     return frames
+
+
+def _step_of(step: Any) -> WhyStep:
+    """A step of the library's answer."""
+    source, named = Source(step.source), Field(step.field) if step.field else None
+    if named is None:
+        return WhyStep(step.object, step.block, step.value, source)
+    difference = (step.difference ^ 4) - 4 if source is Source.BLOCK else None  # two's complement of 3 bits
+    return WhyStep(step.object, step.block, step.value, source, named, step.bit, difference)
+
+
+def why(payload: BytesLike, object: int, block: int, byte: Union[int, str], *, library: Optional[Library] = None) -> Why:
+    """Why a byte of the record of an object and a block is what it is. Objects and blocks are counted from 0; the byte is a number, 0 to 23, or a name of Record.
+
+    Refused as in `read` (1 to 8) if the payload is, then with NO_SUCH: there is no such object (place 1), block (2) or byte (3). ValueError for a number that 32 bits cannot hold, and for a name that Record has not; its
+    time is not asked about. The payload is gone through anew with each call: for many questions about one payload that is slow.
+    """
+    data = _bytes_of(payload, "payload")
+    asked = (_number(object, _MOST_ASKED, "object"), _number(block, _MOST_ASKED, "block"), _byte_number(byte))
+    lib = library or default_library()
+    answer = lib._why(data, len(data), *asked)
+    if answer.refusal:
+        missing = f"no {('object', 'block', 'byte')[answer.place - 1]} {asked[answer.place - 1]}" if answer.refusal == Refusal.NO_SUCH else ""
+        raise Refused(answer.refusal, answer.place, answer.missing, missing)
+    return Why(_RECORD_NAMES[asked[2]], tuple(_step_of(step) for step in answer.steps[:answer.count]))

@@ -1,11 +1,14 @@
 //! The promises of the requirements held against answers, without a second reader.
 
 pub mod length;
+mod why;
 
 use self::length::form_bytes;
 use crate::gen::{timed, Case, TableCase};
 use crate::plain::{needed, read, trim_needed, write};
 use crate::plain::{Answer, Record, WriteAnswer, RECORD_STRIDE};
+
+pub use self::why::check_why;
 
 /// Fails with a message.
 macro_rules! ensure {

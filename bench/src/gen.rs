@@ -3,6 +3,7 @@
 //! payloads are composed from the clauses anew, and where the generator knows
 //! the answer it says so.
 
+mod chain;
 mod damage;
 mod draft;
 pub mod edges;
@@ -25,6 +26,7 @@ use crate::plain::{Programme, Timing};
 use marks::Marks;
 use rng::Rng;
 
+pub use chain::longest_chain;
 pub use tables::longest;
 pub use timing::timed;
 

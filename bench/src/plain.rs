@@ -9,6 +9,7 @@ mod bits;
 mod catalogue;
 mod extended;
 mod object;
+mod origin;
 mod put;
 mod reader;
 mod record;
@@ -16,11 +17,13 @@ mod sink;
 mod summary;
 mod trim;
 mod valid;
+mod why;
 mod writer;
 
 #[cfg(test)]
 mod canonical_tests;
 
+use origin::Silent;
 use reader::{Scratch, Tables};
 use record::times;
 
@@ -29,6 +32,7 @@ pub use catalogue::{read_catalogue, read_catalogue_on, write_catalogue, write_ca
 pub use catalogue::{BackAnswer, CatalogueAnswer, BEFORE_BYTES, LINE_BYTES};
 pub use record::{Record, FRAME_SAMPLES, RECORD_BYTES, RECORD_STRIDE};
 pub use summary::{summarise, Summary, MAX_ENTRIES};
+pub use why::{why, Reasons, WhyAnswer, WhyStep, MAX_STEPS};
 
 /// Longest payload in bytes (house rule).
 pub const MAX_PAYLOAD: usize = 4096;
@@ -61,6 +65,7 @@ pub mod refusal {
     pub const FORM: u32 = 11;
     pub const OUTSIDE: u32 = 12;
     pub const LISTS: u32 = 13;
+    pub const NO_SUCH: u32 = 14;
     pub const MANY: u32 = 16;
     pub const BAD_LINE: u32 = 17;
     pub const SHORT_TEXT: u32 = 18;
@@ -167,7 +172,8 @@ pub fn read(payload: &[u8], frame: u32, records: &mut [u8], trim: &mut [u8]) -> 
         records: [[0; RECORD_BYTES]; MAX_RECORDS],
         trim: [0; MAX_TRIM_BYTES],
     };
-    match reader::payload(payload, (records.len(), trim.len()), &mut scratch) {
+    let rooms = (records.len(), trim.len());
+    match reader::payload(payload, rooms, &mut scratch, &mut Silent) {
         Ok(tables) => {
             lay_records(&scratch.records, frame, &tables, records);
             let bytes = trim_needed(&tables.programme);

@@ -129,6 +129,30 @@ pub struct CatalogueBefore {
     pub rows: [u8; 3816],
 }
 
+/// skriemelt_why_step.
+#[repr(C)]
+#[derive(Clone, Copy, Debug, Default, PartialEq, Eq)]
+pub struct WhyStep {
+    pub bit: u32,
+    pub object: u8,
+    pub block: u8,
+    pub value: u8,
+    pub source: u8,
+    pub field: u8,
+    pub difference: u8,
+}
+
+/// skriemelt_why_answer.
+#[repr(C)]
+#[derive(Clone, Copy, Debug)]
+pub struct WhyAnswer {
+    pub place: u64,
+    pub missing: u32,
+    pub refusal: u8,
+    pub count: u8,
+    pub steps: [WhyStep; 166],
+}
+
 const _: () = {
     use core::mem::{align_of, offset_of, size_of};
     assert!(size_of::<Bed>() == 8 && align_of::<Bed>() == 4);
@@ -175,6 +199,15 @@ const _: () = {
     assert!(size_of::<CatalogueBefore>() == 3817 && align_of::<CatalogueBefore>() == 1);
     assert!(offset_of!(CatalogueBefore, objects) == 0 && offset_of!(CatalogueBefore, rows) == 1);
     assert!(size_of::<CatalogueBefore>() == plain::BEFORE_BYTES);
+    assert!(size_of::<WhyStep>() == 12 && align_of::<WhyStep>() == 4);
+    assert!(offset_of!(WhyStep, bit) == 0 && offset_of!(WhyStep, object) == 4);
+    assert!(offset_of!(WhyStep, block) == 5 && offset_of!(WhyStep, value) == 6);
+    assert!(offset_of!(WhyStep, source) == 7 && offset_of!(WhyStep, field) == 8);
+    assert!(offset_of!(WhyStep, difference) == 9);
+    assert!(size_of::<WhyAnswer>() == 2008 && align_of::<WhyAnswer>() == 8);
+    assert!(offset_of!(WhyAnswer, place) == 0 && offset_of!(WhyAnswer, missing) == 8);
+    assert!(offset_of!(WhyAnswer, refusal) == 12 && offset_of!(WhyAnswer, count) == 13);
+    assert!(offset_of!(WhyAnswer, steps) == 16);
 };
 
 #[cfg(not(feature = "served"))]
@@ -187,7 +220,7 @@ use linked as library;
 #[cfg(feature = "served")]
 use served as library;
 
-pub use library::{read, read_batch, summarise, version, write};
+pub use library::{read, read_batch, summarise, version, why, write};
 pub use library::{read_catalogue, read_catalogue_on, write_catalogue, write_catalogue_on};
 
 impl From<&plain::Programme> for Programme {
@@ -272,6 +305,31 @@ impl BackAnswer {
             frames: self.frames,
             bytes: self.bytes,
         }
+    }
+}
+
+impl WhyAnswer {
+    /// The same answer in the plain reader's types, every field of it; none if there are more steps than there can be, or one behind them is not all 0.
+    pub fn plain(&self) -> Option<plain::WhyAnswer> {
+        let (used, unused) = self.steps.split_at_checked(self.count.into())?;
+        if unused.iter().any(|step| *step != WhyStep::default()) {
+            return None;
+        }
+        let steps = used.iter().map(|s| plain::WhyStep {
+            object: s.object,
+            block: s.block,
+            value: s.value,
+            source: s.source,
+            field: s.field,
+            bit: s.bit,
+            difference: s.difference,
+        });
+        Some(plain::WhyAnswer {
+            refusal: self.refusal.into(),
+            place: self.place,
+            missing: self.missing,
+            steps: steps.collect(),
+        })
     }
 }
 

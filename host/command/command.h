@@ -13,13 +13,13 @@
 
 /* What a subcommand was asked for. */
 typedef struct request {
-    int people;         /* list: a table for people, not the listing; summary: bars, not lines key=value */
+    int people;         /* list: a table for people, not the listing; summary: bars, not lines key=value; why: sentences, not lines */
     int trim;           /* the trim table's fields too */
-    int progress;       /* all but list: progress on standard error, terminal or not */
+    int progress;       /* all but list and why: progress on standard error, terminal or not */
     unsigned long rate; /* samples in a second, for milliseconds */
     int framed;         /* the first frame was given */
     uint64_t first;     /* the frame of the first payload; those behind it count on */
-    char **names;       /* the files, none for standard input */
+    char **names;       /* the files, none for standard input; why: one, and behind it object, block and byte */
     int name_count;
 } request;
 
@@ -33,6 +33,10 @@ typedef struct reading {
     uint32_t frame;
     const uint8_t *records, *trim;
 } reading;
+
+/* skriemelt.c: what was asked for. */
+int misuse(const char *what, const char *why); /* complained of, with a word on help; STATUS_FAILED */
+unsigned long long number_of(const char *digits, unsigned long long most, unsigned long long otherwise); /* if they are one and not above the most; else another one */
 
 /* complain.c: a message on standard error, "skriemelt: WHAT: WHY", with the error's text behind it if there is one (0: none). STATUS_FAILED. */
 int complain(const char *what, const char *why, int error);
@@ -58,6 +62,12 @@ FILE *input_open(const char *name);           /* NULL: complained of */
 int input_close(FILE *in, const char *name);  /* whether all that was asked for could be read; else complained of */
 int input_is_standard(const char *name);
 
+/* One byte more than a payload may have, so that a longer one is told. */
+#define LOOKED_AT (SKRIEMELT_MOST_PAYLOAD_BYTES + 1)
+
+/* A file that is one payload, of which LOOKED_AT bytes are read; whether it could be read, else complained of. */
+int input_payload_file(const char *name, uint8_t *payload, size_t *payload_bytes);
+
 /* A file that is gone through twice. Of one that cannot be, a pipe, a copy is made first, in a temporary file, with progress. */
 FILE *input_open_twice(const request *asked, const char *name, fpos_t *begin); /* NULL: complained of */
 int input_again(FILE *in, const char *name, const fpos_t *begin);              /* back to where it began; whether it is there, else complained of */
@@ -82,15 +92,19 @@ ending input_segment(FILE *in, segment *s, size_t most, uint64_t frame);
 /* Complains of a file that ended otherwise than behind a payload, with that payload's number and what is therefore not done ("": all was done). STATUS_FAILED. */
 int input_broken(const char *name, ending how, unsigned long long payload, const char *therefore);
 
-/* list.c, shelf.c, summary.c, catalogue.c, records.c: the status. */
+/* list.c, shelf.c, summary.c, catalogue.c, records.c, why.c: the status. */
 int run_list(const request *asked);
 int run_shelf(const request *asked);
 int run_summary(const request *asked);
 int run_catalogue(const request *asked);
 int run_records(const request *asked);
+int run_why(const request *asked);
 
 /* people.c, trim.c: what was read. */
+const char *class_name(unsigned class_number);
 const char *zone_name(unsigned zone);
+void distance_cell(unsigned distance, char *cell, size_t room);
+void print_reason(const skriemelt_read_answer *a); /* why a read was refused, and where: the rest of a line */
 void print_samples(uint64_t samples, unsigned long rate); /* a number of samples, and as hours, minutes and seconds */
 void print_people(const reading *r, unsigned long rate);
 void print_trim(const reading *r);        /* lines trim.FIELD=VALUE of what is carried */

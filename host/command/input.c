@@ -138,3 +138,13 @@ int input_close(FILE *in, const char *name)
         fclose(in);
     return readable;
 }
+
+int input_payload_file(const char *name, uint8_t *payload, size_t *payload_bytes)
+{
+    FILE *in = input_open(name);
+
+    if (in == NULL)
+        return 0;
+    *payload_bytes = fread(payload, 1, LOOKED_AT, in);
+    return input_close(in, name);
+}

@@ -1,9 +1,6 @@
 /* skriemelt list: each file is one payload. */
 #include "command.h"
 
-/* One byte more than a payload may have, so that a longer one is told. */
-#define LOOKED_AT (SKRIEMELT_MOST_PAYLOAD_BYTES + 1)
-
 static void print_listing(const uint8_t *payload, size_t payload_bytes)
 {
     static uint8_t text[SKRIEMELT_MOST_TEXT_BYTES];
@@ -38,16 +35,11 @@ static int print_payload(const request *asked, uint32_t frame, const uint8_t *pa
 static int list_file(const request *asked, uint64_t frame, const char *name)
 {
     static uint8_t payload[LOOKED_AT];
-    FILE *in;
     size_t payload_bytes;
 
     if (frame > MOST_FRAME)
         return complain(input_title(name), "there is no frame number left for it", 0);
-    in = input_open(name);
-    if (in == NULL)
-        return STATUS_FAILED;
-    payload_bytes = fread(payload, 1, sizeof payload, in);
-    if (!input_close(in, name))
+    if (!input_payload_file(name, payload, &payload_bytes))
         return STATUS_FAILED;
     if (asked->name_count > 1)
         print_name("file", name);

@@ -5,7 +5,7 @@
 
 #define CELL 24
 
-static const char *class_name(unsigned class_number)
+const char *class_name(unsigned class_number)
 {
     static const char *const names[3] = {"bed", "ISF", "dynamic"};
 
@@ -73,16 +73,16 @@ static void gain_cell(const uint8_t *record, char *cell)
 }
 
 /* Table 15. */
-static void distance_cell(unsigned distance, char *cell)
+void distance_cell(unsigned distance, char *cell, size_t room)
 {
     static const double factors[16] = {1.1, 1.3, 1.6, 2.0, 2.5, 3.2, 4.0, 5.0, 6.3, 7.9, 10.0, 12.6, 15.8, 20.0, 25.1, 50.1};
 
     if (distance == 0)
-        snprintf(cell, CELL, "in room");
+        snprintf(cell, room, "in room");
     else if (distance == 1)
-        snprintf(cell, CELL, "infinity");
+        snprintf(cell, room, "infinity");
     else
-        snprintf(cell, CELL, "x %.1f", factors[(distance - 2) & 15]);
+        snprintf(cell, room, "x %.1f", factors[(distance - 2) & 15]);
 }
 
 /* 5.6.1.1.19 and Table 16. */
@@ -129,7 +129,7 @@ static void print_place(const uint8_t *record)
 {
     char distance[CELL], screen[CELL], divergence[CELL];
 
-    distance_cell(record[SKRIEMELT_RECORD_DISTANCE], distance);
+    distance_cell(record[SKRIEMELT_RECORD_DISTANCE], distance, CELL);
     screen_cell(record, screen);
     divergence_cell(record, divergence);
     print(" %6.3f %6.3f %6.3f", skriemelt_x(record), skriemelt_y(record), skriemelt_z(record));
@@ -185,15 +185,13 @@ static void print_blocks(const reading *r, unsigned long rate)
     }
 }
 
-static void print_refused(const reading *r)
+void print_reason(const skriemelt_read_answer *a)
 {
-    const skriemelt_read_answer *a = &r->answer;
     const char *unit = a->refusal == SKRIEMELT_TOO_LONG ? "bytes looked at" : "bit";
 
     print("refused (%u): %s; %s %llu", a->refusal, skriemelt_refusal_text(a->refusal), unit, (unsigned long long)a->place);
     if (a->refusal == SKRIEMELT_PAST_PAYLOAD)
         print(", %lu bits missing", (unsigned long)a->missing);
-    print("; frame %lu\n", (unsigned long)r->frame);
 }
 
 void print_people(const reading *r, unsigned long rate)
@@ -202,7 +200,8 @@ void print_people(const reading *r, unsigned long rate)
     skriemelt_counts counts = skriemelt_counts_of(&a->programme);
 
     if (a->refusal != SKRIEMELT_ACCEPTED) {
-        print_refused(r);
+        print_reason(a);
+        print("; frame %lu\n", (unsigned long)r->frame);
         return;
     }
     print("accepted: %u objects (%u bed, %u ISF, %u dynamic), %u blocks, %u unknown elements; frame %lu\n", a->programme.objects, counts.bed, counts.isf, counts.dynamic,

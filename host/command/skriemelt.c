@@ -18,6 +18,7 @@ static const char general_help[] =
     "       skriemelt summary [--people] [--rate HZ] [--progress] [FILE]\n"
     "       skriemelt catalogue [--first N] [--progress] [FILE]\n"
     "       skriemelt records [--progress] [TEXT]\n"
+    "       skriemelt why [--people] FILE OBJECT BLOCK BYTE\n"
     "       skriemelt SUBCOMMAND --help\n"
     "       skriemelt --help | --version\n"
     "\n"
@@ -27,6 +28,7 @@ static const char general_help[] =
     "  summary    FILE is as for shelf: counts its records by gain, zone, class and activity, late blocks, and payloads by refusal\n"
     "  catalogue  FILE is as for shelf: prints its catalogue, what has changed from update to update\n"
     "  records    TEXT is a catalogue: prints all records again, as listings\n"
+    "  why        FILE is one payload: prints where a byte of a record comes from, step by step\n"
     "\n"
     "Exit status: 0 all accepted, 1 something was refused, 2 usage, or a file that cannot be read or written.\n";
 
@@ -76,6 +78,23 @@ static const char records_help[] =
     "which cannot stand where it stands, or ends too early: exit status 1, and a message with the line's number. The text may have any length.\n"
     "  --progress  progress on standard error, also where that is no terminal\n";
 
+static const char why_help[] =
+    "usage: skriemelt why [--people] FILE OBJECT BLOCK BYTE\n"
+    "\n"
+    "FILE (-: standard input) is one payload, of which at most 4,097 bytes are looked at. Prints why a byte of the record of an object and a block is what it is: where\n"
+    "it comes from, and where that comes from, step by step. OBJECT and BLOCK are counted from 0. BYTE is a number from 0 to 23, or one of\n"
+    "  active class gain priority x y z distance width depth height zone elevation screen screen_factor screen_depth snap\n"
+    "  divergence divergence_mode divergence_value precise precise_x precise_y precise_z\n"
+    "Lines key=value: refusal, place, with refusal 2 missing; and for each step step=OBJECT,BLOCK,VALUE with\n"
+    "  ,field,NAME,BIT             a field of the payload gives it: its name in the standard, and its first bit\n"
+    "  ,programme                  the programme gives it\n"
+    "  ,default,28 or ,default,29  it is a default of that table\n"
+    "  ,nothing                    nothing is carried for it\n"
+    "  ,block                      it is that of the block before: the next step\n"
+    "  ,block,NAME,BIT,DIFFERENCE  the same, moved by the difference that this field gives, and held within its range\n"
+    "  ,object                     it is that of the object before: the next step\n"
+    "  --people   a sentence for each step\n";
+
 /* The options that a subcommand may have, a bit each; option_of has their names in this order. */
 enum { PEOPLE = 1, TRIM = 2, RATE = 4, FIRST = 8, PROGRESS = 16 };
 
@@ -90,9 +109,10 @@ static const struct subcommand {
     {"summary", summary_help, run_summary, 1, PEOPLE | RATE | PROGRESS},
     {"catalogue", catalogue_help, run_catalogue, 1, FIRST | PROGRESS},
     {"records", records_help, run_records, 1, PROGRESS},
+    {"why", why_help, run_why, 4, PEOPLE},
 };
 
-static int misuse(const char *what, const char *why)
+int misuse(const char *what, const char *why)
 {
     complain(what, why, 0);
     fputs("Try 'skriemelt --help'.\n", stderr);
@@ -105,8 +125,7 @@ static const char *take_value(char ***arguments)
     return (*arguments)[1] == NULL ? NULL : *++*arguments;
 }
 
-/* The number that digits stand for, if they do and it is not above the most; else another one. */
-static unsigned long long number_of(const char *digits, unsigned long long most, unsigned long long otherwise)
+unsigned long long number_of(const char *digits, unsigned long long most, unsigned long long otherwise)
 {
     char *end;
     unsigned long long number;
@@ -161,7 +180,7 @@ static int run_asked(const struct subcommand *s, const request *asked)
     if (asked->framed && s->run == run_list && !asked->people)
         return misuse("--first", "needs --people: the listing is of frame 0");
     if (s->most_names >= 0 && asked->name_count > s->most_names)
-        return misuse(asked->names[s->most_names], "one file too many");
+        return misuse(asked->names[s->most_names], s->run == run_why ? "one word too many" : "one file too many");
     return s->run(asked);
 }
 
@@ -191,7 +210,7 @@ static int run(char **arguments)
     size_t i;
 
     if (arguments[0] == NULL)
-        return misuse("no subcommand", "list, shelf, summary, catalogue or records");
+        return misuse("no subcommand", "list, shelf, summary, catalogue, records or why");
     if (strcmp(arguments[0], "--help") == 0) {
         print("%s", general_help);
         return STATUS_ACCEPTED;

@@ -30,7 +30,8 @@ VECTORS = ROOT / "crates" / "vectors"
 sys.path.insert(0, str(HERE.parent))
 
 import skriemelt  # noqa: E402
-from skriemelt import Bed, Before, CatalogueFrame, Content, ObjectClass, Programme, Record, Refusal, Refused, Summary, Tables, Timing, Trim, TrimConfig, TrimMode, Update, Zone  # noqa: E402
+from skriemelt import (  # noqa: E402
+    Bed, Before, CatalogueFrame, Content, Field, ObjectClass, Programme, Record, Refusal, Refused, Source, Summary, Tables, Timing, Trim, TrimConfig, TrimMode, Update, Why, WhyStep, Zone)
 
 SAMPLE = (ROOT / "samples" / "three-objects.oamd").read_bytes()
 
@@ -848,6 +849,143 @@ class Carried(Case):
             self.assertRaisesRegex(TypeError, "before must be a Before", skriemelt.write_catalogue, b"", [], [], bad)
 
 
+# Two dynamic objects in two blocks, with an extended element; the bits are counted by hand.
+TWO = bytes.fromhex("03084200400129482a542058ea818ff80f081c4c0522d0d000")
+
+
+def ended(number, block, value, field, bit):
+    """A step that ends with a field."""
+    return WhyStep(number, block, value, Source.FIELD, field, bit)
+
+
+def led(number, block, value, source=Source.BLOCK):
+    """A step that has no field."""
+    return WhyStep(number, block, value, source)
+
+
+class Whys(Case):
+    """Where a byte of a record comes from."""
+
+    WORKED = {
+        (1, 1, "gain"): (led(1, 1, 44), led(1, 0, 44, Source.OBJECT), ended(0, 0, 44, Field.GAIN_BITS, 54)),
+        (0, 1, "x"): (WhyStep(0, 1, 0, Source.BLOCK, Field.DIFF_X, 98, -3), ended(0, 0, 1, Field.X, 61)),
+        (0, 1, "y"): (WhyStep(0, 1, 22, Source.BLOCK, Field.DIFF_Y, 101, 2), ended(0, 0, 20, Field.Y, 67)),
+        (0, 1, "z"): (WhyStep(0, 1, 65, Source.BLOCK, Field.DIFF_Z, 104, -4), ended(0, 0, 69, Field.Z, 74)),
+        (1, 0, "x"): (ended(1, 0, 62, Field.X, 119),),
+        (0, 1, "zone"): (led(0, 1, 0), ended(0, 0, 0, Field.ZONE_IDX, 79)),
+        (0, 1, "snap"): (ended(0, 1, 0, Field.SNAP, 108),),
+        (0, 0, "class_"): (led(0, 0, 2, Source.PROGRAMME),),
+        (0, 0, "divergence"): (ended(0, 0, 0, Field.DIVERGENCE, 175),),
+        (0, 0, "divergence_mode"): (led(0, 0, 0, Source.NOTHING),),
+        (0, 1, "divergence_value"): (ended(0, 1, 33, Field.DIV_CODE, 179),),
+        (1, 0, "divergence_value"): (led(1, 0, 0, Source.NOTHING),),
+    }
+
+    def test_worked(self):
+        for (number, block, name), steps in self.WORKED.items():
+            with self.subTest(object=number, block=block, name=name):
+                answer = skriemelt.why(TWO, number, block, name)
+                self.assertEqual(answer, Why(name, steps))
+                self.assertEqual((answer.value, answer.origin), (steps[0].value, steps[-1]))
+
+    def test_defaults(self):
+        self.assertEqual(skriemelt.why(SAMPLE, 2, 1, "gain").steps, (led(2, 1, 0), led(2, 0, 0, Source.BASIC_DEFAULT)))
+        self.assertEqual(skriemelt.why(SAMPLE, 0, 1, "elevation").steps, (led(0, 1, 1, Source.RENDER_DEFAULT),))
+
+    def test_names_and_numbers(self):
+        for byte, name in enumerate(skriemelt._RECORD_NAMES):
+            self.assertEqual(skriemelt.why(SAMPLE, 1, 1, byte), skriemelt.why(SAMPLE, 1, 1, name))
+            self.assertEqual(skriemelt.why(SAMPLE, 1, 1, byte).name, name)
+        self.assertEqual(skriemelt.why(SAMPLE, 1, 1, "class"), skriemelt.why(SAMPLE, object=1, block=1, byte="class_"))
+
+    def test_every_byte_of_every_vector(self):
+        """The first value is the record's, each step leads to the next, and values stay on the way unless they are moved."""
+        for payload, expected in zip(PAYLOADS, EXPECTED):
+            if expected.number("refusal") or not expected.rows("record") or len(expected.rows("record")) > 40:
+                continue
+            for number, block, digits in expected.rows("record"):
+                raw = bytes.fromhex(digits)
+                for byte in range(24):
+                    self.one_byte(skriemelt.why(payload, int(number), int(block), byte), int(number), int(block), raw[byte])
+
+    def one_byte(self, answer, number, block, value):
+        self.assertEqual((answer.steps[0].object, answer.steps[0].block, answer.value), (number, block, value))
+        self.assertLessEqual(len(answer.steps), number + block + 1)
+        self.assertNotIn(answer.origin.source, (Source.BLOCK, Source.OBJECT))
+        for step, behind in zip(answer.steps, answer.steps[1:]):
+            back = {Source.BLOCK: (step.object, step.block - 1), Source.OBJECT: (step.object - 1, step.block)}
+            self.assertEqual((behind.object, behind.block), back[step.source])
+            least, most = (49, 79) if answer.name == "z" else (0, 62)
+            self.assertEqual(step.value, behind.value if step.difference is None else max(least, min(most, behind.value + step.difference)))
+
+    def test_refused(self):
+        asked = {(2, 0, 0): 1, (0, 2, 24): 2, (0, 0, 24): 3, (2 ** 32 - 1,) * 3: 1, (256, 0, 0): 1, (0, 256, 0): 2, (0, 0, 256): 3}
+        for question, place in asked.items():
+            with self.subTest(question=question), self.assertRaises(Refused) as caught:
+                skriemelt.why(TWO, *question)
+            self.assertEqual((caught.exception.refusal, caught.exception.place, caught.exception.missing), (Refusal.NO_SUCH, place, 0))
+            self.assertIn(f"no {('object', 'block', 'byte')[place - 1]} {question[place - 1]}", str(caught.exception))
+        with self.assertRaises(Refused) as caught:
+            skriemelt.why(bytes.fromhex("0107c100"), 0, 0, 0)
+        self.assertEqual((caught.exception.number, caught.exception.place), (14, 2))
+
+    def test_refused_as_in_reading(self):
+        for payload, expected in zip(PAYLOADS, EXPECTED):
+            if expected.number("refusal"):
+                with self.assertRaises(Refused) as caught:
+                    skriemelt.why(payload, 200, 9, 99)
+                refused = caught.exception
+                self.assertEqual((refused.number, refused.place, refused.missing), tuple(expected.number(key) for key in ("refusal", "place", "missing")))
+
+    def test_questions_that_are_none(self):
+        for wrong in (-1, 2 ** 32):
+            self.assertRaisesRegex(ValueError, "object is", skriemelt.why, TWO, wrong, 0, 0)
+            self.assertRaisesRegex(ValueError, "block is", skriemelt.why, TWO, 0, wrong, 0)
+            self.assertRaisesRegex(ValueError, "byte is", skriemelt.why, TWO, 0, 0, wrong)
+        for wrong in (None, 1.0, "1"):
+            self.assertRaisesRegex(TypeError, "object must be an integer", skriemelt.why, TWO, wrong, 0, 0)
+            self.assertRaisesRegex(TypeError, "block must be an integer", skriemelt.why, TWO, 0, wrong, 0)
+        self.assertRaisesRegex(TypeError, "byte must be an integer", skriemelt.why, TWO, 0, 0, None)
+        for wrong in ("gian", "", "Gain", "time", "2"):
+            self.assertRaisesRegex(ValueError, "must be a number or one of active, class_, gain", skriemelt.why, TWO, 0, 0, wrong)
+
+    def test_sentences(self):
+        self.assertEqual(str(skriemelt.why(TWO, 1, 1, "gain")).splitlines(), [
+            "gain of object 1 in block 1 is 44: that of the block before.",
+            "gain of object 1 in block 0 is 44: that of the object before.",
+            "gain of object 0 in block 0 is 44: object_gain_bits at bit 54.",
+        ])
+        self.assertEqual(str(skriemelt.why(TWO, 0, 1, "x")).splitlines()[0], "x of object 0 in block 1 is 0: that of the block before, moved by -3 (diff_pos3D_X_bits at bit 98).")
+        self.assertEqual(str(skriemelt.why(TWO, 0, 0, "class")), "class of object 0 in block 0 is 2: the programme.")
+        self.assertEqual(str(skriemelt.why(TWO, 0, 0, 18)), "divergence_mode of object 0 in block 0 is 0: nothing is carried for it.")
+        self.assertEqual(str(skriemelt.why(SAMPLE, 2, 0, "gain")), "gain of object 2 in block 0 is 0: a default of Table 28.")
+        self.assertEqual(str(skriemelt.why(SAMPLE, 0, 0, "y")), "y of object 0 in block 0 is 31: a default of Table 29.")
+
+    def test_names_of_fields(self):
+        """They are those of the header, in its order."""
+        text = (ROOT / "include" / "skriemelt.h").read_text(encoding="ascii")
+        names = re.findall(r'"([^"]+)"', text[text.index("*skriemelt_field_name("):text.index("*skriemelt_source_word(")])
+        self.assertEqual([field.standard_name for field in Field], names)
+        self.assertEqual((Field.NOT_ACTIVE.standard_name, Field.PRECISE_Z.standard_name), ("b_object_not_active", "ext_prec_pos3D_Z"))
+        bytes_ = re.findall(r'"([^"]+)"', text[text.index("*skriemelt_byte_name("):text.index("*skriemelt_field_name(")])
+        self.assertEqual(bytes_, [name.rstrip("_") for name in skriemelt._RECORD_NAMES])
+
+    def test_as_values(self):
+        answer = skriemelt.why(TWO, 1, 1, "gain")
+        self.assertEqual(hash(answer), hash(skriemelt.why(bytearray(TWO), 1, 1, 2)))
+        self.assertEqual(pickle.loads(pickle.dumps(answer)), answer)
+        with self.assertRaises(dataclasses.FrozenInstanceError):
+            answer.name = "x"
+        with self.assertRaises(dataclasses.FrozenInstanceError):
+            answer.steps[0].value = 0
+
+    def test_threads(self):
+        questions = list(itertools.product(range(2), range(2), range(24))) * 4
+        alone = [skriemelt.why(TWO, *question) for question in questions]
+        with concurrent.futures.ThreadPoolExecutor(8) as pool:
+            self.assertEqual(list(pool.map(lambda question: skriemelt.why(TWO, *question), questions)), alone)
+
+
 class Frames(Case):
     """Frames, and the time of each record."""
 
@@ -1128,7 +1266,7 @@ class NoBytes(unittest.TestCase):
         for given in ("01", None, 5, 1.5, [1, 2], (1, 2), {1}, object(), array.array("B", [1, 2]), range(3), (ctypes.c_uint8 * 3)()):
             name = re.escape(type(given).__name__)
             lists = [lambda store, call=call: call(store, []) for call in (skriemelt.read_batch, skriemelt.summarise, skriemelt.write_catalogue)]
-            for call in (skriemelt.read, skriemelt.list_text, *lists, Record.from_bytes, Trim.from_bytes):
+            for call in (skriemelt.read, skriemelt.list_text, lambda payload: skriemelt.why(payload, 0, 0, 0), *lists, Record.from_bytes, Trim.from_bytes):
                 with self.subTest(given=given), self.assertRaisesRegex(TypeError, f"must be bytes, bytearray or memoryview, not {name}"):
                     call(given)
 
@@ -1181,9 +1319,9 @@ class Interface(unittest.TestCase):
         defined = {name: int(value) for name, value in re.findall(r"^(?:#define |    )SKRIEMELT_(\w+)(?: =)? (\d+)\b", text, flags=re.M)}
         version = defined.pop("VERSION")
         self.assertEqual(version, 1000 * defined.pop("VERSION_MAJOR") + defined.pop("VERSION_MINOR"))
-        enums = {"CLASS_": ObjectClass, "CONTENT_": Content, "TRIM_MODE_": TrimMode, "TRIM_CARRIED_": skriemelt.TrimCarried}
+        enums = {"CLASS_": ObjectClass, "CONTENT_": Content, "TRIM_MODE_": TrimMode, "TRIM_CARRIED_": skriemelt.TrimCarried, "SOURCE_": Source, "FIELD_": Field}
         known = {prefix + member.name: member for prefix, kind in enums.items() for member in kind}
-        known.update({member.name: member for member in Refusal})
+        known.update({member.name: member for member in Refusal}, FIELD_NONE=0)
         known.update({"RECORD_" + name.rstrip("_").upper(): at for at, name in enumerate(skriemelt._RECORD_NAMES)})
         known.update({"TRIM_CONFIG_" + name.upper(): at for at, name in enumerate(skriemelt._CONFIG_NAMES)})
         known.update({name: getattr(skriemelt, name) for name in dir(skriemelt) if re.fullmatch(r"(MOST|FRAME|RECORD|TRIM)_[A-Z_]+", name)})
@@ -1198,7 +1336,7 @@ class Interface(unittest.TestCase):
 
     def test_layout(self):
         sizes = {"_Bed": 8, "_Programme": 84, "_Update": 4, "_Timing": 34, "_ReadAnswer": 136, "_WriteAnswer": 16, "_BatchAnswer": 16, "_Summary": 384,
-                 "_CatalogueAnswer": 24, "_BackAnswer": 32, "_CatalogueFrame": 40}
+                 "_CatalogueAnswer": 24, "_BackAnswer": 32, "_CatalogueFrame": 40, "_WhyStep": 12, "_WhyAnswer": 2008}
         self.assertEqual({name: ctypes.sizeof(getattr(skriemelt, name)) for name in sizes}, sizes)
         answer = skriemelt._ReadAnswer
         self.assertEqual([getattr(answer, name).offset for name, _ in answer._fields_], [0, 8, 9, 12, 96, 132])
@@ -1206,6 +1344,9 @@ class Interface(unittest.TestCase):
         self.assertEqual([getattr(summary, name).offset for name, _ in summary._fields_], [0, 8, 12, 16, 280, 304, 316, 324, 328, 332])
         line = skriemelt._CatalogueFrame
         self.assertEqual([getattr(line, name).offset for name, _ in line._fields_], [0, 4, 5, 6, 7, 8])
+        step, reasons = skriemelt._WhyStep, skriemelt._WhyAnswer
+        self.assertEqual([getattr(step, name).offset for name, _ in step._fields_], [0, 4, 5, 6, 7, 8, 9])
+        self.assertEqual([getattr(reasons, name).offset for name, _ in reasons._fields_], [0, 8, 12, 13, 16])
         self.assertEqual((skriemelt._CatalogueAnswer.refusal.offset, skriemelt._BackAnswer.refusal.offset, skriemelt._BEFORE_BYTES), (16, 24, 3817))
         self.assertEqual((skriemelt._Programme.beds.offset, skriemelt._Timing.updates.offset, skriemelt._WriteAnswer.refusal.offset), (12, 2, 12))
 
@@ -1240,6 +1381,7 @@ void skriemelt_read_batch(void) {}
 void skriemelt_summarise(void) {}
 void skriemelt_catalogue_write_on(void) {}
 void skriemelt_catalogue_read_on(void) {}
+void skriemelt_why(void) {}
 text_answer skriemelt_list_text(const uint8_t *payload, size_t payload_bytes, uint8_t *text, size_t text_bytes)
 {
     text_answer a = {0, 10, 0}, b = {10, 0, 18};
@@ -1310,37 +1452,37 @@ class OtherVersion(unittest.TestCase):
         return str(path)
 
     def test_versions_that_do_not_fit(self):
-        for version in (0, 1002, 2003, 2999, 3000, 3001, 4000, 13000):
+        for version in (0, 1002, 2003, 2999, 3000, 3001, 3002, 4000, 13000):
             path = self.stub(f"-DVERSION={version}")
             with self.subTest(version=version), mock.patch.dict(os.environ, {"SKRIEMELT_LIBRARY": path}):
                 with self.assertRaises(skriemelt.LibraryError) as caught:
                     skriemelt.read(SAMPLE)
-                for part in (path, f"has version {version} ", "3002 to 3999"):
+                for part in (path, f"has version {version} ", "3003 to 3999"):
                     self.assertIn(part, str(caught.exception))
 
     def test_versions_that_fit(self):
-        for version in (3002, 3003, 3999):
+        for version in (3003, 3004, 3999):
             library = skriemelt.Library(self.stub(f"-DVERSION={version}"))
             self.assertEqual(library.version, version)
             self.assertIn(str(version), repr(library))
 
     def test_listing(self):
-        library = skriemelt.Library(self.stub("-DVERSION=3002"))
+        library = skriemelt.Library(self.stub("-DVERSION=3003"))
         self.assertEqual(skriemelt.list_text(SAMPLE, library=library), "refusal=0\n")
         with self.assertRaises(Refused) as caught:
             skriemelt.list_text(SAMPLE, room=9, library=library)
         self.assertEqual((caught.exception.refusal, caught.exception.place), (Refusal.SHORT_TEXT, 10))
 
     def test_functions_that_are_not_there(self):
-        path = self.stub("-DVERSION=3002", "-DALONE")
+        path = self.stub("-DVERSION=3003", "-DALONE")
         self.assertRaisesRegex(skriemelt.LibraryError, "no function skriemelt_read", skriemelt.Library, path)
-        fewer = self.stub("-DVERSION=3002", "-Dskriemelt_catalogue_read_on=another_read_on")
+        fewer = self.stub("-DVERSION=3003", "-Dskriemelt_catalogue_read_on=another_read_on")
         self.assertRaisesRegex(skriemelt.LibraryError, "no function skriemelt_catalogue_read_on", skriemelt.Library, fewer)
-        other = self.stub("-DVERSION=3002", "-Dskriemelt_version=another_version")
+        other = self.stub("-DVERSION=3003", "-Dskriemelt_version=another_version")
         self.assertRaisesRegex(skriemelt.LibraryError, "no function skriemelt_version", skriemelt.Library, pathlib.Path(other))
 
     def test_the_first_that_loads_decides(self):
-        old, fit = self.stub("-DVERSION=2003"), self.stub("-DVERSION=3002")
+        old, fit = self.stub("-DVERSION=2003"), self.stub("-DVERSION=3003")
         with mock.patch.dict(os.environ, {"SKRIEMELT_LIBRARY": ""}):
             self.addCleanup(skriemelt._opened.cache_clear)
             with mock.patch.object(skriemelt, "_candidates", lambda: iter(["/nowhere/lib.so", fit, old])):

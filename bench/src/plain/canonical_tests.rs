@@ -3,6 +3,7 @@
 //! smallest number.
 
 use super::bits::{Bits, Refusal};
+use super::origin::Silent;
 use super::record::*;
 use super::sink::Sink;
 use super::{extended, object, put, trim, writer};
@@ -60,13 +61,13 @@ fn agree<T: Hash + Eq + Debug>(
 }
 
 fn with(
-    set: impl Fn(&mut Bits, &mut Record) -> Result<(), Refusal>,
+    set: impl Fn(&mut Bits, &mut Record, &mut Silent) -> Result<(), Refusal>,
 ) -> impl Fn(&mut Bits) -> Result<Record, Refusal> {
     move |bits| {
         let mut record = DEFAULTS;
         record[ACTIVE] = 1;
         record[CLASS] = DYNAMIC;
-        set(bits, &mut record)?;
+        set(bits, &mut record, &mut Silent)?;
         Ok(record)
     }
 }
@@ -74,11 +75,11 @@ fn with(
 #[test]
 fn gain_and_priority() {
     // Index 3 is kept out by a value that no other index gives.
-    let mut gains = shortest(8, |bits| object::object_gain(bits, 255));
+    let mut gains = shortest(8, |bits| object::object_gain(bits, Some(255), &mut Silent));
     gains.remove(&255);
     assert_eq!(gains.len(), 66);
     assert_eq!(agree(&gains, |sink, g| put::object_gain(sink, *g)), 8);
-    let priorities = shortest(6, object::object_priority);
+    let priorities = shortest(6, |bits| object::object_priority(bits, &mut Silent));
     assert_eq!(priorities.len(), 33);
     assert_eq!(
         agree(&priorities, |sink, p| put::object_priority(sink, *p)),
@@ -91,16 +92,16 @@ fn render_groups() {
     let positions = shortest(17, with(object::absolute_position));
     assert_eq!(positions.len(), 63 * 63 * 31);
     assert_eq!(agree(&positions, put::absolute_position), 17);
-    let distances = shortest(6, object::object_distance);
+    let distances = shortest(6, |bits| object::object_distance(bits, &mut Silent));
     assert_eq!(distances.len(), 18);
     assert_eq!(
         agree(&distances, |sink, d| put::object_distance(sink, *d)),
         6
     );
-    let sizes = shortest(17, object::object_size);
+    let sizes = shortest(17, |bits| object::object_size(bits, &mut Silent));
     assert_eq!(sizes.len(), 32 * 32 * 32);
     assert_eq!(agree(&sizes, |sink, s| put::object_size(sink, *s)), 17);
-    let screens = shortest(6, object::screen_reference);
+    let screens = shortest(6, |bits| object::screen_reference(bits, &mut Silent));
     assert_eq!(screens.len(), 33);
     assert_eq!(
         agree(&screens, |sink, s| put::screen_reference(sink, *s)),

@@ -1,6 +1,7 @@
 //! The object element (5.5.5 to 5.5.11).
 
 use super::bits::{Bits, Refusal};
+use super::origin::{Field, Notes, Origin};
 use super::record::*;
 use super::{Programme, Timing};
 
@@ -14,10 +15,11 @@ pub const RAMPS: [u16; 16] = [
 
 /// object_element: fills the first objects x blocks records, bytes 17 to 23
 /// with 0, and answers the timing.
-pub fn object_element(
+pub fn object_element<N: Notes>(
     bits: &mut Bits,
     programme: &Programme,
     records: &mut [Record],
+    notes: &mut N,
 ) -> Result<Timing, Refusal> {
     let timing = md_update_info(bits)?;
     // b_reserved_data_not_present: the 5 bits follow when it is 0 (point 5).
@@ -33,13 +35,10 @@ pub fn object_element(
             let context = Context {
                 class,
                 before: (block > 0).then(|| &records[at - 1]),
-                gain_above: if object > 0 {
-                    records[at - blocks][GAIN]
-                } else {
-                    GAIN_ZERO
-                },
+                gain_above: (object > 0).then(|| records[at - blocks][GAIN]),
             };
-            records[at] = object_info_block(bits, &context)?;
+            notes.record(at);
+            records[at] = object_info_block(bits, &context, notes)?;
         }
     }
     Ok(timing)
@@ -79,20 +78,26 @@ struct Context<'a> {
     class: u8,
     /// The record of the block before, unless this is block 0.
     before: Option<&'a Record>,
-    /// Byte 2 of the object before in the same block (point 22).
-    gain_above: u8,
+    /// Byte 2 of the object before in the same block, unless this is object 0
+    /// (point 22).
+    gain_above: Option<u8>,
 }
 
 /// object_info_block (5.5.9).
-fn object_info_block(bits: &mut Bits, context: &Context) -> Result<Record, Refusal> {
+fn object_info_block<N: Notes>(
+    bits: &mut Bits,
+    context: &Context,
+    notes: &mut N,
+) -> Result<Record, Refusal> {
     let mut record = DEFAULTS;
     record[CLASS] = context.class;
+    notes.field(ACTIVE..=ACTIVE, Field::NotActive, bits.place());
     let not_active = bits.flag()?;
     if !not_active {
         record[ACTIVE] = 1;
-        object_basic_info(bits, context, &mut record)?;
+        object_basic_info(bits, context, &mut record, notes)?;
         if context.class == DYNAMIC {
-            object_render_info(bits, context, &mut record)?;
+            object_render_info(bits, context, &mut record, notes)?;
         }
     }
     // b_additional_table_data_exists, in inactive blocks too (point 7).
@@ -129,50 +134,69 @@ const HAS_GAIN: u32 = 1;
 const HAS_PRIORITY: u32 = 2;
 
 /// object_basic_info_status_idx and object_basic_info (5.5.10).
-fn object_basic_info(
+fn object_basic_info<N: Notes>(
     bits: &mut Bits,
     context: &Context,
     record: &mut Record,
+    notes: &mut N,
 ) -> Result<(), Refusal> {
     let carried = match status(bits, context)? {
         Status::Default => return Ok(()),
         Status::Full => HAS_GAIN | HAS_PRIORITY,
         Status::Reuse(before) => {
             record[GAIN..=PRIORITY].copy_from_slice(&before[GAIN..=PRIORITY]);
+            notes.note(GAIN..=PRIORITY, Origin::Before);
             return Ok(());
         }
         Status::Mixed(before) => {
             record[GAIN..=PRIORITY].copy_from_slice(&before[GAIN..=PRIORITY]);
+            notes.note(GAIN..=PRIORITY, Origin::Before);
             bits.take(2)?
         }
     };
     if carried & HAS_GAIN != 0 {
-        record[GAIN] = object_gain(bits, context.gain_above)?;
+        record[GAIN] = object_gain(bits, context.gain_above, notes)?;
     }
     if carried & HAS_PRIORITY != 0 {
-        record[PRIORITY] = object_priority(bits)?;
+        record[PRIORITY] = object_priority(bits, notes)?;
     }
     Ok(())
 }
 
 /// Tables 18 and 19, in dB plus 50; minus infinity is 0.
-pub fn object_gain(bits: &mut Bits, above: u8) -> Result<u8, Refusal> {
+pub fn object_gain<N: Notes>(
+    bits: &mut Bits,
+    above: Option<u8>,
+    notes: &mut N,
+) -> Result<u8, Refusal> {
+    notes.field(GAIN..=GAIN, Field::GainIndex, bits.place());
     Ok(match bits.take(2)? {
         0 => GAIN_ZERO,
         1 => 0,
-        2 => match bits.byte(6)? {
-            code @ 0..=14 => GAIN_ZERO + 15 - code,
-            code => GAIN_ZERO + 14 - code,
+        2 => {
+            notes.field(GAIN..=GAIN, Field::GainBits, bits.place());
+            match bits.byte(6)? {
+                code @ 0..=14 => GAIN_ZERO + 15 - code,
+                code => GAIN_ZERO + 14 - code,
+            }
+        }
+        _ => match above {
+            Some(gain) => {
+                notes.note(GAIN..=GAIN, Origin::Above);
+                gain
+            }
+            None => GAIN_ZERO,
         },
-        _ => above,
     })
 }
 
 /// Clause 5.6.1.3, in 32nds.
-pub fn object_priority(bits: &mut Bits) -> Result<u8, Refusal> {
+pub fn object_priority<N: Notes>(bits: &mut Bits, notes: &mut N) -> Result<u8, Refusal> {
+    notes.field(PRIORITY..=PRIORITY, Field::DefaultPriority, bits.place());
     if bits.flag()? {
         Ok(32)
     } else {
+        notes.field(PRIORITY..=PRIORITY, Field::PriorityBits, bits.place());
         bits.byte(5)
     }
 }
@@ -184,50 +208,64 @@ const HAS_SIZE: u32 = 4;
 const HAS_SCREEN: u32 = 8;
 
 /// object_render_info_status_idx and object_render_info (5.5.11).
-fn object_render_info(
+fn object_render_info<N: Notes>(
     bits: &mut Bits,
     context: &Context,
     record: &mut Record,
+    notes: &mut N,
 ) -> Result<(), Refusal> {
     let carried = match status(bits, context)? {
         Status::Default => return Ok(()),
         Status::Full => HAS_POSITION | HAS_ZONE | HAS_SIZE | HAS_SCREEN,
         Status::Reuse(before) => {
             record[X..=SNAP].copy_from_slice(&before[X..=SNAP]);
+            notes.note(X..=SNAP, Origin::Before);
             return Ok(());
         }
         Status::Mixed(before) => {
             record[X..=SNAP].copy_from_slice(&before[X..=SNAP]);
+            notes.note(X..=SNAP, Origin::Before);
             bits.take(4)?
         }
     };
     if carried & HAS_POSITION != 0 {
         match context.before {
-            Some(before) if bits.flag()? => moved_position(bits, before, record)?,
-            _ => absolute_position(bits, record)?,
+            Some(before) if bits.flag()? => moved_position(bits, before, record, notes)?,
+            _ => absolute_position(bits, record, notes)?,
         }
-        record[DISTANCE] = object_distance(bits)?;
+        record[DISTANCE] = object_distance(bits, notes)?;
     }
     if carried & HAS_ZONE != 0 {
+        notes.field(ZONE..=ZONE, Field::ZoneIndex, bits.place());
         record[ZONE] = bits.below(3, 6)?;
+        notes.field(ELEVATION..=ELEVATION, Field::EnableElevation, bits.place());
         record[ELEVATION] = bits.byte(1)?;
     }
     if carried & HAS_SIZE != 0 {
-        record[WIDTH..=HEIGHT].copy_from_slice(&object_size(bits)?);
+        record[WIDTH..=HEIGHT].copy_from_slice(&object_size(bits, notes)?);
     }
     if carried & HAS_SCREEN != 0 {
-        record[SCREEN..=DEPTH_INDEX].copy_from_slice(&screen_reference(bits)?);
+        record[SCREEN..=DEPTH_INDEX].copy_from_slice(&screen_reference(bits, notes)?);
     }
     // Snap stands outside the guarded groups (point 8).
+    notes.field(SNAP..=SNAP, Field::Snap, bits.place());
     record[SNAP] = bits.byte(1)?;
     Ok(())
 }
 
-/// Clauses 5.6.1.1.8 to 5.6.1.1.11 (point 18).
-pub fn absolute_position(bits: &mut Bits, record: &mut Record) -> Result<(), Refusal> {
+/// Clauses 5.6.1.1.8 to 5.6.1.1.11 (point 18). The sign is read before the
+/// bits of z, so z comes from the bits.
+pub fn absolute_position<N: Notes>(
+    bits: &mut Bits,
+    record: &mut Record,
+    notes: &mut N,
+) -> Result<(), Refusal> {
+    notes.field(X..=X, Field::PositionX, bits.place());
     record[X] = bits.byte(6)?.min(XY_MAX);
+    notes.field(Y..=Y, Field::PositionY, bits.place());
     record[Y] = bits.byte(6)?.min(XY_MAX);
     let positive = bits.flag()?;
+    notes.field(Z..=Z, Field::PositionZ, bits.place());
     let z = bits.byte(4)?;
     record[Z] = if positive { Z_ZERO + z } else { Z_ZERO - z };
     Ok(())
@@ -235,45 +273,79 @@ pub fn absolute_position(bits: &mut Bits, record: &mut Record) -> Result<(), Ref
 
 /// Clauses 5.6.1.1.12 to 5.6.1.1.14: from the block before, kept within the
 /// range (point 19).
-fn moved_position(bits: &mut Bits, before: &Record, record: &mut Record) -> Result<(), Refusal> {
-    record[X] = moved(bits, before[X], 0, XY_MAX)?;
-    record[Y] = moved(bits, before[Y], 0, XY_MAX)?;
-    record[Z] = moved(bits, before[Z], Z_ZERO - 15, Z_ZERO + 15)?;
+fn moved_position<N: Notes>(
+    bits: &mut Bits,
+    before: &Record,
+    record: &mut Record,
+    notes: &mut N,
+) -> Result<(), Refusal> {
+    let z = (Z_ZERO - 15, Z_ZERO + 15);
+    for (byte, field, (least, most)) in [
+        (X, Field::DifferenceX, (0, XY_MAX)),
+        (Y, Field::DifferenceY, (0, XY_MAX)),
+        (Z, Field::DifferenceZ, z),
+    ] {
+        let place = bits.place();
+        let code = bits.byte(3)?;
+        notes.note(byte..=byte, Origin::Moved(field, place, code));
+        record[byte] = moved(code, before[byte], least, most);
+    }
     Ok(())
 }
 
 /// A two's complement difference of 3 bits added to `before`.
-fn moved(bits: &mut Bits, before: u8, least: u8, most: u8) -> Result<u8, Refusal> {
-    let code = bits.byte(3)? as i8;
+fn moved(code: u8, before: u8, least: u8, most: u8) -> u8 {
+    let code = code as i8;
     let difference = if code < 4 { code } else { code - 8 };
-    Ok(before.saturating_add_signed(difference).clamp(least, most))
+    before.saturating_add_signed(difference).clamp(least, most)
 }
 
 /// Clauses 5.6.1.1.15 to 5.6.1.1.17.
-pub fn object_distance(bits: &mut Bits) -> Result<u8, Refusal> {
+pub fn object_distance<N: Notes>(bits: &mut Bits, notes: &mut N) -> Result<u8, Refusal> {
+    notes.field(DISTANCE..=DISTANCE, Field::DistanceSpecified, bits.place());
     if !bits.flag()? {
-        Ok(0)
-    } else if bits.flag()? {
-        Ok(1)
-    } else {
-        Ok(2 + bits.byte(4)?)
+        return Ok(0);
     }
+    notes.field(DISTANCE..=DISTANCE, Field::AtInfinity, bits.place());
+    if bits.flag()? {
+        return Ok(1);
+    }
+    notes.field(DISTANCE..=DISTANCE, Field::DistanceIndex, bits.place());
+    Ok(2 + bits.byte(4)?)
 }
 
 /// Width, depth and height (Table 17).
-pub fn object_size(bits: &mut Bits) -> Result<[u8; 3], Refusal> {
-    Ok(match bits.below(2, 3)? {
-        0 => [0; 3],
-        1 => [bits.byte(5)?; 3],
-        _ => [bits.byte(5)?, bits.byte(5)?, bits.byte(5)?],
-    })
+pub fn object_size<N: Notes>(bits: &mut Bits, notes: &mut N) -> Result<[u8; 3], Refusal> {
+    notes.field(WIDTH..=HEIGHT, Field::SizeIndex, bits.place());
+    match bits.below(2, 3)? {
+        0 => Ok([0; 3]),
+        1 => {
+            notes.field(WIDTH..=HEIGHT, Field::SizeBits, bits.place());
+            Ok([bits.byte(5)?; 3])
+        }
+        _ => {
+            notes.field(WIDTH..=WIDTH, Field::Width, bits.place());
+            let width = bits.byte(5)?;
+            notes.field(DEPTH..=DEPTH, Field::Depth, bits.place());
+            let depth = bits.byte(5)?;
+            notes.field(HEIGHT..=HEIGHT, Field::Height, bits.place());
+            Ok([width, depth, bits.byte(5)?])
+        }
+    }
 }
 
 /// Flag, factor bits and depth index (5.6.1.1.18 to 5.6.1.1.20).
-pub fn screen_reference(bits: &mut Bits) -> Result<[u8; 3], Refusal> {
-    if bits.flag()? {
-        Ok([1, bits.byte(3)?, bits.byte(2)?])
-    } else {
-        Ok([0; 3])
+pub fn screen_reference<N: Notes>(bits: &mut Bits, notes: &mut N) -> Result<[u8; 3], Refusal> {
+    notes.field(SCREEN..=DEPTH_INDEX, Field::UseScreen, bits.place());
+    if !bits.flag()? {
+        return Ok([0; 3]);
     }
+    notes.field(
+        SCREEN_FACTOR..=SCREEN_FACTOR,
+        Field::ScreenFactor,
+        bits.place(),
+    );
+    let factor = bits.byte(3)?;
+    notes.field(DEPTH_INDEX..=DEPTH_INDEX, Field::DepthIndex, bits.place());
+    Ok([1, factor, bits.byte(2)?])
 }

@@ -4,6 +4,7 @@ use super::assignment::program_assignment;
 use super::bits::{Bits, Refusal};
 use super::extended::extended_object_element;
 use super::object::object_element;
+use super::origin::Notes;
 use super::record::Record;
 use super::trim::{trim_element, PRESENT};
 use super::{needed, refusal, trim_needed};
@@ -24,10 +25,11 @@ pub struct Scratch {
 
 /// Reads a payload into `scratch`, which holds zeros. The rooms are those of the
 /// lent buffers, of records and of trim: refusal 9 last of all, records first.
-pub fn payload(
+pub fn payload<N: Notes>(
     bytes: &[u8],
     (records_room, trim_room): (usize, usize),
     scratch: &mut Scratch,
+    notes: &mut N,
 ) -> Result<Tables, Refusal> {
     if bytes.len() > MAX_PAYLOAD {
         return Err(Refusal::new(refusal::TOO_LONG, bytes.len()));
@@ -38,7 +40,7 @@ pub fn payload(
     }
     let objects = bits.grown(5, 7)? + 1;
     let programme = program_assignment(&mut bits, objects)?;
-    let tables = elements(&mut bits, programme, scratch)?;
+    let tables = elements(&mut bits, programme, scratch, notes)?;
     let needed = needed(&tables.programme, &tables.timing);
     if records_room < needed {
         return Err(Refusal::new(refusal::ROOM, needed));
@@ -50,10 +52,11 @@ pub fn payload(
     Ok(tables)
 }
 
-fn elements(
+fn elements<N: Notes>(
     bits: &mut Bits,
     programme: Programme,
     scratch: &mut Scratch,
+    notes: &mut N,
 ) -> Result<Tables, Refusal> {
     let Scratch { records, trim } = scratch;
     let trim = &mut trim[..trim_needed(&programme)];
@@ -73,11 +76,13 @@ fn elements(
             Kind::Extended if extended => return Err(Refusal::new(refusal::TWICE, place)),
             Kind::Trim if trim[PRESENT] != 0 => return Err(Refusal::new(refusal::TWICE, place)),
             Kind::Extended if blocks == 0 => return Err(Refusal::new(refusal::ORDER, place)),
-            Kind::Object => tables.timing = object_element(&mut body, &programme, records)?,
+            Kind::Object => {
+                tables.timing = object_element(&mut body, &programme, records, notes)?;
+            }
             Kind::Extended => {
                 extended = true;
                 let count = usize::from(programme.objects) * blocks;
-                extended_object_element(&mut body, &mut records[..count])?;
+                extended_object_element(&mut body, &mut records[..count], notes)?;
             }
             Kind::Trim => trim_element(&mut body, trim)?,
             Kind::Unknown => tables.unknown += 1,

@@ -1,7 +1,7 @@
 //! The library's functions, linked.
 
 use super::{BackAnswer, CatalogueAnswer, CatalogueBefore, CatalogueFrame};
-use super::{BatchAnswer, Programme, ReadAnswer, Summary, Timing, WriteAnswer};
+use super::{BatchAnswer, Programme, ReadAnswer, Summary, Timing, WhyAnswer, WriteAnswer};
 use crate::plain::Shelf;
 
 #[link(name = "host", kind = "static")]
@@ -86,6 +86,13 @@ extern "C" {
         records: *mut u8,
         records_bytes: usize,
     ) -> BackAnswer;
+    fn skriemelt_why(
+        payload: *const u8,
+        payload_bytes: usize,
+        object: u32,
+        block: u32,
+        byte: u32,
+    ) -> WhyAnswer;
     fn skriemelt_write(
         programme: Programme,
         timing: Timing,
@@ -257,6 +264,12 @@ pub fn read_catalogue_on(
             records.len(),
         )
     }
+}
+
+/// Asks the proved library why a byte of a record is what it is.
+pub fn why(payload: &[u8], object: u32, block: u32, byte: u32) -> WhyAnswer {
+    // SAFETY: the slice is valid for its length, and nothing is filled.
+    unsafe { skriemelt_why(payload.as_ptr(), payload.len(), object, block, byte) }
 }
 
 /// Writes tables with the proved library.

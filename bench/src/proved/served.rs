@@ -2,6 +2,7 @@
 
 use super::{BackAnswer, BatchAnswer, CatalogueAnswer};
 use super::{Bed, Programme, ReadAnswer, Summary, Timing, Update, WriteAnswer};
+use super::{WhyAnswer, WhyStep};
 use crate::plain::Shelf;
 use std::cell::RefCell;
 use std::io::{Read, Write};
@@ -12,6 +13,7 @@ const WRITE_ANSWER_BYTES: usize = 8 + 4 + 1;
 const BATCH_ANSWER_BYTES: usize = 8 + 1;
 const CATALOGUE_ANSWER_BYTES: usize = 8 + 8 + 1;
 const BACK_ANSWER_BYTES: usize = 8 + 8 + 8 + 1;
+const WHY_ANSWER_BYTES: usize = 8 + 4 + 1 + 1 + 166 * (4 + 6);
 const SUMMARY_BYTES: usize = 8 + 1 + 4 * (1 + 66 + 6 + 3 + 2 + 1 + 1 + 13);
 
 /// The serving process.
@@ -308,6 +310,31 @@ pub fn read_catalogue_on(
     records: &mut [u8],
 ) -> BackAnswer {
     ask_back(b'T', text, &mut [before, lines, records])
+}
+
+/// Asks the proved library why a byte of a record is what it is.
+pub fn why(payload: &[u8], object: u32, block: u32, byte: u32) -> WhyAnswer {
+    let mut request = b"y".to_vec();
+    add_given(&mut request, payload);
+    for number in [object, block, byte] {
+        request.extend(number.to_le_bytes());
+    }
+    let mut answer = ask(&request, WHY_ANSWER_BYTES, &mut []);
+    WhyAnswer {
+        place: answer.u64(),
+        missing: answer.u32(),
+        refusal: answer.u8(),
+        count: answer.u8(),
+        steps: std::array::from_fn(|_| WhyStep {
+            bit: answer.u32(),
+            object: answer.u8(),
+            block: answer.u8(),
+            value: answer.u8(),
+            source: answer.u8(),
+            field: answer.u8(),
+            difference: answer.u8(),
+        }),
+    }
 }
 
 /// Writes tables with the proved library.

@@ -1,7 +1,7 @@
 -- The refusals (docs/DECISIONS.md, "The refusals"), by their numbers.
 use Prim.Native.Nat.{ℕ}
 use Rattle.bits.specs.declared.Refusal.{Refusal}
-use Rattle.bits.specs.declared.Refusal.the-variants.{TooLong, EndsEarly, Version, Counts, Reserved, Second, Early, PastElement, Room, NotValid, NoFit, Outside, Lists, Many, BadLine, ShortText}
+use Rattle.bits.specs.declared.Refusal.the-variants.{TooLong, EndsEarly, Version, Counts, Reserved, Second, Early, PastElement, Room, NotValid, NoFit, Outside, Lists, NoSuch, Many, BadLine, ShortText}
 use Rattle.bits.specs.Language.{pastPayload, pastDeclared}
 
 abbrev pub numberOf : Refusal → ℕ
@@ -18,6 +18,7 @@ numberOf NotValid = 10
 numberOf NoFit = 11
 numberOf Outside = 12
 numberOf Lists = 13
+numberOf NoSuch = 14
 numberOf Many = 16
 numberOf BadLine = 17
 numberOf ShortText = 18

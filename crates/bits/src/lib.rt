@@ -79,6 +79,7 @@ pub enum Refusal {
     NoFit,
     Outside,
     Lists,
+    NoSuch,
     Many,
     BadLine,
     ShortText,

@@ -21,6 +21,7 @@ pub fn number(r: Refusal) -> u8
         Refusal::NoFit => 11,
         Refusal::Outside => 12,
         Refusal::Lists => 13,
+        Refusal::NoSuch => 14,
         Refusal::Many => 16,
         Refusal::BadLine => 17,
         Refusal::ShortText => 18,

@@ -6,6 +6,7 @@ ghost use Rattle.form.specs.Answer.{writing};
 ghost use Rattle.summary.specs.Summary.{summing};
 ghost use Rattle.catalogue.specs.Answer.{cataloguing, readingBack};
 ghost use Rattle.catalogue.specs.Calls.{cataloguingAlone, readingBackAlone};
+ghost use Rattle.sources.specs.Explaining.{explaining};
 ghost use Rattle.text.specs.Answer.{texted};
 ghost use Rattle.text.specs.Listing.{listing};
 use catalogue::BackAnswer;
@@ -15,15 +16,16 @@ use oamd::Programme;
 use oamd::ReadAnswer;
 use oamd::Timing;
 use oamd::WriteAnswer;
+use sources::WhyAnswer;
 use summary::Summary;
 use text::TextAnswer;
 
 // The version of this interface: a thousand times the major number, plus the minor.
-const VERSION: u32 = 3002;
+const VERSION: u32 = 3003;
 
 #[no_mangle]
 pub extern "C" fn skriemelt_version() -> u32
-    ensures { λ r. ⌜ r ≡ 3002 ⌝ }
+    ensures { λ r. ⌜ r ≡ 3003 ⌝ }
 {
     VERSION
 }
@@ -176,4 +178,12 @@ pub extern "C" fn skriemelt_catalogue_read_on(
         ⌝ }
 {
     catalogue::read_catalogue_on(text, before, lines, records)
+}
+
+// Why a byte of the record of an object and a block is what it is: the steps back to what gave its value. Nothing is lent.
+#[no_mangle]
+pub extern "C" fn skriemelt_why(payload: &[u8], object: u32, block: u32, byte: u32) -> WhyAnswer
+    ensures { λ r. ⌜ r ≡ explaining (now (payload .entry)) object block byte ⌝ }
+{
+    sources::why(payload, object, block, byte)
 }

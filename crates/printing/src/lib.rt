@@ -2,7 +2,7 @@
 const OUT: i32 = 1;
 
 // The first n bytes of a text.
-fn show(text: &[u8], n: usize) {
+pub fn show(text: &[u8], n: usize) {
     if n <= text.len() {
         io::write_all(OUT, &text[0..n]);
     }

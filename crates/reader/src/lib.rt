@@ -22,6 +22,9 @@ mod answers; // answers.rt: what is answered
 mod keeping; // keeping.rt: what is read, kept until the payload is accepted
 
 pub use answers::refused_with;
+pub use payload::limit_of;
+pub use payload::read_head;
+pub use timing::read_timing;
 
 pub struct TimingStep {
     pub timing: Timing,

@@ -41,7 +41,7 @@ fn read_header(s: &[u8], l: Limit, c: Cur) -> HeaderStep
 }
 
 // The limit of a payload: its last bit.
-fn limit_of(s: &[u8]) -> Limit
+pub fn limit_of(s: &[u8]) -> Limit
     requires { ⌜ length (now s) ≤ mostBytes ⌝ }
     ensures { λ r. ⌜ r ≡ wholeOf (now (s .entry)) ⌝ }
 {

@@ -1,9 +1,11 @@
 pub mod OneAnswer
 pub mod Sets
 pub mod Readings
+pub mod Reader
 pub mod Sights
 pub mod Batch
 pub mod Summary
+pub mod Sources
 pub mod Catalogue
 pub mod Callers
 pub mod Units

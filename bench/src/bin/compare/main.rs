@@ -2,13 +2,15 @@
 //!
 //! `compare N [SEED]`: N generated payloads, valid, faulty and damaged; answers, places, missing bits, tables and both whole buffers, with canaries around them. The
 //! tables of each accepted payload are written, as they are and damaged, and so are N generated tables. The payloads, some of them cut or longer, are read once more
-//! on shelves of a few; these are summarised, and of some a few entries are catalogued, and their texts read back, as they are and damaged.
+//! on shelves of a few; these are summarised, and of some a few entries are catalogued, and their texts read back, as they are and damaged. Of each payload it is asked
+//! why some bytes are what they are, of some why every byte is.
 //! `compare --damaged N [SEED]`: N random and damaged inputs: the library ends, and touches nothing that it may not.
 
 mod catalogues;
 mod lent;
 mod shelves;
 mod summaries;
+mod whys;
 mod writes;
 
 use lent::Lent;
@@ -17,6 +19,7 @@ use skriemelt_bench::gen::rng::Rng;
 use skriemelt_bench::gen::Gen;
 use skriemelt_bench::{plain, proved};
 use std::process::ExitCode;
+use whys::Whys;
 use writes::{Read, Writer};
 
 const KINDS: [&str; 10] = [
@@ -40,6 +43,7 @@ struct Tally {
     differences: u64,
     writer: Writer,
     shelves: Shelves,
+    whys: Whys,
 }
 
 impl Tally {
@@ -50,6 +54,7 @@ impl Tally {
             differences: 0,
             writer: Writer::new(seed),
             shelves: Shelves::new(seed),
+            whys: Whys::new(seed),
         }
     }
 }
@@ -122,11 +127,12 @@ struct Input<'a> {
     rooms: (usize, usize),
 }
 
-/// Counts what was read, and writes the tables of an accepted payload.
+/// Counts what was read, asks for the reasons of it, and writes the tables of an accepted payload.
 fn count(tally: &mut Tally, index: u64, input: &Input, result: Result<Read, String>) {
     let payload = input.payload;
     let result = result.and_then(|read| {
         tally.refusals[read.answer.refusal as usize] += 1;
+        tally.whys.payload(payload, &read)?;
         match read.answer.refusal {
             0 => {
                 tally.trims += u64::from(read.trim[0]);
@@ -153,13 +159,16 @@ fn differ(tally: &mut Tally, message: String) {
     }
 }
 
-/// Reads the last shelf, and what is at the limits of summaries and catalogues.
+/// Reads the last shelf, and what is at the limits of summaries, catalogues and chains of sources.
 fn finish(tally: &mut Tally) {
     if let Err(message) = tally.shelves.read() {
         differ(tally, format!("the last shelf: {message}"));
     }
     if let Err(message) = tally.shelves.limits() {
         differ(tally, format!("at the limits: {message}"));
+    }
+    if let Err(message) = tally.whys.limits() {
+        differ(tally, format!("the longest chain: {message}"));
     }
 }
 
@@ -279,6 +288,7 @@ fn main() -> ExitCode {
     println!("read, accepted with a trim element: {}", tally.trims);
     tally.writer.writes.print();
     tally.shelves.print();
+    tally.whys.print();
     let what = if random { "damaged inputs" } else { "payloads" };
     println!("{number} {what}, {} differences", tally.differences);
     ExitCode::from(u8::from(tally.differences != 0))

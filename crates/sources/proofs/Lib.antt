@@ -1,0 +1,11 @@
+pub mod Rows
+pub mod Spots
+pub mod Naming
+pub mod Chaining
+pub mod Came
+pub mod Framing
+pub mod Entering
+pub mod Passing
+pub mod ToBlock
+pub mod ToExtras
+pub mod Tellings

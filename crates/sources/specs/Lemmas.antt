@@ -1,0 +1,16 @@
+pub mod BySource
+pub mod ByField
+pub mod Chains
+pub mod Meeting
+pub mod Elements
+pub mod Blocks
+pub mod Extras
+pub mod Records
+pub mod Bytes
+pub mod Answering
+pub mod Lines
+pub mod Arrives
+pub mod Standing
+pub mod Walking
+pub mod Seeking
+pub mod Stepping
