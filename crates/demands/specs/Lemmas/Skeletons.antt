@@ -30,10 +30,10 @@ pub record Adds (p : Programme) (k : Kind) (l : List ℕ) (before after : Known)
   pub ran : run (fields p k before) (listed l) 0 (length l) pastDeclared ≡ ok after to
 
 -- an unknown one adds nothing
-pub Step : Programme → Kind → List ℕ → Known → Known → Type 0
+unfoldable pub Step : Programme → Kind → List ℕ → Known → Known → Type 0
 Step p k l before after = pick (isKnown k) (Adds p k l before after) (before ≡ after)
 
-pub Steps : Programme → List Body → Known → Known → Type 0
+unfoldable pub Steps : Programme → List Body → Known → Known → Type 0
 Steps p [] before after = before ≡ after
 Steps p (x ∷ xs) before after = (mid : Known) × Step p (x .kind) (x .bits) before mid × Steps p xs mid after
 

@@ -1,7 +1,7 @@
 -- Records with their times behind them, byte by byte.
 use mathlib.Core.Path.{_≡_, refl, sym, ap, _∙_}
 use mathlib.Core.List.{List, [], _∷_, _++_, append-assoc}
-use Prim.Native.Nat.{ℕ, zero, suc, _+_, _-_, _*_, _%_, _≤_, _<_}
+use Prim.Native.Nat.{ℕ, zero, suc, _+_, _-_, _*_, _%_, _<_}
 use native.Mathlib.Omega.{arith}
 use lib.ListN.{length, getD, length-append, List·getD-append}
 use lib.Seq.{getD-append-add}
@@ -56,6 +56,35 @@ parted time i (r ∷ rs) tail (suc k) h =
           ∙ ap (λ (j : ℕ). (one r (time i) ++ x .before) ++ (timeBytesOf (time j) ++ x .behind)) e;
     }
 
+-- ---- byte by byte: those of the first record and its time, and those behind them
+
+module _ (time : ℕ → ℕ) (i : ℕ) (r : Record) (rs : List Record) (tail : List ℕ) where
+  cut : timedBytesOf time i (r ∷ rs) ++ tail ≡ one r (time i) ++ (timedBytesOf time (suc i) rs ++ tail)
+  unfolding timedBytesOf
+  cut = append-assoc (one r (time i)) (timedBytesOf time (suc i) rs) tail
+
+  first : (n : ℕ) → n < recordStride → getD (timedBytesOf time i (r ∷ rs) ++ tail) n 0 ≡ getD (one r (time i)) n 0
+  first n l = ap (λ (x : List ℕ). getD x n 0) cut ∙ List·getD-append (one r (time i)) _ 0 n (omega (arith, one-long r (time i)))
+
+  later : (n : ℕ) → getD (timedBytesOf time i (r ∷ rs) ++ tail) (recordStride + n) 0 ≡ getD (timedBytesOf time (suc i) rs ++ tail) n 0
+  later n =
+      let e : recordStride + n ≡ length (one r (time i)) + n = omega (arith, one-long r (time i)) in
+      ap (λ (x : List ℕ). getD x (recordStride + n) 0) cut ∙ ap (λ (k : ℕ). getD (one r (time i) ++ (timedBytesOf time (suc i) rs ++ tail)) k 0) e
+      ∙ getD-append-add (one r (time i)) _ n 0
+
+-- byte k of record m and its time
+pub byte-at : (time : ℕ → ℕ) (i : ℕ) (rs : List Record) (tail : List ℕ) (m k : ℕ) (none : Record) → m < length rs → k < recordStride
+    → getD (timedBytesOf time i rs ++ tail) (recordStride * m + k) 0 ≡ getD (recordBytesOf (getD rs m none) ++ timeBytesOf (time (i + m))) k 0
+byte-at time i [] tail m k none l h = absurd (omega arith)
+byte-at time i (r ∷ rs) tail zero k none l h =
+    let e : recordStride * 0 + k ≡ k = omega arith in
+    let d : i + 0 ≡ i = omega arith in
+    rw (e, d) (first time i r rs tail k h)
+byte-at time i (r ∷ rs) tail (suc m) k none l h =
+    let e : recordStride * suc m + k ≡ recordStride + (recordStride * m + k) = omega arith in
+    let d : i + suc m ≡ suc i + m = omega arith in
+    rw (e, d) (later time i r rs tail (recordStride * m + k) ∙ byte-at time (suc i) rs tail m k none (omega arith) h)
+
 -- a byte of a record that is none of its time is the same with all times
 pub other-bytes : (f g : ℕ → ℕ) (i : ℕ) (rs : List Record) (tail : List ℕ) (n : ℕ) → n % recordStride < recordBytes
     → getD (timedBytesOf g i rs ++ tail) n 0 ≡ getD (timedBytesOf f i rs ++ tail) n 0
@@ -63,25 +92,10 @@ unfolding timedBytesOf
 other-bytes f g i [] tail n h = refl
 other-bytes f g i (r ∷ rs) tail n h = by-order recordStride n
     (λ l.
-    let m : ℕ = n - recordStride in
-    later g l ∙ other-bytes f g (suc i) rs tail m (omega arith) ∙ sym (later f l))
-    (λ l. first g l ∙ sym (first f l))
+    let e : n ≡ recordStride + (n - recordStride) = omega arith in
+    rw e (later g i r rs tail (n - recordStride) ∙ other-bytes f g (suc i) rs tail (n - recordStride) (omega arith)
+    ∙ sym (later f i r rs tail (n - recordStride))))
+    (λ l. own g l ∙ sym (own f l))
   where
-    behind : (ℕ → ℕ) → List ℕ
-    behind time = timedBytesOf time (suc i) rs ++ tail
-
-    cut : (time : ℕ → ℕ) → (one r (time i) ++ timedBytesOf time (suc i) rs) ++ tail ≡ one r (time i) ++ behind time
-    cut time = append-assoc (one r (time i)) (timedBytesOf time (suc i) rs) tail
-
-    first : (time : ℕ → ℕ) → n < recordStride → getD ((one r (time i) ++ timedBytesOf time (suc i) rs) ++ tail) n 0 ≡ getD (recordBytesOf r) n 0
-    first time l =
-        let k = length-record r in
-        ap (λ (x : List ℕ). getD x n 0) (cut time ∙ append-assoc (recordBytesOf r) (timeBytesOf (time i)) (behind time))
-        ∙ List·getD-append (recordBytesOf r) (timeBytesOf (time i) ++ behind time) 0 n (omega arith)
-
-    later : (time : ℕ → ℕ) → recordStride ≤ n
-        → getD ((one r (time i) ++ timedBytesOf time (suc i) rs) ++ tail) n 0 ≡ getD (behind time) (n - recordStride) 0
-    later time l =
-        let e : n ≡ length (one r (time i)) + (n - recordStride) = omega (arith, one-long r (time i)) in
-        ap (λ (x : List ℕ). getD x n 0) (cut time) ∙ ap (λ (k : ℕ). getD (one r (time i) ++ behind time) k 0) e
-        ∙ getD-append-add (one r (time i)) (behind time) (n - recordStride) 0
+    own : (time : ℕ → ℕ) → n < recordStride → getD (timedBytesOf time i (r ∷ rs) ++ tail) n 0 ≡ getD (recordBytesOf r) n 0
+    own time l = first time i r rs tail n l ∙ List·getD-append (recordBytesOf r) (timeBytesOf (time i)) 0 n (omega (arith, length-record r))

@@ -1,0 +1,4 @@
+pub mod Near
+pub mod Bytes
+pub mod Order
+pub mod Lists

@@ -1,0 +1,6 @@
+pub mod Own
+pub mod Lemmas
+pub mod Theorem
+pub mod Chains
+pub mod Corollary
+pub mod Occurs
