@@ -19,8 +19,8 @@
  * buffer, and no others; an accepted write writes the first `length` bytes of its buffer and no others. What a batch writes and what the calls of a catalogue write is said there. A summary
  * and a question why a byte is what it is are lent nothing; refused, all counters, and all steps, are 0.
  *
- * Threads. Every call works on its arguments and its own stack alone (a read: about 32 kB, a batch: about 35 kB, a summary: about 75 kB, a write: about 1 kB, a listing: about 75 kB, a catalogue,
- * written: about 95 kB, read back: about 45 kB, a question why: about 80 kB). Calls may run at once in several threads, as long as no two are lent the same buffer to be filled; an update before is one. What a call only looks at
+ * Threads. Every call works on its arguments and its own stack alone (a read: about 36 kB, a batch: about 38 kB, a summary: about 75 kB, a write: about 1 kB, a listing: about 75 kB, a catalogue,
+ * written: about 95 kB, read back: about 45 kB, a question why: about 85 kB). Calls may run at once in several threads, as long as no two are lent the same buffer to be filled; an update before is one. What a call only looks at
  * (read: the payload, batch, summary and catalogue: the store and the lists, write: the records and the trim table, listing and why: the payload, catalogue read back: the text) may be shared.
  *
  * There and back. A payload that is read and written again may have other bytes: the written form is the one form of the tables, and what is not in the tables
@@ -620,7 +620,7 @@ skriemelt_back_answer skriemelt_catalogue_read_on(const uint8_t *text, size_t te
  * SKRIEMELT_TOO_LONG to SKRIEMELT_PAST_ELEMENT: as in reading. Then SKRIEMELT_NO_SUCH with place 1: object is not below the objects of the payload; else 2: block is not below its blocks, of
  * which a payload without an object element has none; else 3: byte is not below SKRIEMELT_RECORD_BYTES.
  *
- * The call goes through the payload anew for each step; it is meant for a person's questions, not for whole libraries. The records are laid on its own stack, which takes about 80 kB: more than a
+ * The call goes through the payload anew for each step; it is meant for a person's questions, not for whole libraries. The records are laid on its own stack, which takes about 85 kB: more than a
  * small thread may have.
  */
 SKRIEMELT_MUST_USE
