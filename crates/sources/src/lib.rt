@@ -15,6 +15,7 @@ use oamd::ROOM_BYTES;
 
 mod finding; // finding.rt: the source of a byte, by what was coded; the numbers of sources and fields
 mod offset; // offset.rt: where a field stands in its clause
+mod again; // again.rt: divergence and precise positions, read for a walk
 mod walk; // walk.rt: to a block, and to what the extended element has for a record
 mod telling; // telling.rt: the source of a byte in one block, and the bit of its field
 mod answer; // answer.rt: the refusals, and the steps one after the other

@@ -16,6 +16,8 @@ use crate::Frame;
 use crate::FrameStep;
 use crate::Inside;
 use crate::Placed;
+use crate::again::read_divergence;
+use crate::again::read_precise;
 use crate::telling::index_of;
 use bits::Cur;
 use bits::Limit;
@@ -200,7 +202,7 @@ fn pass_divergences(s: &[u8], l: Limit, c: Cur, records: &[u8], n: usize) -> Cur
     let mut i: usize = 0;
     while i < n {
         let carries = record::carries_at(records, RECORD_STRIDE * i);
-        let step = syntax::read_divergence(s, l, cur, carries);
+        let step = read_divergence(s, l, cur, carries);
         cur = step.cur;
         i = i + 1;
     }
@@ -227,7 +229,7 @@ fn pass_precises(s: &[u8], l: Limit, c: Cur, records: &[u8], n: usize) -> Cur
     let mut i: usize = 0;
     while i < n {
         let carries = record::carries_at(records, RECORD_STRIDE * i);
-        let step = syntax::read_precise(s, l, cur, carries);
+        let step = read_precise(s, l, cur, carries);
         cur = step.cur;
         i = i + 1;
     }
