@@ -9,6 +9,7 @@ use Rattle.bits.specs.declared.Refusal.the-variants.{Second, Early}
 use Rattle.bits.specs.Refusals.{numberOf}
 use Rattle.bits.specs.Language.{pick, both, P, give, within, _>>=_, bits, bitsIf, refuseIf}
 use Rattle.bits.specs.Size.{variable-bits-max}
+use Rattle.oamd.specs.declared.Frame.{Frame}
 use Rattle.oamd.specs.declared.Kind.{Kind}
 use Rattle.oamd.specs.declared.Kind.the-variants.{Unknown, Object, Trim, Extended}
 use Rattle.oamd.specs.declared.Programme.{Programme}
@@ -52,6 +53,10 @@ framed b-alternate-object-data-present f = do
     alternate-object-data-id-idx ← bitsIf (set? b-alternate-object-data-present) 4
     b-discard-unknown-element ← bits 1
     f (kind oa-element-id-idx alternate-object-data-id-idx) oa-element-size-bits)
+
+-- what an element is known as, and its size, whatever it holds
+abbrev pub frame : ℕ → P Frame
+frame b-alternate-object-data-present = framed b-alternate-object-data-present (λ k size. give (record { kind = k; size = size }))
 
 -- the known elements that have been read
 pub record Known : Type 0 where

@@ -1,4 +1,5 @@
 // The format: the types that definitions and code share. The definitions are in specs/, a file for each clause of the standard.
+use bits::Size;
 use units::ByteCount;
 use units::SampleCount;
 
@@ -255,6 +256,12 @@ pub enum Kind {
     Object,
     Trim,
     Extended,
+}
+
+// An element's frame: what it is known as, and its size.
+pub struct Frame {
+    pub kind: Kind,
+    pub size: Size,
 }
 
 // What a read answers, beside the records. On a refusal all but refusal and place is 0, and but the missing bits, where the payload ends early.

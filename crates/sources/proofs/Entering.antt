@@ -9,17 +9,15 @@ use Rattle.bits.specs.declared.Cur.{Cur}
 use Rattle.bits.specs.declared.Limit.{Limit}
 use Rattle.bits.specs.Language.{bit}
 use Rattle.bits.specs.View.{Gave}
-use Rattle.oamd.specs.declared.Kind.{Kind}
+use Rattle.oamd.specs.declared.Frame.{Frame}
 use Rattle.oamd.specs.Tables.{mostBytes}
-use Rattle.oamd.specs.Element.{there}
+use Rattle.oamd.specs.Element.{there, frame}
 use Rattle.demands.specs.Lemmas.Frame.{bodyAt, endAt}
 use Rattle.reader.specs.Steps.{wholeOf}
-use Rattle.sources.specs.declared.Frame.{Frame}
 use Rattle.sources.specs.declared.Inside.{Inside}
-use Rattle.sources.specs.Asked.{payloadIn, frame}
 use Rattle.sources.specs.Lemmas.Walking.{one-value, one-place, stepped}
-use Rattle.sources.specs.Lemmas.Seeking.{isWanted, seenOf, Seeking, Facing, facing, seek-on, seek-none, seek-object, seek-extended, FoundOf}
-use Rattle.sources.specs.Walks.{wantedBy, insideAt, Begun, Entered, Sought}
+use Rattle.sources.specs.Lemmas.Seeking.{isWanted, Seeking, Facing, facing, seek-on, seek-none, seek-object, seek-extended, FoundOf}
+use Rattle.sources.specs.Walks.{wantedBy, insideAt, Begun, Sought}
 use Rattle.sources.proofs.Framing.{wanted-by}
 
 -- the cursor stands before element i of n

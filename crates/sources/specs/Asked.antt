@@ -1,20 +1,19 @@
 -- What the functions on the way to an answer ask, and what they promise. Each is called for a payload that was read.
 use mathlib.Core.Path.{_≡_}
-use mathlib.Core.Bool.{Bool, true, false}
+use mathlib.Core.Bool.{true, false}
 use mathlib.Core.List.{List}
-use Prim.Native.Nat.{ℕ, _+_, _-_, _*_, _≤_, _<_}
+use Prim.Native.Nat.{ℕ, _-_, _*_, _≤_, _<_}
 use lib.Dec.{eqb}
 use lib.ListN.{length, getD}
-use Rattle.bits.specs.Language.{Res, ok, no, pick, P, give}
+use Rattle.bits.specs.Language.{Res, ok, no, pick}
 use Rattle.oamd.specs.Tables.{mostBytes, mostObjects, mostBlocks, recordStride}
-use Rattle.oamd.specs.Element.{framed, nothing}
+use Rattle.oamd.specs.Element.{nothing}
 use Rattle.oamd.specs.Payload.{Payload}
 use Rattle.oamd.specs.Answer.{noProgramme}
 use Rattle.demands.specs.Terms.{parsed, tablesOf}
 use Rattle.sources.specs.declared.Source.{Source}
 use Rattle.sources.specs.declared.Source.the-variants.{ByField, ByProgramme, ByBasicDefault, ByRenderDefault, ByNothing, ByBlock, ByMove, ByObject}
 use Rattle.sources.specs.declared.Field.the-variants.{NotActive}
-use Rattle.sources.specs.declared.Frame.{Frame}
 use Rattle.sources.specs.declared.WhyStep.{WhyStep}
 use Rattle.sources.specs.declared.Told.{Told}
 use Rattle.sources.specs.declared.Named.{Named}
@@ -57,10 +56,6 @@ pub record Recorded (s records : List ℕ) : Type 0 where
   pub room : recordStride * (objectsIn (payloadIn s) * blocksIn (payloadIn s)) ≤ length records
   pub same : (i : ℕ) → i < objectsIn (payloadIn s) * blocksIn (payloadIn s)
       → Rattle.record.specs.Bytes.recordAt records (recordStride * i) ≡ getD (tablesOf (payloadIn s) .records) i noRecord
-
--- what an element is known as, and its size, whatever it holds
-abbrev pub frame : ℕ → P Frame
-frame alternate = framed alternate (λ k size. give (record { kind = k; size = size }))
 
 -- ---- a step
 

@@ -6,9 +6,7 @@ ghost use Rattle.oamd.specs.Tables.{roomBytes, mostTrim};
 ghost use Rattle.sources.specs.Explaining.{explaining};
 use bits::Cur;
 use bits::Limit;
-use bits::Size;
 use oamd::Block;
-use oamd::Kind;
 use oamd::MOST_TRIM;
 use oamd::RECORD_BYTES;
 use oamd::ROOM_BYTES;
@@ -119,17 +117,6 @@ pub struct Link {
     pub object: u32,
     pub block: u32,
     pub left: u32,
-}
-
-// An element's frame: what it is known as, and its size.
-pub struct Frame {
-    pub kind: Kind,
-    pub size: Size,
-}
-
-pub struct FrameStep {
-    pub frame: Frame,
-    pub cur: Cur,
 }
 
 // The fields of an element, if it is there: where they begin, and the end that they are held to.

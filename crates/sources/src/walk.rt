@@ -3,17 +3,14 @@ ghost use mathlib.Core.Path.{_≡_};
 ghost use mathlib.Core.Bool.{false};
 ghost use lib.ListN.{replicate};
 ghost use Rattle.bits.specs.Language.{bit, when, for};
-ghost use Rattle.bits.specs.View.{Gave};
 ghost use Rattle.oamd.specs.Element.{headLength};
 ghost use Rattle.oamd.specs.Programme.{classOf};
 ghost use Rattle.oamd.specs.ObjectElement.{object-data};
 ghost use Rattle.oamd.specs.Extended.{obj-div-block, ext-prec-pos-block, noDivergence};
 ghost use Rattle.reader.specs.Steps.{Headed};
-ghost use Rattle.sources.specs.Asked.{Accepted, Asked, Recorded, frame};
+ghost use Rattle.sources.specs.Asked.{Accepted, Asked, Recorded};
 ghost use Rattle.sources.specs.Walks.{Went, wantedBy, insideAt, Begun, Sought, BlockFound, carriesAt, Room, DivergenceFound, PreciseFound};
 use crate::Extra;
-use crate::Frame;
-use crate::FrameStep;
 use crate::Inside;
 use crate::Placed;
 use crate::again::read_divergence;
@@ -26,31 +23,8 @@ use oamd::RECORD_STRIDE;
 use oamd::Shares;
 use reader::HeaderStep;
 use units::BitPos;
-use units::ByteCount;
 
 // ---- to an element
-
-// What an element is known as, and its size; the cursor comes to its declared end.
-fn read_frame(s: &[u8], l: Limit, c: Cur, alternate: u32) -> FrameStep
-    ensures { λ r. ⌜ Gave (frame alternate) (bit (now (s .entry))) c l (r .frame) (r .cur) ⌝ }
-{
-    let id = bits::take(s, l, c, 4);
-    let step = bits::read_size(s, l, id);
-    let size = step.size;
-    let sized = step.cur;
-    let length = ByteCount::new(size.value + 1);
-    let begun = bits::open(l, sized, length, 5 * size.groups);
-    let held = bits::inner_of(l, sized, length);
-    let other = bits::take_if(alternate == 1, s, held, begun, 4);
-    let discard = bits::take(s, held, other, 1);
-    let kind = oamd::kind_of(id.v, other.v);
-    let passed = bits::close(discard, held);
-    let cur = bits::with_value(passed, 0);
-    FrameStep {
-        frame: Frame { kind, size },
-        cur,
-    }
-}
 
 // Whether an element is the extended one, or else the object element.
 fn is_wanted(extended: bool, kind: Kind) -> bool
@@ -113,7 +87,7 @@ fn find_element(s: &[u8], l: Limit, c: Cur, alternate: u32, n: u32, extended: bo
     let mut cur = c;
     let mut i: u32 = 0;
     while i < n {
-        let step = read_frame(s, l, cur, alternate);
+        let step = syntax::read_frame(s, l, cur, alternate);
         let frame = step.frame;
         let behind = step.cur;
         let kind = frame.kind;

@@ -1,3 +1,4 @@
 pub mod Lines
 pub mod Glances
 pub mod Filled
+pub mod Framing

@@ -8,6 +8,7 @@ use oamd::BlockUpdate;
 use oamd::Distance;
 use oamd::Divergence;
 use oamd::Extent;
+use oamd::Frame;
 use oamd::Gain;
 use oamd::MOST_BEDS;
 use oamd::Offset;
@@ -31,11 +32,13 @@ mod view; // view.rt: the groups of render info, looked at in a window
 mod block; // block.rt: a block of an object
 mod extended; // extended.rt: divergence and precise positions
 mod trim; // trim.rt: a trim configuration
+mod frame; // frame.rt: an element's frame, whatever it holds
 
 pub use block::look_additional;
 pub use block::read_block;
 pub use extended::read_divergence;
 pub use extended::read_precise;
+pub use frame::read_frame;
 pub use glance::look_gain;
 pub use glance::look_priority;
 pub use glance::look_status;
@@ -194,5 +197,10 @@ pub struct BalanceStep {
 
 pub struct TrimConfigStep {
     pub config: TrimConfig,
+    pub cur: Cur,
+}
+
+pub struct FrameStep {
+    pub frame: Frame,
     pub cur: Cur,
 }

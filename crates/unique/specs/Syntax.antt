@@ -10,12 +10,14 @@ use Rattle.oamd.proofs.Block as block
 use Rattle.oamd.proofs.BlockUpdate as block-update
 use Rattle.oamd.proofs.Divergence as divergence
 use Rattle.oamd.proofs.Extent as extents
+use Rattle.oamd.proofs.Frame as frames
 use Rattle.oamd.proofs.Offset as offset
 use Rattle.oamd.proofs.Precise as precise
 use Rattle.oamd.proofs.Programme as programme
 use Rattle.oamd.proofs.TrimConfig as config
 use Rattle.oamd.proofs.Zone as zones
 use Rattle.oamd.specs.Block.{status-idx, position, distance, zone, extent, screen, additional-table-data, object-info-block}
+use Rattle.oamd.specs.Element.{frame}
 use Rattle.oamd.specs.Extended.{obj-div-block, ext-prec-pos-block}
 use Rattle.oamd.specs.Payload.{oa-md-version, object-count, oa-element-count}
 use Rattle.oamd.specs.Programme.{clear?, program-assignment}
@@ -34,6 +36,7 @@ use Rattle.syntax.proofs.read_assignment as read-assignment
 use Rattle.syntax.proofs.read_block as read-block
 use Rattle.syntax.proofs.read_divergence as read-divergence
 use Rattle.syntax.proofs.read_element_count as read-element-count
+use Rattle.syntax.proofs.read_frame as read-frame
 use Rattle.syntax.proofs.read_object_count as read-object-count
 use Rattle.syntax.proofs.read_offset as read-offset
 use Rattle.syntax.proofs.read_precise as read-precise
@@ -62,6 +65,12 @@ pub one-read-element-count : OneAnswer read-element-count.ended (λ M. read-elem
 one-read-element-count =
     by-relation (λ κs. reading-set codedℕ) (λ w. refl) (TookBy _ _) (took-once (λ i. oa-element-count) (λ i. 47))
     (λ w κs a r z p. said (λ h. (r, h, refl)) (p .holds))
+
+pub one-read-frame : OneAnswer read-frame.ended (λ M. read-frame.clauses) (λ M. read-frame.spec)
+    (λ κs a. now (a .0) beside a .1) (λ κs a r z. giving (r .frame) (r .cur))
+one-read-frame =
+    by-relation (λ κs. reading-set (frames.the-row .coded)) (λ w. refl) (GaveBy _) (gave-once (λ i. frame (i .1 .1 .1 .0)))
+    (λ w κs a r z p. said (λ h. (r .frame, r .cur, h, refl)) (p .holds))
 
 pub one-read-assignment : OneAnswer read-assignment.ended (λ M. read-assignment.clauses) (λ M. read-assignment.spec)
     (λ κs a. now (a .0) beside a .1) (λ κs a r z. giving (r .programme) (r .cur))

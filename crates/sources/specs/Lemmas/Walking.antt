@@ -1,9 +1,8 @@
 -- The same with positions: where reading comes to a reader, by what was read before it. So code that reads a payload again from its first bit on knows where it stands.
 use mathlib.Core.Path.{_≡_, refl, sym, ap, _∙_, subst, subst₂}
-use mathlib.Core.Bool.{Bool, true, false, not, true≢false, false≢true}
+use mathlib.Core.Bool.{Bool, true, false}
 use mathlib.Core.List.{List, [], _∷_, _++_}
-use mathlib.Core.Option.{Option, none, some}
-use Prim.Native.Nat.{ℕ, zero, suc, _+_, _-_, _*_, _≤_, _<_}
+use Prim.Native.Nat.{ℕ, zero, suc, _+_, _-_, _≤_, _<_}
 use native.Mathlib.Omega.{arith}
 use lib.Dec.{eqb}
 use lib.ListN.{length, getD}
@@ -11,19 +10,18 @@ use borrow.Author.Tests.{eqb-true}
 use Rattle.bits.specs.declared.Cur.{Cur}
 use Rattle.bits.specs.declared.Limit.{Limit}
 use Rattle.bits.specs.declared.Size.{Size}
-use Rattle.bits.specs.Language.{Res, ok, no, pick, andThen, Bits, P, give, within, _>>=_, run, bits, bitsIf, bit, number, each, from, for, pastPayload, pastDeclared}
+use Rattle.bits.specs.Language.{Res, ok, no, pick, andThen, Bits, P, give, within, _>>=_, run, bits, bitsIf, bit, number, each, from, for, pastDeclared}
 use Rattle.bits.specs.Steps.{no-ok, ok-at, bind-ok, bind-is, give-ok, give-is, within-is, field-ok}
 use Rattle.bits.specs.Laws.{length-from, local}
 use Rattle.bits.specs.Size.{variable-bits-max}
 use Rattle.bits.specs.View.{overOf, Reads}
 use Rattle.oamd.specs.declared.Kind.{Kind}
 use Rattle.oamd.specs.Programme.{set?}
-use Rattle.oamd.specs.Element.{kind, declaredLength, framed}
+use Rattle.oamd.specs.Element.{kind, declaredLength, framed, frame}
 use Rattle.demands.specs.Lemmas.Frame.{size-goes, alternate-goes, bodyAt, endAt}
 use Rattle.sources.specs.Places.{entry}
 use Rattle.sources.specs.Where.{bitOf}
-use Rattle.sources.specs.Asked.{frame}
-use Rattle.sources.specs.Lemmas.Meeting.{Meets, Line, next, line, held}
+use Rattle.sources.specs.Lemmas.Meeting.{Meets, next, line, held}
 
 -- reading comes to p at a position, and goes on somewhere behind it
 pub record Here {A : Type 0} (s : List ℕ) (way : List ℕ → List ℕ) (p : P A) (v : A) (at e o : ℕ) : Type 0 where

@@ -1,9 +1,9 @@
 -- `read_frame` meets its contract: a frame is opened, its head is read within it, and it is closed. Assumes nothing.
 use borrow.Author.Needs.{needs}
 use native.Mathlib.Omega.{arith}
-use Rattle.sources.proofs.Framing.{framed-gave}
-use Rattle.sources.proofs.walk.read_frame.Statement.{statement}
-use Rattle.sources.proofs.walk.read_frame.Tie as tie
+use Rattle.syntax.proofs.Framing.{framed-gave}
+use Rattle.syntax.proofs.frame.read_frame.Statement.{statement}
+use Rattle.syntax.proofs.frame.read_frame.Tie as tie
 
 -- ---- the places that are passed, each from the one behind it
 
