@@ -1,4 +1,4 @@
-//! With the feature `proved` and without `served`, links the proved library: target/staticlib/libhost.a, which `rt staticlib host` writes. The paths are
+//! With the feature `proved` and without `served`, links the proved library: target/staticlib/libskriemelt.a, which host/library makes. The paths are
 //! relative to this folder, so that a copied tree links its own library.
 
 use std::path::Path;
@@ -10,10 +10,10 @@ fn main() {
         return;
     }
     let folder = Path::new("../target/staticlib");
-    let library = folder.join("libhost.a");
+    let library = folder.join("libskriemelt.a");
     assert!(
         library.exists(),
-        "{} is missing: run `rt staticlib host`",
+        "{} is missing: run host/library",
         library.display()
     );
     println!("cargo:rerun-if-changed={}", library.display());

@@ -17,6 +17,7 @@
  *   request T, text, buffers of the update before, lines and records
  *                                                              answer: the same, the bytes of the three buffers
  *   request y, payload, object, block and byte (4 bytes each)  answer: place, missing, refusal, count, all steps
+ *   request S, payload, buffer                                 answer: place, missing, length, refusal, drops, all drops, the bytes of the buffer
  * A buffer is sent as it is lent and answered whole. It is lent at an address that leaves the remainder `skew` by 16, with canaries around it.
  * Exit status: 0 at the end of the input; 1 for a request that is not one, or a call that changed a canary or what it may only look at.
  */
@@ -438,6 +439,30 @@ static void serve_why(void)
     }
 }
 
+static void serve_salvage(void)
+{
+    static given payload;
+    static lent out;
+    skriemelt_salvage_answer a;
+    size_t i;
+
+    get_given(&payload);
+    get_lent(&out);
+    a = skriemelt_salvage(payload.bytes, payload.length, out.bytes, out.length);
+    hold_given(&payload);
+    put(a.place, 8);
+    put(a.missing, 4);
+    put(a.length, 4);
+    put(a.refusal, 1);
+    put(a.drops, 1);
+    for (i = 0; i < SKRIEMELT_MOST_DROPS; i++) {
+        put(a.dropped[i].place, 4);
+        put(a.dropped[i].id, 1);
+        put(a.dropped[i].refusal, 1);
+    }
+    put_lent(&out);
+}
+
 static void serve_write(void)
 {
     static given records, trim;
@@ -479,6 +504,8 @@ int main(void)
             serve_write();
         else if (request == 'y')
             serve_why();
+        else if (request == 'S')
+            serve_salvage();
         else if (request == 'c' || request == 'C')
             serve_catalogue(request == 'C');
         else if (request == 't' || request == 'T')

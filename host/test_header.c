@@ -214,6 +214,18 @@ static void words(void)
     check(skriemelt_source_word(0) == NULL && skriemelt_source_word(8) == NULL, "no such source");
 }
 
+/* The known elements have a name, each its own, and no other id has. */
+static void elements(void)
+{
+    unsigned id;
+
+    check(strcmp(skriemelt_element_name(SKRIEMELT_ELEMENT_OBJECT), "object element") == 0, "the object element");
+    check(strcmp(skriemelt_element_name(SKRIEMELT_ELEMENT_TRIM), "trim element") == 0, "the trim element");
+    check(strcmp(skriemelt_element_name(SKRIEMELT_ELEMENT_EXTENDED), "extended object element") == 0, "the extended object element");
+    for (id = 0; id < 20; id++)
+        check((skriemelt_element_name(id) != NULL) == (id == 1 || id == 2 || id == 5), "no other element");
+}
+
 /* Two's complement of 3 bits. */
 static void differences(void)
 {
@@ -240,9 +252,10 @@ int main(void)
     counts();
     names();
     words();
+    elements();
     differences();
     check(SKRIEMELT_VERSION == 1000 * SKRIEMELT_VERSION_MAJOR + SKRIEMELT_VERSION_MINOR, "the version's parts");
-    check(strcmp(SKRIEMELT_VERSION_STRING, "3.3") == 0, "the version's text");
+    check(strcmp(SKRIEMELT_VERSION_STRING, "3.4") == 0, "the version's text");
 #ifndef SKRIEMELT_TOO_LONG
     check(0, "the names are macros too");
 #endif

@@ -21,6 +21,8 @@ static void sizes(void)
     SIZE(skriemelt_catalogue_before, 3817);
     SIZE(skriemelt_why_step, 12);
     SIZE(skriemelt_why_answer, 2008);
+    SIZE(skriemelt_drop, 8);
+    SIZE(skriemelt_salvage_answer, 392);
 }
 
 static void offsets(void)
@@ -104,12 +106,26 @@ static void why_offsets(void)
     AT(skriemelt_why_answer, steps, 16);
 }
 
+static void salvage_offsets(void)
+{
+    AT(skriemelt_drop, place, 0);
+    AT(skriemelt_drop, id, 4);
+    AT(skriemelt_drop, refusal, 5);
+    AT(skriemelt_salvage_answer, place, 0);
+    AT(skriemelt_salvage_answer, missing, 8);
+    AT(skriemelt_salvage_answer, length, 12);
+    AT(skriemelt_salvage_answer, refusal, 16);
+    AT(skriemelt_salvage_answer, drops, 17);
+    AT(skriemelt_salvage_answer, dropped, 20);
+}
+
 int main(void)
 {
     sizes();
     offsets();
     catalogue_offsets();
     why_offsets();
+    salvage_offsets();
     check(skriemelt_version() == SKRIEMELT_VERSION, "version");
     check(SKRIEMELT_RECORD_BYTES == SKRIEMELT_RECORD_PRECISE_Z + 1, "what the payload gives ends with the code of z");
     check(SKRIEMELT_RECORD_TIME == SKRIEMELT_RECORD_BYTES, "the time follows");
@@ -123,6 +139,7 @@ int main(void)
     check(SKRIEMELT_PAYLOAD_ANSWERS == SKRIEMELT_OUTSIDE + 1, "a summary counts every answer of a payload");
     check(SKRIEMELT_BEFORE_BYTES == 1 + SKRIEMELT_RECORD_BYTES * SKRIEMELT_MOST_OBJECTS, "an update before has a count, and a row for each object");
     check(SKRIEMELT_MOST_STEPS == SKRIEMELT_MOST_OBJECTS - 1 + SKRIEMELT_MOST_BLOCKS - 1 + 1, "each step goes back by a block or by an object");
+    check(SKRIEMELT_MOST_DROPS == SKRIEMELT_MOST_UNKNOWN, "every element of a payload may be unknown, and every one may be dropped");
     check(SKRIEMELT_MOST_TRIM_BYTES == SKRIEMELT_TRIM_FIXED + SKRIEMELT_MOST_OBJECTS, "the longest trim table");
     return finish("test_layout");
 }

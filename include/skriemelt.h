@@ -1,9 +1,9 @@
 /*
  * skriemelt.h: reading and writing of object audio metadata (OAMD, ETSI TS 103 420 V1.2.1) from C and C++.
  *
- * The library is libhost.a (`rt staticlib host`). It needs memcpy and memset of the C library and nothing else: it has no state, takes no memory,
+ * The library is libskriemelt.a (`host/library`). It needs memcpy and memset of the C library and nothing else: it has no state, takes no memory,
  * opens nothing and never ends the program. Behind `make -C host install` it is libskriemelt: `pkg-config --cflags --libs skriemelt` for the shared library,
- * `pkg-config --cflags --libs skriemelt-static` for the archive. Without an install link with target/staticlib/libhost.a. What stands here as a function with a
+ * `pkg-config --cflags --libs skriemelt-static` for the archive. Without an install link with target/staticlib/libskriemelt.a. What stands here as a function with a
  * body is small, works on what it is given and nothing else, is not in the library and not part of what is proved.
  *
  * Slices. A slice is passed as two arguments: a pointer to its first byte, and its length in bytes. A pointer with length 0 may be NULL. A pointer with a
@@ -14,14 +14,15 @@
  * Tables. The programme and the timing are passed and answered by value. Values of every sort are fine in them.
  *
  * Refusals. A refused call leaves every byte of its lent buffers (read: the records and the trim table, batch: these of all entries and the answers, write:
- * the payload, listing: the text, catalogue: the text, or the lines and records read back from it, and the update before) as it came, and all fields of its answer but refusal and place,
- * and with SKRIEMELT_PAST_PAYLOAD the missing bits, are 0. An accepted read writes the first 32 * objects * blocks bytes of the record buffer, the first 94 + objects bytes of the trim
- * buffer, and no others; an accepted write writes the first `length` bytes of its buffer and no others. What a batch writes and what the calls of a catalogue write is said there. A summary
- * and a question why a byte is what it is are lent nothing; refused, all counters, and all steps, are 0.
+ * the payload, listing: the text, catalogue: the text, or the lines and records read back from it, and the update before, salvage: the payload that is left) as it came, and all
+ * fields of its answer but refusal and place, and with SKRIEMELT_PAST_PAYLOAD the missing bits, are 0. An accepted read writes the first 32 * objects * blocks bytes of the record
+ * buffer, the first 94 + objects bytes of the trim buffer, and no others; an accepted write or salvage writes the first `length` bytes of its buffer and no others. What a batch
+ * writes and what the calls of a catalogue write is said there. A summary and a question why a byte is what it is are lent nothing; refused, all counters, and all steps, are 0.
  *
- * Threads. Every call works on its arguments and its own stack alone (a read: about 36 kB, a batch: about 38 kB, a summary: about 75 kB, a write: about 1 kB, a listing: about 75 kB, a catalogue,
- * written: about 95 kB, read back: about 45 kB, a question why: about 85 kB). Calls may run at once in several threads, as long as no two are lent the same buffer to be filled; an update before is one. What a call only looks at
- * (read: the payload, batch, summary and catalogue: the store and the lists, write: the records and the trim table, listing and why: the payload, catalogue read back: the text) may be shared.
+ * Threads. Every call works on its arguments and its own stack alone (a read: about 36 kB, a batch: about 38 kB, a summary: about 75 kB, a write: about 1 kB, a listing: about 75 kB,
+ * a catalogue, written: about 95 kB, read back: about 45 kB, a question why: about 85 kB, a salvage: about 70 kB). Calls may run at once in several threads, as long as no two are
+ * lent the same buffer to be filled; an update before is one. What a call only looks at (read: the payload, batch, summary and catalogue: the store and the lists, write: the records
+ * and the trim table, listing, why and salvage: the payload, catalogue read back: the text) may be shared.
  *
  * There and back. A payload that is read and written again may have other bytes: the written form is the one form of the tables, and what is not in the tables
  * (unknown elements, reserved data, alternate ids, how a value was coded) is gone. Read again, it gives the same tables and no unknown element.
@@ -44,10 +45,10 @@ extern "C" {
 #endif
 
 /* The version of this interface: a thousand times the major number, plus the minor. A program built for a lower minor number of the same major one still works. */
-#define SKRIEMELT_VERSION 3003
+#define SKRIEMELT_VERSION 3004
 #define SKRIEMELT_VERSION_MAJOR 3
-#define SKRIEMELT_VERSION_MINOR 3
-#define SKRIEMELT_VERSION_STRING "3.3"
+#define SKRIEMELT_VERSION_MINOR 4
+#define SKRIEMELT_VERSION_STRING "3.4"
 
 /* A result that must not be dropped: the refusal stands in it. */
 #if defined(__GNUC__)
@@ -79,6 +80,7 @@ extern "C" {
 #define SKRIEMELT_MOST_ENTRIES 65536      /* payloads of a summary; more are refused with 16. A batch or catalogue may have any number */
 #define SKRIEMELT_MOST_FRAME_TEXT_BYTES 338558 /* the lines of every frame fit, in a catalogue that is written and in one that can be read back */
 #define SKRIEMELT_MOST_STEPS 166          /* steps of an answer why; one payload can need them all */
+#define SKRIEMELT_MOST_DROPS 46           /* elements of a payload, all of which a salvage can drop */
 
 /* Samples of a frame. A block may start past its end: that start is not folded into the next frame. */
 #define SKRIEMELT_FRAME_SAMPLES 1536
@@ -87,7 +89,8 @@ extern "C" {
  * Refusals. Where it says "bit", the place is a bit position counted from 0 at the top bit of the payload's first byte. A read is refused with 1 to 9, a write with
  * 10 or 11; 10 comes first. An entry of a batch is refused with 12 or as a read is, 12 first; a whole batch with 13; a summary with 13 or 16, 13 first; a listing with
  * 18. Writing a catalogue is refused with 13, then 9 for the update before, then 18; reading it back with 9 for the update before, then 17, then 9 for the records, then 9 for the lines. A
- * question why is refused with 1 to 8 as a read is, then with 14. 15 is not given. `switch ((skriemelt_refusal)answer.refusal)` lets the compiler say which case is missing.
+ * question why is refused with 1 to 8 as a read is, then with 14; a salvage with 1 to 5, then with 11. 15 is not given. `switch ((skriemelt_refusal)answer.refusal)` lets the compiler
+ * say which case is missing.
  */
 typedef enum skriemelt_refusal {
     SKRIEMELT_ACCEPTED = 0,        /* place 0 */
@@ -104,7 +107,7 @@ typedef enum skriemelt_refusal {
                                       back, if that is not, for the records, or, if that is not, for the lines; place: bytes needed */
     SKRIEMELT_NOT_VALID = 10,      /* not valid: programme, timing or too few record bytes, place 0; a record, by its own bytes or by its time, place: 1 + index of
                                       the first bad one; the trim table or too few bytes of it, place: 1 + number of records */
-    SKRIEMELT_NO_FIT = 11,         /* the form is longer than the payload buffer or 4,096 bytes; place: bytes needed */
+    SKRIEMELT_NO_FIT = 11,         /* the form is longer than the payload buffer or 4,096 bytes, or what a salvage leaves is longer than its buffer; place: bytes needed */
     SKRIEMELT_OUTSIDE = 12,        /* start and length leave the store; place: the start, in bytes; of an entry alone, in a batch, summary or catalogue */
     SKRIEMELT_LISTS = 13,          /* the lists differ in length, or, in a batch, slots or answers of all entries do not fit; place: the number of starts */
     SKRIEMELT_NO_SUCH = 14,        /* a question why: there is no such object, block or byte; place: 1, 2 or 3, for the first of these that there is not */
@@ -417,6 +420,28 @@ typedef struct skriemelt_why_answer {
     skriemelt_why_step steps[SKRIEMELT_MOST_STEPS]; /* from the byte that was asked for to the one that its value stems from; those from count on are 0 */
 } skriemelt_why_answer;
 
+/* The ids of the known elements (skriemelt_drop.id; skriemelt_element_name). */
+#define SKRIEMELT_ELEMENT_OBJECT 1
+#define SKRIEMELT_ELEMENT_TRIM 2
+#define SKRIEMELT_ELEMENT_EXTENDED 5
+
+/* An element that a salvage has dropped. */
+typedef struct skriemelt_drop {
+    uint32_t place;  /* what the refusal says, in the payload as it came: see the refusals above */
+    uint8_t id;      /* the element's id: SKRIEMELT_ELEMENT_.. */
+    uint8_t refusal; /* SKRIEMELT_RESERVED_VALUE, SKRIEMELT_SECOND_ELEMENT, SKRIEMELT_EXTENDED_EARLY or SKRIEMELT_PAST_ELEMENT */
+} skriemelt_drop;
+
+/* What a salvage answers, beside the payload that is left. On a refusal all but refusal and place is 0, and but missing with SKRIEMELT_PAST_PAYLOAD. */
+typedef struct skriemelt_salvage_answer {
+    uint64_t place;   /* see the refusals above, in the payload as it came */
+    uint32_t missing; /* as in skriemelt_read_answer */
+    uint32_t length;  /* bytes of what is left, 2 to the payload's own */
+    uint8_t refusal;  /* SKRIEMELT_ACCEPTED, 1 to 5, or SKRIEMELT_NO_FIT */
+    uint8_t drops;    /* elements that were dropped, 0 to 46; 0: what is left is the payload as it came */
+    skriemelt_drop dropped[SKRIEMELT_MOST_DROPS]; /* these, in their order in the payload; those from drops on are 0 */
+} skriemelt_salvage_answer;
+
 SKRIEMELT_HAS_SIZE(skriemelt_bed, 8);
 SKRIEMELT_HAS_SIZE(skriemelt_programme, 84);
 SKRIEMELT_HAS_SIZE(skriemelt_update, 4);
@@ -432,6 +457,8 @@ SKRIEMELT_HAS_SIZE(skriemelt_catalogue_frame, 40);
 SKRIEMELT_HAS_SIZE(skriemelt_catalogue_before, SKRIEMELT_BEFORE_BYTES);
 SKRIEMELT_HAS_SIZE(skriemelt_why_step, 12);
 SKRIEMELT_HAS_SIZE(skriemelt_why_answer, 2008);
+SKRIEMELT_HAS_SIZE(skriemelt_drop, 8);
+SKRIEMELT_HAS_SIZE(skriemelt_salvage_answer, 392);
 
 /* The version of the library; it equals SKRIEMELT_VERSION of the header that belongs to it. */
 SKRIEMELT_MUST_USE
@@ -626,6 +653,24 @@ skriemelt_back_answer skriemelt_catalogue_read_on(const uint8_t *text, size_t te
 SKRIEMELT_MUST_USE
 skriemelt_why_answer skriemelt_why(const uint8_t *payload, size_t payload_bytes, uint32_t object, uint32_t block, uint32_t byte);
 
+/*
+ * Salvages a damaged payload: drops each known element that reading refuses with SKRIEMELT_RESERVED_VALUE to SKRIEMELT_PAST_ELEMENT, as if one read the payload, dropped the element
+ * that was refused, and read again, until nothing is refused. What is left is accepted, and reads to the tables of the elements that are kept. Its element count is written anew; every
+ * other bit stays, those behind the last element too, and zero bits fill the last byte. A payload that is accepted comes back as the same bytes, and so does what a salvage has left.
+ * Every input is answered: there is nothing to check beforehand. The buffer needs no more bytes than the payload has; it must not overlap the payload.
+ *
+ * Drops. An element is looked at behind those that are kept before it: behind a dropped object element an extended one is SKRIEMELT_EXTENDED_EARLY, and another object element is no
+ * second one. Places are counted in the payload as it came, also where elements were dropped before. That of SKRIEMELT_PAST_ELEMENT can be the first bit behind its element.
+ *
+ * SKRIEMELT_TOO_LONG, SKRIEMELT_OTHER_VERSION and SKRIEMELT_COUNTS_DISAGREE: as in reading. SKRIEMELT_RESERVED_VALUE: in the program assignment, which is no element.
+ * SKRIEMELT_PAST_PAYLOAD: the payload ends early, before or behind dropped elements; where an element is cut off no other can be told. Then SKRIEMELT_NO_FIT with the bytes needed:
+ * out_bytes is below that. A refused salvage reports no drop.
+ *
+ * The call lays records on its own stack, which takes about 70 kB: more than a small thread may have.
+ */
+SKRIEMELT_MUST_USE
+skriemelt_salvage_answer skriemelt_salvage(const uint8_t *payload, size_t payload_bytes, uint8_t *out, size_t out_bytes);
+
 /* A sentence for a refusal; never NULL. */
 SKRIEMELT_INLINE const char *skriemelt_refusal_text(unsigned refusal)
 {
@@ -641,7 +686,7 @@ SKRIEMELT_INLINE const char *skriemelt_refusal_text(unsigned refusal)
     case SKRIEMELT_PAST_ELEMENT: return "a field passes the end that its element declares";
     case SKRIEMELT_NO_ROOM: return "the buffer for the records, for the trim table, or for the lines or the update before of a catalogue is too short";
     case SKRIEMELT_NOT_VALID: return "the programme, the timing, a record, its time or the trim table is not valid";
-    case SKRIEMELT_NO_FIT: return "the written form is longer than its buffer or than 4,096 bytes";
+    case SKRIEMELT_NO_FIT: return "the written form, or what a salvage leaves, is longer than its buffer or than 4,096 bytes";
     case SKRIEMELT_OUTSIDE: return "the payload does not lie within the store";
     case SKRIEMELT_LISTS: return "the lists differ in length, or the slots or answers of a batch do not fit their buffers";
     case SKRIEMELT_NO_SUCH: return "there is no such object, block or byte";
@@ -718,6 +763,17 @@ SKRIEMELT_INLINE const char *skriemelt_source_word(unsigned source)
     static const char *const words[SKRIEMELT_SOURCE_OBJECT + 1] = {NULL, "field", "programme", "default", "default", "nothing", "block", "object"};
 
     return source <= SKRIEMELT_SOURCE_OBJECT ? words[source] : NULL;
+}
+
+/* What a known element is called, by its id; NULL for any other id. */
+SKRIEMELT_INLINE const char *skriemelt_element_name(unsigned id)
+{
+    switch (id) {
+    case SKRIEMELT_ELEMENT_OBJECT: return "object element";
+    case SKRIEMELT_ELEMENT_TRIM: return "trim element";
+    case SKRIEMELT_ELEMENT_EXTENDED: return "extended object element";
+    }
+    return NULL;
 }
 
 /* What a step's difference adds, -4 to 3; 0 where there is none. */

@@ -18,6 +18,8 @@
     for frame in skriemelt.read_catalogue(text):          # and every record back
         print(frame.frame, frame.refusal, frame.updates, [record.time for record in frame.records])
     print(skriemelt.why(payload, 1, 0, "gain"))           # where the gain of object 1 in block 0 comes from, step by step, in sentences
+    salvaged = skriemelt.salvage(damaged)                 # a payload without the elements that are refused, and these
+    print(len(salvaged.payload), [(drop.place, drop.id, drop.refusal) for drop in salvaged.drops])
 
 Fields hold the numbers of include/skriemelt.h under its names, so that nothing is lost between a read and a write; properties say what they mean. Objects
 but Before are frozen: `dataclasses.replace` gives changed ones. What the library reads is proved; this module hands it bytes and names what it answers.
@@ -30,6 +32,8 @@ and one with another number of objects than the update before, has every field o
 carries the update before from piece to piece.
 
 Why a byte of a record is what it is, `why` says: its steps lead from that byte back, over the block before and the object before, to the field, the programme or the default that gave the value.
+
+Of a damaged payload `salvage` keeps what can be read: each known element that a read refuses is dropped, and what is left is accepted. An accepted payload comes back as the same bytes.
 
 The library is looked for when the first call needs it. The environment variable SKRIEMELT_LIBRARY names it (a path, or a name for the loader); if that is
 not set, it is looked for beside this file, as libskriemelt.so.3 where the loader looks, and by ctypes.util.find_library. Its version must have the major
@@ -51,13 +55,13 @@ from dataclasses import astuple, dataclass, field, fields, replace
 from typing import Any, Dict, Iterable, Iterator, List, Optional, Sequence, Tuple, Union
 
 __all__ = [
-    "Bed", "Before", "CatalogueFrame", "Content", "FRAME_SAMPLES", "Field", "INTERFACE", "Library", "LibraryError", "MOST_BEDS", "MOST_BLOCKS", "MOST_ENTRIES", "MOST_FRAME_TEXT_BYTES", "MOST_OBJECTS", "MOST_PAYLOAD_BYTES",
+    "Bed", "Before", "CatalogueFrame", "Content", "Drop", "Element", "FRAME_SAMPLES", "Field", "INTERFACE", "Library", "LibraryError", "MOST_BEDS", "MOST_BLOCKS", "MOST_DROPS", "MOST_ENTRIES", "MOST_FRAME_TEXT_BYTES", "MOST_OBJECTS", "MOST_PAYLOAD_BYTES",
     "MOST_RECORD_BYTES", "MOST_STEPS", "MOST_TEXT_BYTES", "MOST_TRIM_BYTES", "MOST_UNKNOWN", "ObjectClass", "Programme", "RECORD_BYTES", "RECORD_STRIDE", "RECORD_TIME",
-    "Record", "Refusal", "Refused", "Source", "Summary", "TRIM_CONFIGS", "TRIM_CONFIG_STRIDE", "TRIM_FIXED", "Tables", "Timing", "Trim", "TrimCarried", "TrimConfig", "TrimMode", "Update", "Why", "WhyStep", "Zone",
-    "default_library", "list_text", "read", "read_batch", "read_catalogue", "summarise", "why", "write", "write_catalogue",
+    "Record", "Refusal", "Refused", "Salvaged", "Source", "Summary", "TRIM_CONFIGS", "TRIM_CONFIG_STRIDE", "TRIM_FIXED", "Tables", "Timing", "Trim", "TrimCarried", "TrimConfig", "TrimMode", "Update", "Why", "WhyStep", "Zone",
+    "default_library", "list_text", "read", "read_batch", "read_catalogue", "salvage", "summarise", "why", "write", "write_catalogue",
 ]
 
-INTERFACE = 3003  # the version of the C interface that is needed: a thousand times the major number, plus the minor
+INTERFACE = 3004  # the version of the C interface that is needed: a thousand times the major number, plus the minor
 
 MOST_PAYLOAD_BYTES = 4096
 MOST_RECORD_BYTES = 40960
@@ -70,6 +74,7 @@ MOST_TEXT_BYTES = 100000  # the listing of every payload fits
 MOST_ENTRIES = 65536  # payloads of a summary
 MOST_FRAME_TEXT_BYTES = 338558  # all lines of a frame in a catalogue fit
 MOST_STEPS = 166  # of an answer why
+MOST_DROPS = 46  # of a salvage: all elements that a payload can have
 FRAME_SAMPLES = 1536  # samples of a frame
 RECORD_STRIDE = 32  # bytes of a record: those that the payload gives, and its time
 RECORD_BYTES = 24
@@ -163,6 +168,14 @@ class TrimCarried(enum.IntFlag):
     LIS = 16
 
 
+class Element(enum.IntEnum):
+    """The known elements, by their id."""
+
+    OBJECT = 1
+    TRIM = 2
+    EXTENDED = 5
+
+
 class Source(enum.IntEnum):
     """Where a byte of a record comes from. BLOCK and OBJECT lead to another step, all others end the chain."""
 
@@ -238,7 +251,7 @@ _MEANINGS = {
     Refusal.PAST_ELEMENT: ("a field of a known element passes the end that the element declares", "the first bit of that field"),
     Refusal.NO_ROOM: ("the room for the records, or else for the trim table, is too short", "the bytes needed"),
     Refusal.NOT_VALID: ("the tables are not valid", "0 for programme, timing or too few records, 1 + the index of the first bad record, 1 + the number of records for trim"),
-    Refusal.NO_FIT: ("the form is longer than its room or than 4,096 bytes", "the bytes needed"),
+    Refusal.NO_FIT: ("the form, or what a salvage leaves, is longer than its room or than 4,096 bytes", "the bytes needed"),
     Refusal.OUTSIDE: ("start and length leave the store", "the start in bytes"),
     Refusal.LISTS: ("the lists differ in length, or the slots or answers of a batch do not fit", "the number of starts"),
     Refusal.NO_SUCH: ("there is no such object, block or byte", "1 the object, 2 the block, 3 the byte"),
@@ -884,6 +897,31 @@ def _byte_number(byte: Union[int, str]) -> int:
     raise ValueError(f"byte is {byte!r}, but must be a number or one of {', '.join(_RECORD_NAMES)}")
 
 
+# ---- salvage
+
+
+@dataclass(frozen=True)
+class Drop:
+    """An element that a salvage has dropped."""
+
+    place: int  # what the refusal says, in the payload as it came, see `place_means` of Refused
+    id: Element
+    refusal: Refusal  # RESERVED_VALUE, SECOND_ELEMENT, EXTENDED_EARLY or PAST_ELEMENT
+
+    @property
+    def meaning(self) -> str:
+        """What the refusal is given for."""
+        return _MEANINGS[self.refusal][0]
+
+
+@dataclass(frozen=True)
+class Salvaged:
+    """What a salvage has left, and what it has dropped."""
+
+    payload: bytes  # it is accepted, and not longer than the payload that was given
+    drops: Tuple[Drop, ...]  # in their order in that payload, MOST_DROPS at the most; none: it was accepted as it is
+
+
 # ---- the C interface
 
 
@@ -975,6 +1013,21 @@ class _WhyAnswer(ctypes.Structure):
     ]
 
 
+class _Drop(ctypes.Structure):
+    _fields_ = [("place", ctypes.c_uint32), ("id", ctypes.c_uint8), ("refusal", ctypes.c_uint8)]
+
+
+class _SalvageAnswer(ctypes.Structure):
+    _fields_ = [
+        ("place", ctypes.c_uint64),
+        ("missing", ctypes.c_uint32),
+        ("length", ctypes.c_uint32),
+        ("refusal", ctypes.c_uint8),
+        ("drops", ctypes.c_uint8),
+        ("dropped", _Drop * MOST_DROPS),
+    ]
+
+
 _SLICE = [ctypes.c_void_p, ctypes.c_size_t]
 _READ = (_ReadAnswer, _SLICE + [ctypes.c_uint32] + _SLICE * 2)
 _WRITE = (_WriteAnswer, [_Programme, _Timing, ctypes.c_uint32] + _SLICE * 3)
@@ -984,6 +1037,7 @@ _LIST_TEXT = (_WriteAnswer, _SLICE * 2)
 _WRITE_CATALOGUE = (_CatalogueAnswer, _SLICE * 6)
 _READ_CATALOGUE = (_BackAnswer, _SLICE * 4)
 _WHY = (_WhyAnswer, _SLICE + [ctypes.c_uint32] * 3)
+_SALVAGE = (_SalvageAnswer, _SLICE * 2)
 _SONAME = f"libskriemelt.so.{INTERFACE // 1000}"
 
 
@@ -1011,6 +1065,7 @@ class Library:
         self._write_catalogue = self._function("skriemelt_catalogue_write_on", *_WRITE_CATALOGUE)
         self._read_catalogue = self._function("skriemelt_catalogue_read_on", *_READ_CATALOGUE)
         self._why = self._function("skriemelt_why", *_WHY)
+        self._salvage = self._function("skriemelt_salvage", *_SALVAGE)
 
     def _function(self, name: str, result: Any, arguments: List[Any]) -> Any:
         try:
@@ -1338,3 +1393,19 @@ def why(payload: BytesLike, object: int, block: int, byte: Union[int, str], *, l
         missing = f"no {('object', 'block', 'byte')[answer.place - 1]} {asked[answer.place - 1]}" if answer.refusal == Refusal.NO_SUCH else ""
         raise Refused(answer.refusal, answer.place, answer.missing, missing)
     return Why(_RECORD_NAMES[asked[2]], tuple(_step_of(step) for step in answer.steps[:answer.count]))
+
+
+def salvage(payload: BytesLike, *, room: int = MOST_PAYLOAD_BYTES, library: Optional[Library] = None) -> Salvaged:
+    """A damaged payload without the known elements that a read refuses with 5 to 8, and these elements. What is left is accepted; its element count is new, and every other bit stays.
+
+    Refused as in `read` with TOO_LONG, PAST_PAYLOAD, OTHER_VERSION and COUNTS_DISAGREE, with RESERVED_VALUE in the program assignment, which is no element, and with PAST_PAYLOAD too where the payload ends early behind an element
+    that is dropped; then with NO_FIT if what is left is longer than the room.
+    """
+    data = _bytes_of(payload, "payload")
+    out = _buffer(_room(room, "room"))
+    lib = library or default_library()
+    answer = lib._salvage(data, len(data), out, len(out))
+    if answer.refusal:
+        raise Refused(answer.refusal, answer.place, answer.missing)
+    drops = tuple(Drop(drop.place, Element(drop.id), Refusal(drop.refusal)) for drop in answer.dropped[:answer.drops])
+    return Salvaged(ctypes.string_at(out, answer.length), drops)

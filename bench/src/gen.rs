@@ -21,6 +21,7 @@ pub mod texts;
 mod timing;
 mod trim;
 mod trim_tables;
+mod wreck;
 
 use crate::plain::{Programme, Timing};
 use marks::Marks;
@@ -29,6 +30,7 @@ use rng::Rng;
 pub use chain::longest_chain;
 pub use tables::longest;
 pub use timing::timed;
+pub use wreck::{Remains, Wreck};
 
 /// Bytes of a record in a buffer: 24 that the payload gives, 8 of its time.
 const STRIDE: usize = 32;

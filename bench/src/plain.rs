@@ -13,6 +13,7 @@ mod origin;
 mod put;
 mod reader;
 mod record;
+mod salvage;
 mod sink;
 mod summary;
 mod trim;
@@ -31,6 +32,7 @@ pub use batch::{answer_bytes, read_batch, BatchAnswer, Shelf, ANSWER_BYTES};
 pub use catalogue::{read_catalogue, read_catalogue_on, write_catalogue, write_catalogue_on};
 pub use catalogue::{BackAnswer, CatalogueAnswer, BEFORE_BYTES, LINE_BYTES};
 pub use record::{Record, FRAME_SAMPLES, RECORD_BYTES, RECORD_STRIDE};
+pub use salvage::{salvage, Dropped, SalvageAnswer};
 pub use summary::{summarise, Summary, MAX_ENTRIES};
 pub use why::{why, Reasons, WhyAnswer, WhyStep, MAX_STEPS};
 

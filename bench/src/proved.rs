@@ -153,6 +153,27 @@ pub struct WhyAnswer {
     pub steps: [WhyStep; 166],
 }
 
+/// skriemelt_drop.
+#[repr(C)]
+#[derive(Clone, Copy, Debug, Default, PartialEq, Eq)]
+pub struct Dropped {
+    pub place: u32,
+    pub id: u8,
+    pub refusal: u8,
+}
+
+/// skriemelt_salvage_answer.
+#[repr(C)]
+#[derive(Clone, Copy, Debug)]
+pub struct SalvageAnswer {
+    pub place: u64,
+    pub missing: u32,
+    pub length: u32,
+    pub refusal: u8,
+    pub drops: u8,
+    pub dropped: [Dropped; 46],
+}
+
 const _: () = {
     use core::mem::{align_of, offset_of, size_of};
     assert!(size_of::<Bed>() == 8 && align_of::<Bed>() == 4);
@@ -208,6 +229,13 @@ const _: () = {
     assert!(offset_of!(WhyAnswer, place) == 0 && offset_of!(WhyAnswer, missing) == 8);
     assert!(offset_of!(WhyAnswer, refusal) == 12 && offset_of!(WhyAnswer, count) == 13);
     assert!(offset_of!(WhyAnswer, steps) == 16);
+    assert!(size_of::<Dropped>() == 8 && align_of::<Dropped>() == 4);
+    assert!(offset_of!(Dropped, place) == 0 && offset_of!(Dropped, id) == 4);
+    assert!(offset_of!(Dropped, refusal) == 5);
+    assert!(size_of::<SalvageAnswer>() == 392 && align_of::<SalvageAnswer>() == 8);
+    assert!(offset_of!(SalvageAnswer, place) == 0 && offset_of!(SalvageAnswer, missing) == 8);
+    assert!(offset_of!(SalvageAnswer, length) == 12 && offset_of!(SalvageAnswer, refusal) == 16);
+    assert!(offset_of!(SalvageAnswer, drops) == 17 && offset_of!(SalvageAnswer, dropped) == 20);
 };
 
 #[cfg(not(feature = "served"))]
@@ -220,7 +248,7 @@ use linked as library;
 #[cfg(feature = "served")]
 use served as library;
 
-pub use library::{read, read_batch, summarise, version, why, write};
+pub use library::{read, read_batch, salvage, summarise, version, why, write};
 pub use library::{read_catalogue, read_catalogue_on, write_catalogue, write_catalogue_on};
 
 impl From<&plain::Programme> for Programme {
@@ -329,6 +357,28 @@ impl WhyAnswer {
             place: self.place,
             missing: self.missing,
             steps: steps.collect(),
+        })
+    }
+}
+
+impl SalvageAnswer {
+    /// The same answer in the plain types, every field of it; none if there are more drops than there can be, or one behind them is not all 0.
+    pub fn plain(&self) -> Option<plain::SalvageAnswer> {
+        let (used, unused) = self.dropped.split_at_checked(self.drops.into())?;
+        if unused.iter().any(|drop| *drop != Dropped::default()) {
+            return None;
+        }
+        let drops = used.iter().map(|drop| plain::Dropped {
+            place: drop.place.into(),
+            id: drop.id,
+            refusal: drop.refusal.into(),
+        });
+        Some(plain::SalvageAnswer {
+            refusal: self.refusal.into(),
+            place: self.place,
+            missing: self.missing,
+            length: self.length.into(),
+            drops: drops.collect(),
         })
     }
 }

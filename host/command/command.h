@@ -13,13 +13,13 @@
 
 /* What a subcommand was asked for. */
 typedef struct request {
-    int people;         /* list: a table for people, not the listing; summary: bars, not lines key=value; why: sentences, not lines */
+    int people;         /* list: a table for people, not the listing; summary: bars, not lines key=value; why and salvage: sentences, not lines */
     int trim;           /* the trim table's fields too */
-    int progress;       /* all but list and why: progress on standard error, terminal or not */
+    int progress;       /* all but list, why and salvage: progress on standard error, terminal or not */
     unsigned long rate; /* samples in a second, for milliseconds */
     int framed;         /* the first frame was given */
     uint64_t first;     /* the frame of the first payload; those behind it count on */
-    char **names;       /* the files, none for standard input; why: one, and behind it object, block and byte */
+    char **names;       /* the files, none for standard input; why: one, and behind it object, block and byte; salvage: one to read, one to write */
     int name_count;
 } request;
 
@@ -92,13 +92,19 @@ ending input_segment(FILE *in, segment *s, size_t most, uint64_t frame);
 /* Complains of a file that ended otherwise than behind a payload, with that payload's number and what is therefore not done ("": all was done). STATUS_FAILED. */
 int input_broken(const char *name, ending how, unsigned long long payload, const char *therefore);
 
-/* list.c, shelf.c, summary.c, catalogue.c, records.c, why.c: the status. */
+/*
+ * output.c: writes a file whole or not at all, by way of a temporary file beside it; a device or pipe as it is. Whether it was written, else complained of, and the file is as it was.
+ */
+int output_file(const char *name, const uint8_t *bytes, size_t count);
+
+/* list.c, shelf.c, summary.c, catalogue.c, records.c, why.c, salvage.c: the status. */
 int run_list(const request *asked);
 int run_shelf(const request *asked);
 int run_summary(const request *asked);
 int run_catalogue(const request *asked);
 int run_records(const request *asked);
 int run_why(const request *asked);
+int run_salvage(const request *asked);
 
 /* people.c, trim.c: what was read. */
 const char *class_name(unsigned class_number);

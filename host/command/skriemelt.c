@@ -19,16 +19,18 @@ static const char general_help[] =
     "       skriemelt catalogue [--first N] [--progress] [FILE]\n"
     "       skriemelt records [--progress] [TEXT]\n"
     "       skriemelt why [--people] FILE OBJECT BLOCK BYTE\n"
+    "       skriemelt salvage [--people] FILE OUT\n"
     "       skriemelt SUBCOMMAND --help\n"
     "       skriemelt --help | --version\n"
     "\n"
-    "Reads object audio metadata (OAMD, ETSI TS 103 420).\n"
+    "Reads object audio metadata (OAMD, ETSI TS 103 420), and salvages damaged payloads.\n"
     "  list       each FILE is one payload: prints its listing\n"
     "  shelf      FILE holds payloads one behind the other: prints a line for each, and counts by refusal\n"
     "  summary    FILE is as for shelf: counts its records by gain, zone, class and activity, late blocks, and payloads by refusal\n"
     "  catalogue  FILE is as for shelf: prints its catalogue, what has changed from update to update\n"
     "  records    TEXT is a catalogue: prints all records again, as listings\n"
     "  why        FILE is one payload: prints where a byte of a record comes from, step by step\n"
+    "  salvage    FILE is one payload: writes it to OUT without the elements that are refused, and prints which these are\n"
     "\n"
     "Exit status: 0 all accepted, 1 something was refused, 2 usage, or a file that cannot be read or written.\n";
 
@@ -95,6 +97,15 @@ static const char why_help[] =
     "  ,object                     it is that of the object before: the next step\n"
     "  --people   a sentence for each step\n";
 
+static const char salvage_help[] =
+    "usage: skriemelt salvage [--people] FILE OUT\n"
+    "\n"
+    "FILE (-: standard input) is one payload, of which at most 4,097 bytes are looked at. Drops each known element that reading refuses, with 5, 6, 7 or 8, and writes what is\n"
+    "left to OUT (-: standard output): a payload that is accepted. The element count is written anew, every other bit stays. An accepted payload is written as it is. OUT may be FILE; it is\n"
+    "written whole or not at all, by way of a file OUT.?????? beside it. Prints lines key=value, on standard error if OUT is -: refusal, place, with refusal 2 missing; of an accepted\n"
+    "salvage length and drops, and for each element that was dropped place, id and refusal, the place in the payload as it came. A refused salvage writes nothing: exit status 1.\n"
+    "  --people   sentences\n";
+
 /* The options that a subcommand may have, a bit each; option_of has their names in this order. */
 enum { PEOPLE = 1, TRIM = 2, RATE = 4, FIRST = 8, PROGRESS = 16 };
 
@@ -110,6 +121,7 @@ static const struct subcommand {
     {"catalogue", catalogue_help, run_catalogue, 1, FIRST | PROGRESS},
     {"records", records_help, run_records, 1, PROGRESS},
     {"why", why_help, run_why, 4, PEOPLE},
+    {"salvage", salvage_help, run_salvage, 2, PEOPLE},
 };
 
 int misuse(const char *what, const char *why)
@@ -210,7 +222,7 @@ static int run(char **arguments)
     size_t i;
 
     if (arguments[0] == NULL)
-        return misuse("no subcommand", "list, shelf, summary, catalogue, records or why");
+        return misuse("no subcommand", "list, shelf, summary, catalogue, records, why or salvage");
     if (strcmp(arguments[0], "--help") == 0) {
         print("%s", general_help);
         return STATUS_ACCEPTED;

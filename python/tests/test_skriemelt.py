@@ -31,7 +31,7 @@ sys.path.insert(0, str(HERE.parent))
 
 import skriemelt  # noqa: E402
 from skriemelt import (  # noqa: E402
-    Bed, Before, CatalogueFrame, Content, Field, ObjectClass, Programme, Record, Refusal, Refused, Source, Summary, Tables, Timing, Trim, TrimConfig, TrimMode, Update, Why, WhyStep, Zone)
+    Bed, Before, CatalogueFrame, Content, Drop, Element, Field, ObjectClass, Programme, Record, Refusal, Refused, Salvaged, Source, Summary, Tables, Timing, Trim, TrimConfig, TrimMode, Update, Why, WhyStep, Zone)
 
 SAMPLE = (ROOT / "samples" / "three-objects.oamd").read_bytes()
 
@@ -986,6 +986,91 @@ class Whys(Case):
             self.assertEqual(list(pool.map(lambda question: skriemelt.why(TWO, *question), questions)), alone)
 
 
+class Salvages(Case):
+    """A damaged payload without the elements that are refused."""
+
+    # payloads worked by hand: what is left of them, and the drops
+    WORKED = {
+        "010440c1": ("0102", ((24, 1, 5),)),
+        "010c40c0a0002110c000": ("010484430000", ((24, 1, 5), (31, 5, 7))),
+        "010840412000": ("01064000", ((31, 1, 8),)),
+    }
+
+    def test_worked(self):
+        for payload, (left, drops) in self.WORKED.items():
+            with self.subTest(payload=payload):
+                salvaged = skriemelt.salvage(bytes.fromhex(payload))
+                self.assertEqual(salvaged, Salvaged(bytes.fromhex(left), tuple(Drop(place, Element(id), Refusal(refusal)) for place, id, refusal in drops)))
+                self.assertEqual(skriemelt.salvage(salvaged.payload), Salvaged(salvaged.payload, ()))
+                skriemelt.read(salvaged.payload)
+
+    def test_fifteen_to_fourteen(self):
+        """Fifteen elements, the first refused, fourteen unknown of a byte: the count loses five bits."""
+        bits = "00000001" "00" "111100000" + "00010000001100000" + 14 * "10010000001010101"
+        salvaged = skriemelt.salvage(int(bits.ljust(280, "0"), 2).to_bytes(35, "big"))
+        left = "00000001" "00" "1110" + 14 * "10010000001010101"
+        self.assertEqual(salvaged, Salvaged(int(left.ljust(264, "0"), 2).to_bytes(33, "big"), (Drop(29, Element.OBJECT, Refusal.RESERVED_VALUE),)))
+
+    def test_vectors(self):
+        """An accepted payload comes back as it is; of a refused one the first drop is its refusal, or it is refused likewise, or ends early later."""
+        seen = collections.Counter()
+        for payload, expected in zip(PAYLOADS, EXPECTED):
+            number, place = expected.number("refusal"), expected.number("place")
+            try:
+                salvaged = skriemelt.salvage(payload)
+            except Refused as refused:
+                likewise = (refused.number, refused.place, refused.missing) == (number, place, expected.number("missing"))
+                self.assertTrue(likewise or number >= 5 and refused.refusal is Refusal.PAST_PAYLOAD and refused.place >= place)
+                seen["refused"] += 1
+                continue
+            if number == 0:
+                self.assertEqual(salvaged, Salvaged(payload, ()))
+                seen["accepted"] += 1
+                continue
+            self.assertEqual((salvaged.drops[0].place, salvaged.drops[0].refusal), (place, number))
+            self.assertLessEqual(len(salvaged.payload), len(payload))
+            self.assertEqual(skriemelt.salvage(salvaged.payload), Salvaged(salvaged.payload, ()))
+            skriemelt.read(salvaged.payload)
+            seen["salvaged"] += 1
+        self.assertEqual(len(seen), 3, seen)
+
+    def refused(self, payload, number, place, missing=0, **how):
+        with self.assertRaises(Refused) as caught:
+            skriemelt.salvage(payload, **how)
+        self.assertEqual((caught.exception.number, caught.exception.place, caught.exception.missing), (number, place, missing))
+
+    def test_refused(self):
+        self.refused(b"", 2, 0, 2)
+        self.refused(bytes(4097), 1, 4097)
+        self.refused(b"\x40", 3, 0)
+        self.refused(b"\x00\x00", 4, 12)
+        self.refused(b"\x00\x2c", 5, 12)
+        self.refused(bytes.fromhex("010840c0"), 2, 31, 3)
+
+    def test_room(self):
+        damaged = bytes.fromhex("010c40c0a0002110c000")
+        self.assertEqual(len(skriemelt.salvage(damaged, room=6).payload), 6)
+        self.refused(damaged, 11, 6, room=5)
+        self.refused(damaged, 11, 6, room=0)
+
+    def test_as_values(self):
+        damaged = bytes.fromhex("010440c1")
+        salvaged = skriemelt.salvage(damaged)
+        self.assertEqual(hash(salvaged), hash(skriemelt.salvage(bytearray(damaged))))
+        self.assertEqual(pickle.loads(pickle.dumps(salvaged)), salvaged)
+        self.assertEqual(salvaged.drops[0].meaning, Refused(5, 24).meaning)
+        with self.assertRaises(dataclasses.FrozenInstanceError):
+            salvaged.payload = b""
+        with self.assertRaises(dataclasses.FrozenInstanceError):
+            salvaged.drops[0].place = 0
+
+    def test_threads(self):
+        payloads = [bytes.fromhex(payload) for payload in self.WORKED] * 32
+        alone = [skriemelt.salvage(payload) for payload in payloads]
+        with concurrent.futures.ThreadPoolExecutor(8) as pool:
+            self.assertEqual(list(pool.map(skriemelt.salvage, payloads)), alone)
+
+
 class Frames(Case):
     """Frames, and the time of each record."""
 
@@ -1266,7 +1351,7 @@ class NoBytes(unittest.TestCase):
         for given in ("01", None, 5, 1.5, [1, 2], (1, 2), {1}, object(), array.array("B", [1, 2]), range(3), (ctypes.c_uint8 * 3)()):
             name = re.escape(type(given).__name__)
             lists = [lambda store, call=call: call(store, []) for call in (skriemelt.read_batch, skriemelt.summarise, skriemelt.write_catalogue)]
-            for call in (skriemelt.read, skriemelt.list_text, lambda payload: skriemelt.why(payload, 0, 0, 0), *lists, Record.from_bytes, Trim.from_bytes):
+            for call in (skriemelt.read, skriemelt.list_text, skriemelt.salvage, lambda payload: skriemelt.why(payload, 0, 0, 0), *lists, Record.from_bytes, Trim.from_bytes):
                 with self.subTest(given=given), self.assertRaisesRegex(TypeError, f"must be bytes, bytearray or memoryview, not {name}"):
                     call(given)
 
@@ -1319,7 +1404,7 @@ class Interface(unittest.TestCase):
         defined = {name: int(value) for name, value in re.findall(r"^(?:#define |    )SKRIEMELT_(\w+)(?: =)? (\d+)\b", text, flags=re.M)}
         version = defined.pop("VERSION")
         self.assertEqual(version, 1000 * defined.pop("VERSION_MAJOR") + defined.pop("VERSION_MINOR"))
-        enums = {"CLASS_": ObjectClass, "CONTENT_": Content, "TRIM_MODE_": TrimMode, "TRIM_CARRIED_": skriemelt.TrimCarried, "SOURCE_": Source, "FIELD_": Field}
+        enums = {"CLASS_": ObjectClass, "CONTENT_": Content, "TRIM_MODE_": TrimMode, "TRIM_CARRIED_": skriemelt.TrimCarried, "SOURCE_": Source, "FIELD_": Field, "ELEMENT_": Element}
         known = {prefix + member.name: member for prefix, kind in enums.items() for member in kind}
         known.update({member.name: member for member in Refusal}, FIELD_NONE=0)
         known.update({"RECORD_" + name.rstrip("_").upper(): at for at, name in enumerate(skriemelt._RECORD_NAMES)})
@@ -1336,7 +1421,7 @@ class Interface(unittest.TestCase):
 
     def test_layout(self):
         sizes = {"_Bed": 8, "_Programme": 84, "_Update": 4, "_Timing": 34, "_ReadAnswer": 136, "_WriteAnswer": 16, "_BatchAnswer": 16, "_Summary": 384,
-                 "_CatalogueAnswer": 24, "_BackAnswer": 32, "_CatalogueFrame": 40, "_WhyStep": 12, "_WhyAnswer": 2008}
+                 "_CatalogueAnswer": 24, "_BackAnswer": 32, "_CatalogueFrame": 40, "_WhyStep": 12, "_WhyAnswer": 2008, "_Drop": 8, "_SalvageAnswer": 392}
         self.assertEqual({name: ctypes.sizeof(getattr(skriemelt, name)) for name in sizes}, sizes)
         answer = skriemelt._ReadAnswer
         self.assertEqual([getattr(answer, name).offset for name, _ in answer._fields_], [0, 8, 9, 12, 96, 132])
@@ -1347,6 +1432,9 @@ class Interface(unittest.TestCase):
         step, reasons = skriemelt._WhyStep, skriemelt._WhyAnswer
         self.assertEqual([getattr(step, name).offset for name, _ in step._fields_], [0, 4, 5, 6, 7, 8, 9])
         self.assertEqual([getattr(reasons, name).offset for name, _ in reasons._fields_], [0, 8, 12, 13, 16])
+        drop, salvaged = skriemelt._Drop, skriemelt._SalvageAnswer
+        self.assertEqual([getattr(drop, name).offset for name, _ in drop._fields_], [0, 4, 5])
+        self.assertEqual([getattr(salvaged, name).offset for name, _ in salvaged._fields_], [0, 8, 12, 16, 17, 20])
         self.assertEqual((skriemelt._CatalogueAnswer.refusal.offset, skriemelt._BackAnswer.refusal.offset, skriemelt._BEFORE_BYTES), (16, 24, 3817))
         self.assertEqual((skriemelt._Programme.beds.offset, skriemelt._Timing.updates.offset, skriemelt._WriteAnswer.refusal.offset), (12, 2, 12))
 
@@ -1382,6 +1470,7 @@ void skriemelt_summarise(void) {}
 void skriemelt_catalogue_write_on(void) {}
 void skriemelt_catalogue_read_on(void) {}
 void skriemelt_why(void) {}
+void skriemelt_salvage(void) {}
 text_answer skriemelt_list_text(const uint8_t *payload, size_t payload_bytes, uint8_t *text, size_t text_bytes)
 {
     text_answer a = {0, 10, 0}, b = {10, 0, 18};
@@ -1452,37 +1541,37 @@ class OtherVersion(unittest.TestCase):
         return str(path)
 
     def test_versions_that_do_not_fit(self):
-        for version in (0, 1002, 2003, 2999, 3000, 3001, 3002, 4000, 13000):
+        for version in (0, 1002, 2003, 2999, 3000, 3001, 3002, 3003, 4000, 13000):
             path = self.stub(f"-DVERSION={version}")
             with self.subTest(version=version), mock.patch.dict(os.environ, {"SKRIEMELT_LIBRARY": path}):
                 with self.assertRaises(skriemelt.LibraryError) as caught:
                     skriemelt.read(SAMPLE)
-                for part in (path, f"has version {version} ", "3003 to 3999"):
+                for part in (path, f"has version {version} ", "3004 to 3999"):
                     self.assertIn(part, str(caught.exception))
 
     def test_versions_that_fit(self):
-        for version in (3003, 3004, 3999):
+        for version in (3004, 3005, 3999):
             library = skriemelt.Library(self.stub(f"-DVERSION={version}"))
             self.assertEqual(library.version, version)
             self.assertIn(str(version), repr(library))
 
     def test_listing(self):
-        library = skriemelt.Library(self.stub("-DVERSION=3003"))
+        library = skriemelt.Library(self.stub("-DVERSION=3004"))
         self.assertEqual(skriemelt.list_text(SAMPLE, library=library), "refusal=0\n")
         with self.assertRaises(Refused) as caught:
             skriemelt.list_text(SAMPLE, room=9, library=library)
         self.assertEqual((caught.exception.refusal, caught.exception.place), (Refusal.SHORT_TEXT, 10))
 
     def test_functions_that_are_not_there(self):
-        path = self.stub("-DVERSION=3003", "-DALONE")
+        path = self.stub("-DVERSION=3004", "-DALONE")
         self.assertRaisesRegex(skriemelt.LibraryError, "no function skriemelt_read", skriemelt.Library, path)
-        fewer = self.stub("-DVERSION=3003", "-Dskriemelt_catalogue_read_on=another_read_on")
+        fewer = self.stub("-DVERSION=3004", "-Dskriemelt_catalogue_read_on=another_read_on")
         self.assertRaisesRegex(skriemelt.LibraryError, "no function skriemelt_catalogue_read_on", skriemelt.Library, fewer)
-        other = self.stub("-DVERSION=3003", "-Dskriemelt_version=another_version")
+        other = self.stub("-DVERSION=3004", "-Dskriemelt_version=another_version")
         self.assertRaisesRegex(skriemelt.LibraryError, "no function skriemelt_version", skriemelt.Library, pathlib.Path(other))
 
     def test_the_first_that_loads_decides(self):
-        old, fit = self.stub("-DVERSION=2003"), self.stub("-DVERSION=3003")
+        old, fit = self.stub("-DVERSION=2003"), self.stub("-DVERSION=3004")
         with mock.patch.dict(os.environ, {"SKRIEMELT_LIBRARY": ""}):
             self.addCleanup(skriemelt._opened.cache_clear)
             with mock.patch.object(skriemelt, "_candidates", lambda: iter(["/nowhere/lib.so", fit, old])):

@@ -94,6 +94,28 @@ impl Draft {
         self.bits.extend(content.bits.iter().take(width));
     }
 
+    /// Adds all of another draft, its fields, too.
+    pub fn add(&mut self, part: &Draft) {
+        let base = self.len();
+        if let Some((refusal, place)) = part.fault {
+            self.fail_at(refusal, base + place);
+        }
+        let fields = part.fields.iter();
+        self.fields
+            .extend(fields.map(|(from, to)| (base + from, base + to)));
+        self.bits.extend(&part.bits);
+    }
+
+    /// What is refused first in an element's content of `width` bits, and where:
+    /// its fault, or a field that passes its end.
+    pub fn first_refused(&self, width: usize) -> Option<(u32, usize)> {
+        let past = self.first_past(width).map(|(place, _)| (8, place));
+        match (past, self.fault) {
+            (Some(past), Some(fault)) if fault.1 < past.1 => Some(fault),
+            (past, fault) => past.or(fault),
+        }
+    }
+
     /// The first field, in reading order, that passes `end`: its first bit, and
     /// the bits by which it does.
     pub fn first_past(&self, end: usize) -> Option<(usize, usize)> {

@@ -300,7 +300,7 @@ impl Gen {
     }
 
     /// The alternate id of a known element and its discard flag.
-    fn element_start(&mut self, alternate: Option<usize>) -> Draft {
+    pub(super) fn element_start(&mut self, alternate: Option<usize>) -> Draft {
         let mut content = Draft::default();
         if let Some(id) = alternate {
             content.field(4, id);
@@ -347,7 +347,7 @@ impl Gen {
         draft.noise(&mut self.rng, padding);
     }
 
-    fn unknown_bytes(&mut self) -> usize {
+    pub(super) fn unknown_bytes(&mut self) -> usize {
         match self.rng.below(100) {
             0..=89 => self.rng.within(1, 6),
             90..=96 => self.rng.pick(&[1, 15, 16, 17, 18, 271, 272, 273]),
@@ -357,7 +357,7 @@ impl Gen {
     }
 
     /// An element of another id, or an object element of another alternate id.
-    fn unknown(&mut self, draft: &mut Draft, alternate: bool, bytes: usize) {
+    pub(super) fn unknown(&mut self, draft: &mut Draft, alternate: bool, bytes: usize) {
         let object = alternate && self.rng.chance(40);
         let ids = [0, 3, 4, 6, 7, 8, 9, 10, 11, 12, 13, 14, 15];
         let id = if object { 1 } else { self.rng.pick(&ids) };
@@ -378,7 +378,7 @@ impl Gen {
 
     /// An element whose declared size passes the end of the payload, by less
     /// than two bytes or by far; nothing is written after it.
-    fn long_size(&mut self, draft: &mut Draft) {
+    pub(super) fn long_size(&mut self, draft: &mut Draft) {
         draft.field(4, self.rng.below(16));
         draft.fail(2);
         let bytes = match self.rng.below(6) {

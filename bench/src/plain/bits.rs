@@ -47,10 +47,16 @@ pub struct Bits<'a> {
 impl<'a> Bits<'a> {
     /// A reader of a whole payload.
     pub fn new(bytes: &'a [u8]) -> Self {
+        Self::up_to(bytes, 8 * bytes.len())
+    }
+
+    /// A reader of a payload of `end` bits, which need not be whole bytes.
+    pub fn up_to(bytes: &'a [u8], end: usize) -> Self {
+        debug_assert!(end <= 8 * bytes.len());
         Self {
             bytes,
             at: 0,
-            end: 8 * bytes.len(),
+            end,
             short: refusal::PAST_PAYLOAD,
         }
     }

@@ -34,13 +34,7 @@ pub fn payload<N: Notes>(
     if bytes.len() > MAX_PAYLOAD {
         return Err(Refusal::new(refusal::TOO_LONG, bytes.len()));
     }
-    let mut bits = Bits::new(bytes);
-    if bits.grown(2, 3)? != 0 {
-        return Err(Refusal::new(refusal::VERSION, 0));
-    }
-    let objects = bits.grown(5, 7)? + 1;
-    let programme = program_assignment(&mut bits, objects)?;
-    let tables = elements(&mut bits, programme, scratch, notes)?;
+    let tables = metadata(&mut Bits::new(bytes), scratch, notes)?;
     let needed = needed(&tables.programme, &tables.timing);
     if records_room < needed {
         return Err(Refusal::new(refusal::ROOM, needed));
@@ -50,6 +44,26 @@ pub fn payload<N: Notes>(
         return Err(Refusal::new(refusal::ROOM, needed));
     }
     Ok(tables)
+}
+
+/// object_audio_metadata_payload (5.5.2) up to the end of its bits, into
+/// `scratch`, which holds zeros.
+pub fn metadata<N: Notes>(
+    bits: &mut Bits,
+    scratch: &mut Scratch,
+    notes: &mut N,
+) -> Result<Tables, Refusal> {
+    let programme = header(bits)?;
+    elements(bits, programme, scratch, notes)
+}
+
+/// The version, the object count and the program assignment.
+pub fn header(bits: &mut Bits) -> Result<Programme, Refusal> {
+    if bits.grown(2, 3)? != 0 {
+        return Err(Refusal::new(refusal::VERSION, 0));
+    }
+    let objects = bits.grown(5, 7)? + 1;
+    program_assignment(bits, objects)
 }
 
 fn elements<N: Notes>(
@@ -92,7 +106,7 @@ fn elements<N: Notes>(
 }
 
 /// The kind of an element (point 16).
-enum Kind {
+pub enum Kind {
     Object,
     Trim,
     Extended,
@@ -101,7 +115,7 @@ enum Kind {
 
 /// oa_element_md up to its fields: the kind, and the body after the discard
 /// flag. `bits` stands after the element afterwards.
-fn element<'a>(bits: &mut Bits<'a>, alternate: bool) -> Result<(Kind, Bits<'a>), Refusal> {
+pub fn element<'a>(bits: &mut Bits<'a>, alternate: bool) -> Result<(Kind, Bits<'a>), Refusal> {
     let id = bits.take(4)?;
     let size_place = bits.place();
     let size = element_size(bits)?;

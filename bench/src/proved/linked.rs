@@ -1,10 +1,11 @@
 //! The library's functions, linked.
 
 use super::{BackAnswer, CatalogueAnswer, CatalogueBefore, CatalogueFrame};
-use super::{BatchAnswer, Programme, ReadAnswer, Summary, Timing, WhyAnswer, WriteAnswer};
+use super::{BatchAnswer, Programme, ReadAnswer, SalvageAnswer};
+use super::{Summary, Timing, WhyAnswer, WriteAnswer};
 use crate::plain::Shelf;
 
-#[link(name = "host", kind = "static")]
+#[link(name = "skriemelt", kind = "static")]
 extern "C" {
     fn skriemelt_version() -> u32;
     fn skriemelt_read(
@@ -93,6 +94,12 @@ extern "C" {
         block: u32,
         byte: u32,
     ) -> WhyAnswer;
+    fn skriemelt_salvage(
+        payload: *const u8,
+        payload_bytes: usize,
+        out: *mut u8,
+        out_bytes: usize,
+    ) -> SalvageAnswer;
     fn skriemelt_write(
         programme: Programme,
         timing: Timing,
@@ -270,6 +277,12 @@ pub fn read_catalogue_on(
 pub fn why(payload: &[u8], object: u32, block: u32, byte: u32) -> WhyAnswer {
     // SAFETY: the slice is valid for its length, and nothing is filled.
     unsafe { skriemelt_why(payload.as_ptr(), payload.len(), object, block, byte) }
+}
+
+/// Salvages one payload with the proved library.
+pub fn salvage(payload: &[u8], out: &mut [u8]) -> SalvageAnswer {
+    // SAFETY: the slices are valid for their lengths and do not overlap.
+    unsafe { skriemelt_salvage(payload.as_ptr(), payload.len(), out.as_mut_ptr(), out.len()) }
 }
 
 /// Writes tables with the proved library.

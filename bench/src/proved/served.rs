@@ -2,6 +2,7 @@
 
 use super::{BackAnswer, BatchAnswer, CatalogueAnswer};
 use super::{Bed, Programme, ReadAnswer, Summary, Timing, Update, WriteAnswer};
+use super::{Dropped, SalvageAnswer};
 use super::{WhyAnswer, WhyStep};
 use crate::plain::Shelf;
 use std::cell::RefCell;
@@ -14,6 +15,7 @@ const BATCH_ANSWER_BYTES: usize = 8 + 1;
 const CATALOGUE_ANSWER_BYTES: usize = 8 + 8 + 1;
 const BACK_ANSWER_BYTES: usize = 8 + 8 + 8 + 1;
 const WHY_ANSWER_BYTES: usize = 8 + 4 + 1 + 1 + 166 * (4 + 6);
+const SALVAGE_ANSWER_BYTES: usize = 8 + 4 + 4 + 1 + 1 + 46 * (4 + 2);
 const SUMMARY_BYTES: usize = 8 + 1 + 4 * (1 + 66 + 6 + 3 + 2 + 1 + 1 + 13);
 
 /// The serving process.
@@ -333,6 +335,26 @@ pub fn why(payload: &[u8], object: u32, block: u32, byte: u32) -> WhyAnswer {
             source: answer.u8(),
             field: answer.u8(),
             difference: answer.u8(),
+        }),
+    }
+}
+
+/// Salvages one payload with the proved library.
+pub fn salvage(payload: &[u8], out: &mut [u8]) -> SalvageAnswer {
+    let mut request = b"S".to_vec();
+    add_given(&mut request, payload);
+    add_lent(&mut request, out);
+    let mut answer = ask(&request, SALVAGE_ANSWER_BYTES, &mut [out]);
+    SalvageAnswer {
+        place: answer.u64(),
+        missing: answer.u32(),
+        length: answer.u32(),
+        refusal: answer.u8(),
+        drops: answer.u8(),
+        dropped: std::array::from_fn(|_| Dropped {
+            place: answer.u32(),
+            id: answer.u8(),
+            refusal: answer.u8(),
         }),
     }
 }

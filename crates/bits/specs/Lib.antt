@@ -13,5 +13,6 @@ pub mod Lists
 pub mod Bytes
 pub mod Back
 pub mod Spells
+pub mod Moves
 pub mod Ensures
 pub mod First

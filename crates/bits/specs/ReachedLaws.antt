@@ -3,12 +3,12 @@ use mathlib.Core.Path.{_≡_, refl, sym, ap, _∙_, subst, subst₂}
 use mathlib.Core.Bool.{Bool, true, false}
 use mathlib.Core.List.{List, [], _∷_}
 use mathlib.Core.Logic.{_⊎_, inl, inr, _↔_}
-use Prim.Native.Nat.{ℕ, _+_, _≤_, _<_}
+use Prim.Native.Nat.{ℕ, _+_, _-_, _≤_, _<_}
 use native.Mathlib.Omega.{arith}
 use lib.Dec.{leb}
 use borrow.Author.Tests.{le-leb, lt-leb}
 use Rattle.bits.specs.Language.{Res, ok, no, Bits, P, give, refuse, field, within, _>>=_, andThen, run, pastDeclared, pick, each}
-use Rattle.bits.specs.Steps.{no-ok, by-order, give-no, field-is, field-no, refuse-no, bind-no, bind-is, bind-stops, within-is, within-stops}
+use Rattle.bits.specs.Steps.{no-ok, same-no, by-order, give-no, field-is, field-no, refuse-no, bind-no, bind-is, bind-stops, within-is, within-stops}
 use Rattle.bits.specs.Reached.{here, inside, first, behind, Comes, Stop, field-passes, size-passes, refuses, Stops, Plain, marked, giving, refusing, reads, both}
 
 -- what p comes to, comes to what that comes to
@@ -38,11 +38,8 @@ stop-refuses b refuses = refl
 
 stops-here : {A : Type 0} {p : P A} {b : Bits} {at e o r pl m r' pl' m' : ℕ} → Stop at e o A p r' pl' m' → run p b at e o ≡ no r pl m
     → Stops p b at e o r pl m
-stops-here {A} {p} {b} {at} {e} {o} {r} {pl} {m} {r'} {pl'} {m'} x h =
-    let is : _≡_ {A = Res A} (no r' pl' m') (no r pl m) = sym (stop-refuses b x) ∙ h in
-    let i : r' ≡ r = cc in
-    let j : pl' ≡ pl = cc in
-    let k : m' ≡ m = cc in
+stops-here {A} {p} {b} {at} {e} {o} {r} {pl} {m} {m' = m'} x h =
+    let is = same-no (sym (stop-refuses b x) ∙ h) in
     record {
       Value = A;
       step = p;
@@ -50,7 +47,7 @@ stops-here {A} {p} {b} {at} {e} {o} {r} {pl} {m} {r'} {pl'} {m'} x h =
       end = e;
       over = o;
       comes = here;
-      stop = subst (λ (n : ℕ). Stop at e o A p r pl n) k (subst₂ (λ (n n' : ℕ). Stop at e o A p n n' m') i j x);
+      stop = subst (λ (n : ℕ). Stop at e o A p r pl n) (is .2) (subst₂ (λ (n n' : ℕ). Stop at e o A p n n' m') (is .0) (is .1) x);
     }
 
 stops-in : {A B : Type 0} {p : P A} {q : P B} {b : Bits} {at e o at' e' o' r pl m : ℕ} → Comes p b at e o q at' e' o' → Stops q b at' e' o' r pl m
@@ -81,6 +78,21 @@ closed-no (no r pl m) n h = h
 pub element-no {ℓ} : {A : Type 0} {X : Type ℓ} (n back : ℕ) (p : P A) (b : Bits) (at e o : ℕ) {r pl m : ℕ} → run (within n back p) b at e o ≡ no r pl m
     → (at + n ≤ e → run p b at (at + n) pastDeclared ≡ no r pl m → X) → (e < at + n → X) → X
 element-no n back p b at e o h f g = by-end (at + n) e (λ l. f l (closed-no _ _ (sym (within-is n back p b at e o l) ∙ h))) g
+
+-- the same, with the bits by which the declared end passes
+pub element-past : {A X : Type 0} (n back : ℕ) (p : P A) (b : Bits) (at e o : ℕ) {r pl m : ℕ} → run (within n back p) b at e o ≡ no r pl m
+    → (at + n ≤ e → run p b at (at + n) pastDeclared ≡ no r pl m → X)
+    → ((e < at + n) × (o ≡ r) × (at - back ≡ pl) × (at + n - e ≡ m) → X) → X
+element-past n back p b at e o h f g =
+    element-no n back p b at e o h f
+    (λ l. let x = same-no (sym (stop-refuses b (size-passes {p = p} l)) ∙ h) in g (l, x .0, x .1, x .2))
+
+-- a field that is refused passes the end, and lacks the bits by which it does
+pub field-past : {A : Type 0} (w : ℕ) (f : List ℕ → A) (b : Bits) (at e o : ℕ) {r pl m : ℕ} → run (field w f) b at e o ≡ no r pl m
+    → (e < at + w) × (o ≡ r) × (at ≡ pl) × (at + w - e ≡ m)
+field-past w f b at e o h =
+    by-order (at + w) e (λ l. absurd (no-ok (sym h ∙ field-is w f b at e o l)))
+    (λ l. let x = same-no (sym (stop-refuses b (field-passes {f = f} l)) ∙ h) in (l, x .0, x .1, x .2))
 
 stops-at : {A : Type 0} (p : P A) (b : Bits) (at e o : ℕ) {r pl m : ℕ} → run p b at e o ≡ no r pl m → Stops p b at e o r pl m
 stops-at (give a) b at e o h = absurd (give-no a b at e o h)

@@ -24,6 +24,13 @@ next h = cc
 pub place : {A : Type 0} {r s pl ql m n : ℕ} → _≡_ {A = Res A} (no r pl m) (no s ql n) → (s ≡ r) × (ql ≡ pl)
 place h = (cc, cc)
 
+pub same-no : {A : Type 0} {r pl m r' pl' m' : ℕ} → _≡_ {A = Res A} (no r pl m) (no r' pl' m') → (r ≡ r') × (pl ≡ pl') × (m ≡ m')
+same-no {A} {r} {pl} {m} {r'} {pl'} {m'} h =
+    let i : r ≡ r' = cc in
+    let j : pl ≡ pl' = cc in
+    let k : m ≡ m' = cc in
+    (i, j, k)
+
 pub ok-at : {A : Type 0} {r : Res A} {v : A} {m n : ℕ} → r ≡ ok v m → n ≡ m → r ≡ ok v n
 ok-at h e = cc
 

@@ -8,6 +8,7 @@ use lib.ListN.{length}
 use Rattle.bits.specs.declared.Refusal.the-variants.{EndsEarly, Reserved, PastElement}
 use Rattle.bits.specs.Refusals.{numberOf}
 use Rattle.bits.specs.Language.{ok}
+use Rattle.bits.specs.Steps.{same-no}
 use Rattle.oamd.specs.Tables.{mostBytes}
 use Rattle.oamd.specs.Reserved.{Field}
 use Rattle.oamd.specs.Payload.{Payload}
@@ -15,7 +16,6 @@ use Rattle.oamd.specs.Answer.{missingOf, refused, reading}
 use Rattle.demands.specs.Terms.{parsed}
 use Rattle.demands.specs.Stops.{PassesPayload, missingFor, PassesElement, OneOf, reservedValues, CarriesReserved, carried}
 use Rattle.demands.specs.Lemmas.Reading.{reading-no}
-use Rattle.demands.specs.Lemmas.Missing.{same-no}
 use Rattle.demands.specs.Lemmas.Narrow.{missing-all}
 use Rattle.demands.specs.Lemmas.Stopping.{early-end-of, early-end-is, past-element-of, past-element-is, reserved-of, reserved-is}
 use Rattle.demands.specs.Lemmas.Carried.{carried-clean}

@@ -1,4 +1,4 @@
-// The key names of the listing, of the vectors and of the catalogue, each with its sign of equality.
+// The key names of the listing, of the vectors, of the catalogue and of the programs, each with its sign of equality.
 pub const REFUSAL: [u8; 8] = *b"refusal=";
 
 pub const PLACE: [u8; 6] = *b"place=";
@@ -28,6 +28,12 @@ pub const VECTOR: [u8; 7] = *b"vector=";
 pub const WRITTEN: [u8; 8] = *b"written=";
 
 pub const READ_BACK: [u8; 10] = *b"read back=";
+
+pub const LENGTH: [u8; 7] = *b"length=";
+
+pub const DROPS: [u8; 6] = *b"drops=";
+
+pub const ID: [u8; 3] = *b"id=";
 
 pub const FRAME: [u8; 6] = *b"frame=";
 

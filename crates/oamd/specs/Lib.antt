@@ -10,6 +10,7 @@ pub mod Meaning
 pub mod Record
 pub mod Element
 pub mod Payload
+pub mod Sift
 pub mod Time
 pub mod Answer
 pub mod LeastFirst

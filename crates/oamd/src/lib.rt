@@ -1,5 +1,6 @@
 // The format: the types that definitions and code share. The definitions are in specs/, a file for each clause of the standard.
 use bits::Size;
+use units::BitPos;
 use units::ByteCount;
 use units::SampleCount;
 
@@ -15,6 +16,7 @@ pub use limits::FRAME_SAMPLES;
 pub use limits::MOST_BEDS;
 pub use limits::MOST_BLOCKS;
 pub use limits::MOST_BYTES;
+pub use limits::MOST_ELEMENTS;
 pub use limits::MOST_TRIM;
 pub use limits::PER_OBJECT_BYTE;
 pub use limits::RECORD_BYTES;
@@ -262,6 +264,15 @@ pub enum Kind {
 pub struct Frame {
     pub kind: Kind,
     pub size: Size,
+}
+
+// An element that salvage drops: its first bit, the first behind it, and the place, the id and the number of the refusal for which it goes.
+pub struct Gone {
+    pub from: BitPos,
+    pub to: BitPos,
+    pub place: BitPos,
+    pub id: u8,
+    pub refusal: u8,
 }
 
 // What a read answers, beside the records. On a refusal all but refusal and place is 0, and but the missing bits, where the payload ends early.

@@ -3,6 +3,9 @@
 // A payload's bytes, at the most.
 pub const MOST_BYTES: usize = 4096;
 
+// The elements of a payload, at the most.
+pub const MOST_ELEMENTS: usize = 46;
+
 // The update blocks, at the most.
 pub const MOST_BLOCKS: usize = 8;
 

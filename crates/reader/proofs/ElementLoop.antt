@@ -21,20 +21,19 @@ use Rattle.bits.proofs.Sticky.{Left, start, step, done, broken, bind, plain, fr
 use Rattle.oamd.specs.declared.Kind.{Kind}
 use Rattle.oamd.specs.declared.Kind.the-variants.{Unknown, Object, Trim, Extended}
 use Rattle.oamd.specs.declared.Programme.{Programme}
-use Rattle.oamd.specs.declared.Timing.{Timing}
 use Rattle.oamd.specs.Tables.{mostObjects}
-use Rattle.oamd.specs.Programme.{set?, shares}
+use Rattle.oamd.specs.Programme.{set?}
 use Rattle.oamd.specs.Record.{plainRecords, bytesOf, onto}
 use Rattle.oamd.specs.Trim.{trimOf}
 use Rattle.oamd.specs.Element.{kind, sizeLength, backToId, framed, Known, nothing, withObject, withTrim, withExtended, there, isSecond, isEarly, scenes}
 use Rattle.oamd.specs.Element.{fields, passOver, readKnown, oa-element, oa-element-md, elements}
-use Rattle.oamd.specs.Payload.{timing, noTiming, records}
+use Rattle.oamd.specs.Payload.{timing, records}
 use Rattle.reader.specs.declared.Scope.{Scope}
 use Rattle.reader.specs.declared.State.{State}
 use Rattle.reader.specs.declared.StateStep.{StateStep}
 use Rattle.reader.specs.declared.TimingStep.{TimingStep}
 use Rattle.reader.specs.Layout.{noTrimBytes}
-use Rattle.reader.specs.Steps.{Buffers, lent, objectSeen, trimSeen, extendedSeen, unknownSeen, seen, tooEarly, Holding, Underway, stateOf, Scoped}
+use Rattle.reader.specs.Steps.{Buffers, lent, nothingRead, objectSeen, trimSeen, extendedSeen, unknownSeen, seen, tooEarly, Holding, Underway, stateOf, Scoped}
 use Rattle.reader.specs.Steps.{ElementRead, TrimRead, ExtendedRead, FieldsRead, Went-on, KnownRead, BodyRead, OneRead}
 use Rattle.reader.proofs.Bytes.{length-plain}
 use Rattle.reader.proofs.ObjectLoop.{still-roomy}
@@ -69,7 +68,7 @@ told-early Extended h = ap not (h .records .object-told)
 
 -- ---- the fields of each kind: what they add to what is held
 
-module _ {scope : Scope} {st : State} {b : Bits} {c : Cur} {l : Limit} {out table : List ℕ} (asked : Underway scope st (lent out table)) where
+module _ {scope : Scope} {st : State} {b : Bits} {c : Cur} {l : Limit} {out table : List ℕ} (asked : Underway 1 scope st (lent out table)) where
   -- nothing
   pub unknown-fields : FieldsRead Unknown scope st b c l (lent out table) (record { state = st; cur = c }) (lent out table)
   unfolding fields
@@ -158,7 +157,7 @@ module _ {scope : Scope} {st : State} {b : Bits} {c : Cur} {l : Limit} {out tabl
 
 -- ---- a known element: the same for every kind
 
-module _ {scope : Scope} {st : State} (back : ℕ) {b : Bits} {c first timely : Cur} {l : Limit} {held : Buffers} {x y : ℕ} (k : Kind) (asked : Underway scope st held)
+module _ {scope : Scope} {st : State} (back : ℕ) {b : Bits} {c first timely : Cur} {l : Limit} {held : Buffers} {x y : ℕ} (k : Kind) (asked : Underway 1 scope st held)
     (g : Reads (refuseIf (seen k st) (numberOf Second) back x) b c l x first) (d : Reads (refuseIf (tooEarly k st) (numberOf Early) back y) b first l y timely) where
   -- refused: a second one of its kind, one too early, or one behind a refusal
   pub known-refused : (timely .no ≡ 0 → ⊥) → KnownRead k back scope st b c l held (record { state = st; cur = timely }) held
@@ -200,7 +199,7 @@ module _ {scope : Scope} {st : State} (back : ℕ) {b : Bits} {c first timely : 
 -- ---- an element of any kind
 
 -- an unknown element is counted
-pub passed : {scope : Scope} {st : State} (back : ℕ) {b : Bits} {c : Cur} {l : Limit} {held : Buffers} → Underway scope st held
+pub passed : {scope : Scope} {st : State} (back : ℕ) {b : Bits} {c : Cur} {l : Limit} {held : Buffers} → Underway 1 scope st held
     → BodyRead Unknown back scope st b c l held (record { state = unknownSeen st; cur = c }) held
 unfolding oa-element passOver
 passed {st = st} back asked = record {
@@ -253,49 +252,50 @@ framed-read {c₂ = c₂} {o} {l = l} {i} {r = r} r₁ r₂ hn ho hi r₃ r₄ h
 
 -- ---- one element after the other
 
-module _ (n : ℕ) (scope : Scope) (q : Programme) (b : Bits) (c : Cur) (l : Limit) (t : List ℕ) where
+-- before the first, the buffers are as they came
+pub nothing-held : (objects : ℕ) {t table : List ℕ} → objects ≤ mostObjects → table ≡ noTrimBytes → Holding objects nothing t nothingRead (lent t table)
+unfolding scenes timing records bytesOf plainRecords onto
+nothing-held objects few empty = record {
+  records = record {
+    object-told = refl;
+    extended-told = refl;
+    ordered = λ o. refl;
+    timed = refl;
+    many = omega arith;
+    full = refl;
+    stand = refl;
+  };
+  trim = rw empty (not-read objects few);
+}
+
+module _ (n : ℕ) (scope : Scope) (q : Programme) (from : Rattle.oamd.specs.Element.State) (b : Bits) (c : Cur) (l : Limit) (t : List ℕ) where
   -- before element i
   pub record Ongoing (i : ℕ) (st : State) (cur : Cur) (held : Buffers) : Type 0 where
     pub known : Known
-    pub left : Left (elements q (scope .alternate) n (stateOf nothing 0)) b c l (elements q (scope .alternate) (n - i) (stateOf known (st .unknown))) cur
+    pub left : Left (elements q (scope .alternate) n from) b c l (elements q (scope .alternate) (n - i) (stateOf known (st .unknown))) cur
     pub holding : cur .no ≡ 0 → Holding (scope .objects) known t st held
 
-  pub first : {tm : Timing} {table : List ℕ} → tm ≡ noTiming → scope .objects ≤ mostObjects → table ≡ noTrimBytes
-      → Ongoing 0 (record { timing = tm; object = false; trim = false; extended = false; unknown = 0 }) c (lent t table)
-  unfolding scenes timing records bytesOf plainRecords onto
-  first e few empty = record {
-    known = nothing;
-    left = rw (sub-zero n) start;
-    holding = λ z. record {
-      records = record {
-        object-told = refl;
-        extended-told = refl;
-        ordered = λ o. refl;
-        timed = e;
-        many = rw e (omega arith);
-        full = refl;
-        stand = refl;
-      };
-      trim = rw empty (not-read (scope .objects) few);
-    };
-  }
+module _ {n : ℕ} {scope : Scope} {q : Programme} {b : Bits} {c : Cur} {l : Limit} {t : List ℕ} {held : Buffers} where
+  pub first : {known : Known} {st : State} → (c .no ≡ 0 → Holding (scope .objects) known t st held)
+      → Ongoing n scope q (stateOf known (st .unknown)) b c l t 0 st c held
+  first {known} h = record { known = known; left = rw (sub-zero n) start; holding = h }
 
-module _ {n : ℕ} {scope : Scope} {q : Programme} {b : Bits} {c : Cur} {l : Limit} {t : List ℕ} {i : ℕ} {st : State} {cur : Cur} {held : Buffers} where
-  pub further : {r : StateStep} {held' : Buffers} → Ongoing n scope q b c l t i st cur held → i < n → Scoped q scope
-      → OneRead scope st b cur l held r held' → Ongoing n scope q b c l t (i + 1) (r .state) (r .cur) held'
-  unfolding elements
-  further x h sc one =
-      let u = one .went q (x .known) t sc (x .holding) in
-      let e : n - i ≡ suc (n - (i + 1)) = omega arith in
-      record { known = u .known; left = step (rw e at (x .left)) (u .reads); holding = u .holding }
+  module _ {from : Rattle.oamd.specs.Element.State} {i : ℕ} {st : State} {cur : Cur} where
+    pub further : {r : StateStep} {held' : Buffers} → Ongoing n scope q from b c l t i st cur held → i < n → Scoped q scope
+        → OneRead scope st b cur l held r held' → Ongoing n scope q from b c l t (i + 1) (r .state) (r .cur) held'
+    unfolding elements
+    further x h sc one =
+        let u = one .went q (x .known) t sc (x .holding) in
+        let e : n - i ≡ suc (n - (i + 1)) = omega arith in
+        record { known = u .known; left = step (rw e at (x .left)) (u .reads); holding = u .holding }
 
-  pub finish : Ongoing n scope q b c l t i st cur held → i ≡ n
-      → Went-on scope (elements q (scope .alternate) n (stateOf nothing 0)) b c l t (record { state = st; cur = cur }) held
-  unfolding elements
-  finish x h =
-      let e : n - i ≡ 0 = omega arith in
-      record { known = x .known; reads = done (rw e at (x .left)); holding = x .holding }
+    pub finish : Ongoing n scope q from b c l t i st cur held → i ≡ n
+        → Went-on scope (elements q (scope .alternate) n from) b c l t (record { state = st; cur = cur }) held
+    unfolding elements
+    finish x h =
+        let e : n - i ≡ 0 = omega arith in
+        record { known = x .known; reads = done (rw e at (x .left)); holding = x .holding }
 
-  pub stop : Ongoing n scope q b c l t i st cur held → (cur .no ≡ 0 → ⊥)
-      → Went-on scope (elements q (scope .alternate) n (stateOf nothing 0)) b c l t (record { state = st; cur = cur }) held
-  stop x h = record { known = x .known; reads = broken (x .left) h; holding = λ z. absurd (h z) }
+    pub stop : Ongoing n scope q from b c l t i st cur held → (cur .no ≡ 0 → ⊥)
+        → Went-on scope (elements q (scope .alternate) n from) b c l t (record { state = st; cur = cur }) held
+    stop x h = record { known = x .known; reads = broken (x .left) h; holding = λ z. absurd (h z) }

@@ -9,3 +9,4 @@ pub mod TrimLoop
 pub mod ElementLoop
 pub mod LendingLoop
 pub mod Whole
+pub mod SiftLoop

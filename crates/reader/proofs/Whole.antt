@@ -18,20 +18,23 @@ use Rattle.bits.specs.Unique.{clean}
 use Rattle.bits.proofs.Sticky.{bind, plain}
 use Rattle.oamd.specs.declared.Programme.{Programme}
 use Rattle.oamd.specs.declared.ReadAnswer.{ReadAnswer}
-use Rattle.oamd.specs.declared.Shares.{Shares}
 use Rattle.oamd.specs.Tables.{mostBytes, mostObjects, mostBlocks, recordStride}
-use Rattle.oamd.specs.Programme.{program-assignment, agrees, shares}
+use Rattle.oamd.specs.Programme.{program-assignment, agrees}
 use Rattle.oamd.specs.Record.{Record, onto}
 use Rattle.oamd.specs.Trim.{trimOf, trimBytesOf, trimNeeded}
-use Rattle.oamd.specs.Element.{scenes}
-use Rattle.oamd.specs.Payload.{Payload, oa-md-version, object-count, oa-element-count, header, object-audio-metadata-payload, timing, records, tables}
+use Rattle.oamd.specs.Element.{nothing, scenes}
+use Rattle.oamd.specs.Payload.{Payload, oa-md-version, object-count, oa-element-count, header, object-audio-metadata-payload, records, tables}
 use Rattle.oamd.specs.Answer.{Outcome, missingOf, refused, acceptedWith, housed, reading}
 use Rattle.reader.specs.declared.HeaderStep.{HeaderStep}
 use Rattle.reader.specs.declared.PayloadStep.{PayloadStep}
+use Rattle.reader.specs.declared.Scope.{Scope}
+use Rattle.reader.specs.declared.State.{State}
 use Rattle.reader.specs.declared.StateStep.{StateStep}
 use Rattle.reader.specs.Lending.{Lending, Lent}
-use Rattle.reader.specs.Steps.{Buffers, lent, Headed, HeaderRead, ElementsRead, PayloadRead, NoRoom, wholeOf, startCur}
+use Rattle.reader.specs.Layout.{noTrimBytes}
+use Rattle.reader.specs.Steps.{Buffers, lent, Sized, Underway, nothingRead, Headed, HeaderRead, ElementsRead, PayloadRead, NoRoom, scopeOf, wholeOf, startCur}
 use Rattle.reader.proofs.Gates.{regiven}
+use Rattle.reader.proofs.ElementLoop.{nothing-held}
 use Rattle.reader.proofs.ObjectLoop.{rooms}
 
 -- the cursor at the start
@@ -50,14 +53,24 @@ unfolding header
 header-read {p = p} r₁ r₂ r₃ r₄ r₅ few small =
     record { reads = bind r₁ (bind r₂ (bind r₃ (bind (regiven (not (agrees p)) (numberOf Counts) 0 r₄) (bind r₅ plain)))); few = few; bit = small }
 
+-- behind its header the elements can be read, as many as their count says
+pub counts-on : {s : List ℕ} {held : Buffers} {h : HeaderStep} {scope : Scope} {st : State} {n : ℕ} → Headed s h → Sized (h .programme .objects) held
+    → scope ≡ scopeOf h → st ≡ nothingRead → n ≤ 255 → Underway n scope st held
+counts-on opened sized es en few =
+    rw (es, en) (record {
+      ready = record { objects = opened .head .few; alternate = opened .head .bit; sized = sized };
+      blocks = omega arith;
+      unknown = omega arith;
+    })
+
 -- the whole payload
-pub payload-read : {s out table : List ℕ} {held' : Buffers} {h : HeaderStep} {c : Cur} {l : Limit} {sh : Shares} {n : ℕ} {r : StateStep}
-    → Headed s h → l ≡ wholeOf s → sh ≡ shares (h .programme) → Reads oa-element-count (bit s) (h .cur) l n c
-    → ElementsRead n (record { objects = h .programme .objects; shares = sh; alternate = h .alternate }) (bit s) c l (lent out table) r held'
+payload-of : {s out table : List ℕ} {held' : Buffers} {h : HeaderStep} {c : Cur} {l : Limit} {n : ℕ} {r : StateStep}
+    → Headed s h → table ≡ noTrimBytes → l ≡ wholeOf s → Reads oa-element-count (bit s) (h .cur) l n c
+    → ElementsRead n (scopeOf h) nothingRead (bit s) c l (lent out table) r held'
     → PayloadRead s out (record { programme = h .programme; state = r .state; cur = r .cur }) held'
 unfolding object-audio-metadata-payload
-payload-read {s} {h = h} {r = r} opened el es count elements =
-    let u = elements .went (h .programme) (refl, sym es) in
+payload-of {s} {out} {h = h} {r = r} opened empty el count elements =
+    let u = elements .went (h .programme) nothing out (refl, refl) (λ z. nothing-held (h .programme .objects) (opened .head .few) empty) in
     let payload : Payload = record { programme = h .programme; known = u .known; unknown = r .state .unknown } in
     let head = subst (λ (l : Limit). HeaderRead (bit s) startCur l h) (sym el) (opened .head) in
     let reads = subst (λ (l : Limit). Reads object-audio-metadata-payload (bit s) startCur l payload (r .cur)) el
@@ -72,6 +85,13 @@ payload-read {s} {h = h} {r = r} opened el es count elements =
       few = opened .head .few;
       little = elements .few;
     }
+
+-- the same with what the calls before the elements promise
+pub payload-read : {s out table : List ℕ} {held' : Buffers} {h : HeaderStep} {c : Cur} {l : Limit} {scope : Scope} {st : State} {n : ℕ} {r : StateStep}
+    → Headed s h → table ≡ noTrimBytes → l ≡ wholeOf s → scope ≡ scopeOf h → st ≡ nothingRead → Reads oa-element-count (bit s) (h .cur) l n c
+    → ElementsRead n scope st (bit s) c l (lent out table) r held'
+    → PayloadRead s out (record { programme = h .programme; state = r .state; cur = r .cur }) held'
+payload-read opened empty el es en count elements = payload-of opened empty el count (rw (es, en) at elements)
 
 -- the bytes that are needed are few
 pub small : (objects blocks : ℕ) → objects ≤ mostObjects → blocks ≤ mostBlocks → objects * blocks ≤ mostObjects * mostBlocks

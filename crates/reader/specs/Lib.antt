@@ -3,3 +3,5 @@ pub mod Lending
 pub mod Rooms
 pub mod Running
 pub mod Steps
+pub mod Sifts
+pub mod Turns

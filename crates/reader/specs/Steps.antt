@@ -21,7 +21,7 @@ use Rattle.oamd.specs.declared.ReadAnswer.{ReadAnswer}
 use Rattle.oamd.specs.declared.Scene.{Scene}
 use Rattle.oamd.specs.declared.Shares.{Shares}
 use Rattle.oamd.specs.declared.Timing.{Timing}
-use Rattle.oamd.specs.Tables.{mostBytes, recordBytes, mostElements, mostBlocks, mostObjects, trimConfigs, configBytes, trimHead, trimFixed, mostTrim}
+use Rattle.oamd.specs.Tables.{mostBytes, recordBytes, mostBlocks, mostObjects, trimConfigs, configBytes, trimHead, trimFixed, mostTrim}
 use Rattle.oamd.specs.Programme.{shares, classOf}
 use Rattle.oamd.specs.Timing.{MdUpdateInfo, md-update-info, timingOf}
 use Rattle.oamd.specs.ObjectElement.{ObjectElement, object-data, object-element}
@@ -29,8 +29,8 @@ use Rattle.oamd.specs.Extended.{Extension, extended-object-element}
 use Rattle.oamd.specs.Trim.{TrimTable, trim-config, noConfig, trim-element, trimOf, configsBytesOf, trimBytesOf, trimNeeded}
 use Rattle.oamd.specs.Meaning.{allScenes, nothingBefore}
 use Rattle.oamd.specs.Record.{Record, recordOf, carries, allCarry, plainRecords, extendedRecords, bytesOf, onto}
-use Rattle.oamd.specs.Element.{headLength, Known, nothing, there, scenes, isSecond, isEarly, fields, readKnown, oa-element, oa-element-md, elements}
-use Rattle.oamd.specs.Payload.{header, object-audio-metadata-payload, timing, records}
+use Rattle.oamd.specs.Element.{headLength, Known, there, scenes, isSecond, isEarly, fields, readKnown, oa-element, oa-element-md, elements}
+use Rattle.oamd.specs.Payload.{header, object-audio-metadata-payload, timing, noTiming, records}
 use Rattle.oamd.specs.Answer.{refusedWith}
 use Rattle.reader.specs.declared.TimingStep.{TimingStep}
 use Rattle.reader.specs.declared.Scope.{Scope}
@@ -169,6 +169,10 @@ pub record Sized (objects : ℕ) (held : Buffers) : Type 0 where
   pub out : ElementRoom objects (held .out)
   pub table : length (held .table) ≡ mostTrim
 
+-- before the first element
+abbrev pub nothingRead : State
+nothingRead = record { timing = noTiming; object = false; trim = false; extended = false; unknown = 0 }
+
 -- the state with one part of it anew: an updater for each kind, and the only places that name all parts
 abbrev pub objectSeen : Timing → State → State
 objectSeen tm st = record { timing = tm; object = true; trim = st .trim; extended = st .extended; unknown = st .unknown }
@@ -224,17 +228,11 @@ pub record Ready (scope : Scope) (held : Buffers) : Type 0 where
   pub alternate : scope .alternate < 2
   pub sized : Sized (scope .objects) held
 
--- the same with a state
-pub record Underway (scope : Scope) (st : State) (held : Buffers) : Type 0 where
+-- the same with a state, before n elements
+pub record Underway (n : ℕ) (scope : Scope) (st : State) (held : Buffers) : Type 0 where
   pub ready : Ready scope held
   pub blocks : st .timing .blocks ≤ mostBlocks
-  pub unknown : st .unknown < 255
-
--- before the first element
-pub record Beginning (n : ℕ) (scope : Scope) (held : Buffers) : Type 0 where
-  pub ready : Ready scope held
-  pub few : n ≤ mostElements
-  pub empty : held .table ≡ noTrimBytes
+  pub unknown : st .unknown + n ≤ 255
 
 -- the bits of an element's head behind its size
 pub record HeadLength (alternate n : ℕ) : Type 0 where
@@ -273,28 +271,26 @@ pub record Went-on (scope : Scope) (p : P Rattle.oamd.specs.Element.State) (b :
 abbrev pub Onward : Type 1
 Onward = Programme → Rattle.oamd.specs.Element.State → P Rattle.oamd.specs.Element.State
 
--- what a function promises that reads p from a state, whatever has been read so far
-pub record Goes-on (scope : Scope) (st : State) (p : Onward) (b : Bits) (c : Cur) (l : Limit) (held : Buffers) (r : StateStep) (held' : Buffers) : Type 0 where
+-- what a function promises that reads p, which are n elements, from a state, whatever has been read so far
+pub record Goes-on (n : ℕ) (scope : Scope) (st : State) (p : Onward) (b : Bits) (c : Cur) (l : Limit) (held : Buffers) (r : StateStep) (held' : Buffers) : Type 0 where
   pub sized : Sized (scope .objects) held'
   pub few : r .state .timing .blocks ≤ mostBlocks
-  pub next : r .state .unknown ≤ st .unknown + 1
+  pub next : r .state .unknown ≤ st .unknown + n
   pub went : (q : Programme) (known : Known) (t : List ℕ) → Scoped q scope → (c .no ≡ 0 → Holding (scope .objects) known t st held)
       → Went-on scope (p q (stateOf known (st .unknown))) b c l t r held'
 
--- a known element, an element of any kind, and an element with its frame
+-- a known element, an element of any kind, an element with its frame, and n of them
 abbrev pub KnownRead : Kind → ℕ → Scope → State → Bits → Cur → Limit → Buffers → StateStep → Buffers → Type 0
-KnownRead k back scope st b c l held r held' = Goes-on scope st (λ q s. readKnown q back s k) b c l held r held'
+KnownRead k back scope st b c l held r held' = Goes-on 1 scope st (λ q s. readKnown q back s k) b c l held r held'
 
 abbrev pub BodyRead : Kind → ℕ → Scope → State → Bits → Cur → Limit → Buffers → StateStep → Buffers → Type 0
-BodyRead k back scope st b c l held r held' = Goes-on scope st (λ q s. oa-element q back s k) b c l held r held'
+BodyRead k back scope st b c l held r held' = Goes-on 1 scope st (λ q s. oa-element q back s k) b c l held r held'
 
 abbrev pub OneRead : Scope → State → Bits → Cur → Limit → Buffers → StateStep → Buffers → Type 0
-OneRead scope st b c l held r held' = Goes-on scope st (λ q s. oa-element-md q (scope .alternate) s) b c l held r held'
+OneRead scope st b c l held r held' = Goes-on 1 scope st (λ q s. oa-element-md q (scope .alternate) s) b c l held r held'
 
-pub record ElementsRead (n : ℕ) (scope : Scope) (b : Bits) (c : Cur) (l : Limit) (held : Buffers) (r : StateStep) (held' : Buffers) : Type 0 where
-  pub sized : Sized (scope .objects) held'
-  pub few : r .state .timing .blocks ≤ mostBlocks
-  pub went : (q : Programme) → Scoped q scope → Went-on scope (elements q (scope .alternate) n (stateOf nothing 0)) b c l (held .out) r held'
+abbrev pub ElementsRead : ℕ → Scope → State → Bits → Cur → Limit → Buffers → StateStep → Buffers → Type 0
+ElementsRead n scope st b c l held r held' = Goes-on n scope st (λ q s. elements q (scope .alternate) n s) b c l held r held'
 
 -- ---- the payload
 
@@ -313,6 +309,10 @@ pub record HeaderRead (b : Bits) (c : Cur) (l : Limit) (r : HeaderStep) : Type 0
 pub record Headed (s : List ℕ) (h : HeaderStep) : Type 0 where
   pub short : length s ≤ mostBytes
   pub head : HeaderRead (bit s) startCur (wholeOf s) h
+
+-- what the elements behind it are read by
+abbrev pub scopeOf : HeaderStep → Scope
+scopeOf h = record { objects = h .programme .objects; shares = shares (h .programme); alternate = h .alternate }
 
 -- what is asked of it and of the buffers
 pub record Opening (s : List ℕ) (h : HeaderStep) (held : Buffers) : Type 0 where

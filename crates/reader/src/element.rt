@@ -1,7 +1,7 @@
 // One element after the other (5.5.4).
 ghost use mathlib.Core.Path.{_≡_};
 ghost use Rattle.bits.specs.Language.{bit};
-ghost use Rattle.reader.specs.Steps.{lent, seen, tooEarly, HeadLength, Underway, Beginning, FieldsRead, KnownRead, BodyRead, OneRead, ElementsRead};
+ghost use Rattle.reader.specs.Steps.{lent, nothingRead, seen, tooEarly, HeadLength, Underway, FieldsRead, KnownRead, BodyRead, OneRead, ElementsRead};
 use crate::Scope;
 use crate::State;
 use crate::StateStep;
@@ -52,7 +52,7 @@ fn read_fields(
     out: &mut [u8],
     table: &mut [u8; MOST_TRIM],
 ) -> StateStep
-    requires { ⌜ Underway scope st (lent (now out) (now table)) ⌝ }
+    requires { ⌜ Underway 1 scope st (lent (now out) (now table)) ⌝ }
     ensures { λ r. ⌜ FieldsRead kind scope st (bit (now (s .entry))) c l (lent (now (out .entry)) (now (table .entry))) r (lent (now (out .exit)) (now (table .exit))) ⌝ }
 {
     match kind {
@@ -96,7 +96,7 @@ fn read_known(
     out: &mut [u8],
     table: &mut [u8; MOST_TRIM],
 ) -> StateStep
-    requires { ⌜ Underway scope st (lent (now out) (now table)) ⌝ }
+    requires { ⌜ Underway 1 scope st (lent (now out) (now table)) ⌝ }
     ensures { λ r. ⌜ KnownRead kind back scope st (bit (now (s .entry))) c l (lent (now (out .entry)) (now (table .entry))) r (lent (now (out .exit)) (now (table .exit))) ⌝ }
 {
     let first = bits::refuse_if(is_second(kind, st), s, l, c, Refusal::Second, back);
@@ -122,7 +122,7 @@ fn read_body(
     out: &mut [u8],
     table: &mut [u8; MOST_TRIM],
 ) -> StateStep
-    requires { ⌜ Underway scope st (lent (now out) (now table)) ⌝ }
+    requires { ⌜ Underway 1 scope st (lent (now out) (now table)) ⌝ }
     ensures { λ r. ⌜ BodyRead kind back scope st (bit (now (s .entry))) c l (lent (now (out .entry)) (now (table .entry))) r (lent (now (out .exit)) (now (table .exit))) ⌝ }
 {
     if let Kind::Unknown = kind {
@@ -141,7 +141,7 @@ fn head_bits(alternate: u32) -> u32
 }
 
 // An element: id, size, which must fit, and, held to its declared end, alternate id, discard flag and fields.
-fn read_element(
+pub fn read_element(
     s: &[u8],
     l: Limit,
     c: Cur,
@@ -150,7 +150,7 @@ fn read_element(
     out: &mut [u8],
     table: &mut [u8; MOST_TRIM],
 ) -> StateStep
-    requires { ⌜ Underway scope st (lent (now out) (now table)) ⌝ }
+    requires { ⌜ Underway 1 scope st (lent (now out) (now table)) ⌝ }
     ensures { λ r. ⌜ OneRead scope st (bit (now (s .entry))) c l (lent (now (out .entry)) (now (table .entry))) r (lent (now (out .exit)) (now (table .exit))) ⌝ }
 {
     let id = bits::take(s, l, c, 4);
@@ -174,27 +174,35 @@ fn read_element(
     }
 }
 
-// n elements, up to the first refusal.
-pub fn read_elements(
-    s: &[u8],
-    l: Limit,
-    c: Cur,
-    scope: Scope,
-    n: u32,
-    out: &mut [u8],
-    table: &mut [u8; MOST_TRIM],
-) -> StateStep
-    requires { ⌜ Beginning n scope (lent (now out) (now table)) ⌝ }
-    ensures { λ r. ⌜ ElementsRead n scope (bit (now (s .entry))) c l (lent (now (out .entry)) (now (table .entry))) r (lent (now (out .exit)) (now (table .exit))) ⌝ }
+// What has been read before the first element.
+pub fn nothing_read() -> State
+    ensures { λ r. ⌜ r ≡ nothingRead ⌝ }
 {
     let timing = meaning::no_timing();
-    let mut state = State {
+    State {
         timing,
         object: false,
         trim: false,
         extended: false,
         unknown: 0,
-    };
+    }
+}
+
+// n elements more, up to the first refusal.
+pub fn read_elements(
+    s: &[u8],
+    l: Limit,
+    c: Cur,
+    scope: Scope,
+    st: State,
+    n: u32,
+    out: &mut [u8],
+    table: &mut [u8; MOST_TRIM],
+) -> StateStep
+    requires { ⌜ Underway n scope st (lent (now out) (now table)) ⌝ }
+    ensures { λ r. ⌜ ElementsRead n scope st (bit (now (s .entry))) c l (lent (now (out .entry)) (now (table .entry))) r (lent (now (out .exit)) (now (table .exit))) ⌝ }
+{
+    let mut state = st;
     let mut cur = c;
     let mut i: u32 = 0;
     while i < n {

@@ -4,11 +4,14 @@ ghost use Rattle.oamd.specs.Answer.{reading};
 use crate::layout::FEW_OBJECTS;
 use bits::Cur;
 use bits::Refusal;
+use oamd::Gone;
 use oamd::MOST_BYTES;
+use oamd::MOST_ELEMENTS;
 use oamd::Programme;
 use oamd::ReadAnswer;
 use oamd::Shares;
 use oamd::Timing;
+use units::BitPos;
 
 mod timing; // timing.rt: starts and ramps of all blocks
 mod layout; // layout.rt: a record's bytes among the records
@@ -20,10 +23,12 @@ mod payload; // payload.rt: the whole payload
 mod lending; // lending.rt: the records with their times in the lent buffer
 mod answers; // answers.rt: what is answered
 mod keeping; // keeping.rt: what is read, kept until the payload is accepted
+mod sifting; // sifting.rt: which elements salvage drops
 
 pub use answers::refused_with;
 pub use payload::limit_of;
 pub use payload::read_head;
+pub use sifting::sift;
 pub use timing::read_timing;
 
 pub struct TimingStep {
@@ -62,6 +67,28 @@ pub struct PayloadStep {
     pub programme: Programme,
     pub state: State,
     pub cur: Cur,
+}
+
+// An element of a pass that drops what is refused: what has been read behind it, where the next one begins or the refusal that ends the pass, and whether and as what
+// it is dropped.
+pub struct Turn {
+    pub state: State,
+    pub cur: Cur,
+    pub dropped: bool,
+    pub gone: Gone,
+}
+
+// Which elements of a payload salvage drops: the first bit of the element count, the count, the first bit of the elements, and the elements that go, of which there are
+// `drops`; entries past them are 0. Where a refusal ends the pass all but refusal, place and missing bits is 0.
+pub struct Sifted {
+    pub place: u64,
+    pub missing: u32,
+    pub refusal: u8,
+    pub head: BitPos,
+    pub count: u32,
+    pub body: BitPos,
+    pub drops: usize,
+    pub gone: [Gone; MOST_ELEMENTS],
 }
 
 // Reads the payload of a frame, by the frame's number. Accepted: the records, each with its time, and the trim table are the first bytes of the lent buffers, and no other

@@ -4,10 +4,11 @@ ghost use Prim.Native.Nat.{_≤_};
 ghost use lib.ListN.{length};
 ghost use Rattle.bits.specs.Language.{bit};
 ghost use Rattle.oamd.specs.Tables.{mostBytes};
-ghost use Rattle.reader.specs.Steps.{lent, wholeOf, Headed, Opening, HeaderRead, PayloadRead};
+ghost use Rattle.reader.specs.Steps.{lent, scopeOf, wholeOf, Headed, Opening, HeaderRead, PayloadRead};
 use crate::HeaderStep;
 use crate::PayloadStep;
 use crate::Scope;
+use crate::element::nothing_read;
 use crate::element::read_elements;
 use bits::Cur;
 use bits::Limit;
@@ -67,6 +68,18 @@ pub fn read_head(s: &[u8]) -> HeaderStep
     read_header(s, l, c)
 }
 
+// What the elements behind a header are read by.
+pub fn scope_of(head: HeaderStep) -> Scope
+    ensures { λ r. ⌜ r ≡ scopeOf head ⌝ }
+{
+    let programme = head.programme;
+    Scope {
+        objects: programme.objects as usize,
+        shares: meaning::shares(programme),
+        alternate: head.alternate,
+    }
+}
+
 // All of it, behind its header.
 pub fn read_payload(
     s: &[u8],
@@ -80,12 +93,8 @@ pub fn read_payload(
     let l = limit_of(s);
     let programme = head.programme;
     let count = syntax::read_element_count(s, l, head.cur);
-    let scope = Scope {
-        objects: programme.objects as usize,
-        shares: meaning::shares(programme),
-        alternate: head.alternate,
-    };
-    let step = read_elements(s, l, count, scope, count.v, out, table);
+    let scope = scope_of(head);
+    let step = read_elements(s, l, count, scope, nothing_read(), count.v, out, table);
     let state = step.state;
     let cur = step.cur;
     PayloadStep {

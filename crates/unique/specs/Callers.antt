@@ -1,4 +1,4 @@
--- The functions that callers use: `read` of reader (and `refused_with`, which makes an answer of a refusal), `write` of writer, and the eleven of host.
+-- The functions that callers use: `read` of reader (and `refused_with`, which makes an answer of a refusal), `write` of writer, and the twelve of host.
 use mathlib.Core.Path.{refl}
 use denote.Ref.{now}
 use Rattle.host.proofs.skriemelt_catalogue_read as skriemelt-catalogue-read
@@ -8,6 +8,7 @@ use Rattle.host.proofs.skriemelt_catalogue_write_on as skriemelt-catalogue-writ
 use Rattle.host.proofs.skriemelt_list_text as skriemelt-list-text
 use Rattle.host.proofs.skriemelt_read as skriemelt-read
 use Rattle.host.proofs.skriemelt_read_batch as skriemelt-read-batch
+use Rattle.host_salvage.proofs.skriemelt_salvage as skriemelt-salvage
 use Rattle.host.proofs.skriemelt_summarise as skriemelt-summarise
 use Rattle.host.proofs.skriemelt_version as skriemelt-version
 use Rattle.host.proofs.skriemelt_why as skriemelt-why
@@ -20,6 +21,7 @@ use Rattle.form.specs.Answer.{Written, writing}
 use Rattle.unique.specs.Batch.{OneBatch, one-read-batch}
 use Rattle.unique.specs.Catalogue.{OneCatalogue, one-write-catalogue, OneCatalogueOn, one-write-catalogue-on, OneBack, one-read-catalogue, OneBackOn, one-read-catalogue-on}
 use Rattle.unique.specs.OneAnswer.{ClausesOf, SpecOf, OneAnswer, by-equation, said, result-set, _beside_}
+use Rattle.unique.specs.Salvaging.{OneSalvage, one-salvage}
 use Rattle.unique.specs.Sets.{outcome-set, written-set}
 use Rattle.unique.specs.Sources.{OneWhy, one-why}
 use Rattle.unique.specs.Summary.{OneSummary, one-summarise}
@@ -84,8 +86,12 @@ one-skriemelt-summarise = one-summarise
 pub one-skriemelt-why : OneWhy (λ M. skriemelt-why.clauses) (λ M. skriemelt-why.spec)
 one-skriemelt-why = one-why
 
+-- The contract is that of `salvage`.
+pub one-skriemelt-salvage : OneSalvage (λ M. skriemelt-salvage.clauses) (λ M. skriemelt-salvage.spec)
+one-skriemelt-salvage = one-salvage
+
 pub one-skriemelt-version : OneAnswer skriemelt-version.ended (λ M. skriemelt-version.clauses) (λ M. skriemelt-version.spec) (λ κs a. a) (λ κs a r z. r)
-one-skriemelt-version = by-equation (result-set skriemelt-version.ended) (λ w. refl) (λ a. 3003) (λ w κs a r z p. said (λ h. h) (p .holds))
+one-skriemelt-version = by-equation (result-set skriemelt-version.ended) (λ w. refl) (λ a. 3004) (λ w κs a r z p. said (λ h. h) (p .holds))
 
 pub one-refused-with : OneAnswer refused-with.ended (λ M. refused-with.clauses) (λ M. refused-with.spec) (λ κs a. a) (λ κs a r z. r)
 one-refused-with = by-equation (result-set refused-with.ended) (λ w. refl) _ (λ w κs a r z p. said (λ h. h) (p .holds))

@@ -6,6 +6,7 @@ pub mod Sights
 pub mod Batch
 pub mod Summary
 pub mod Sources
+pub mod Salvaging
 pub mod Catalogue
 pub mod Callers
 pub mod Units

@@ -1,4 +1,5 @@
--- The public functions of reader that are not a caller's: the header and the timing of a payload. Their cursor is one but for its own value, and so is what was read.
+-- The public functions of reader that are not a caller's: the header and the timing of a payload, whose cursor is one but for its own value, and so is what was read; its
+-- limit, and what salvage drops of it, by equations.
 use mathlib.Core.Path.{_≡_, refl, sym, ap, ap₂, _∙_}
 use mathlib.Core.Bool.{Bool, true, false}
 use mathlib.Core.List.{List}
@@ -15,17 +16,22 @@ use Rattle.oamd.proofs.Programme as programme
 use Rattle.oamd.proofs.Timing as timing
 use Rattle.oamd.specs.declared.Programme.{Programme}
 use Rattle.oamd.specs.declared.Timing.{Timing}
-use Rattle.oamd.specs.Timing.{MdUpdateInfo, md-update-info, timingOf}
+use Rattle.oamd.specs.Timing.{md-update-info, timingOf}
 use Rattle.oamd.specs.Payload.{Header, header}
 use Rattle.reader.proofs.limit_of as limit-of
 use Rattle.reader.proofs.read_head as read-head
 use Rattle.reader.proofs.read_timing as read-timing
+use Rattle.reader.proofs.sift as sift
+use Rattle.reader.specs.Sifts.{sifted}
 use Rattle.reader.specs.Steps.{startCur, wholeOf}
 use Rattle.unique.specs.OneAnswer.{OneAnswer, by-equation, by-relation, said, result-set, _beside_}
 use Rattle.unique.specs.Readings.{asRead, reading-set}
 
 pub one-limit-of : OneAnswer limit-of.ended (λ M. limit-of.clauses) (λ M. limit-of.spec) (λ κs a. now (a .0)) (λ κs a r z. r)
 one-limit-of = by-equation (result-set limit-of.ended) (λ w. refl) wholeOf (λ w κs a r z p. said (λ h. h) (p .holds))
+
+pub one-sift : OneAnswer sift.ended (λ M. sift.clauses) (λ M. sift.spec) (λ κs a. now (a .0)) (λ κs a r z. r)
+one-sift = by-equation (result-set sift.ended) (λ w. refl) sifted (λ w κs a r z p. said (λ h. h) (p .holds))
 
 -- the cursor but for its value, and what was read
 abbrev read-as : {A : Type 0} → A → Cur → Cur × Res A

@@ -4,6 +4,7 @@ ghost use mathlib.Core.Path.{_≡_};
 ghost use Prim.Native.Nat.{_+_, _-_, _*_, _/_, _%_};
 
 // A position in bits, counted from the top bit of a payload's first byte.
+#[repr(C)]
 pub struct BitPos(u32);
 
 // A number of bits.

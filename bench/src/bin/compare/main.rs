@@ -3,17 +3,19 @@
 //! `compare N [SEED]`: N generated payloads, valid, faulty and damaged; answers, places, missing bits, tables and both whole buffers, with canaries around them. The
 //! tables of each accepted payload are written, as they are and damaged, and so are N generated tables. The payloads, some of them cut or longer, are read once more
 //! on shelves of a few; these are summarised, and of some a few entries are catalogued, and their texts read back, as they are and damaged. Of each payload it is asked
-//! why some bytes are what they are, of some why every byte is.
+//! why some bytes are what they are, of some why every byte is. Each payload is salvaged, and half as many that are put together of elements to be kept and to be dropped.
 //! `compare --damaged N [SEED]`: N random and damaged inputs: the library ends, and touches nothing that it may not.
 
 mod catalogues;
 mod lent;
+mod salvages;
 mod shelves;
 mod summaries;
 mod whys;
 mod writes;
 
 use lent::Lent;
+use salvages::Salvages;
 use shelves::Shelves;
 use skriemelt_bench::gen::rng::Rng;
 use skriemelt_bench::gen::Gen;
@@ -44,6 +46,7 @@ struct Tally {
     writer: Writer,
     shelves: Shelves,
     whys: Whys,
+    salvages: Salvages,
 }
 
 impl Tally {
@@ -55,6 +58,7 @@ impl Tally {
             writer: Writer::new(seed),
             shelves: Shelves::new(seed),
             whys: Whys::new(seed),
+            salvages: Salvages::new(seed),
         }
     }
 }
@@ -127,12 +131,13 @@ struct Input<'a> {
     rooms: (usize, usize),
 }
 
-/// Counts what was read, asks for the reasons of it, and writes the tables of an accepted payload.
+/// Counts what was read, asks for the reasons of it, salvages the payload, and writes the tables of an accepted one.
 fn count(tally: &mut Tally, index: u64, input: &Input, result: Result<Read, String>) {
     let payload = input.payload;
     let result = result.and_then(|read| {
         tally.refusals[read.answer.refusal as usize] += 1;
         tally.whys.payload(payload, &read)?;
+        tally.salvages.payload(payload, &read.answer)?;
         match read.answer.refusal {
             0 => {
                 tally.trims += u64::from(read.trim[0]);
@@ -195,6 +200,11 @@ fn generated(number: u64, seed: u64) -> Tally {
         if let Err(message) = tally.writer.generated() {
             differ(&mut tally, format!("generated tables {index}: {message}"));
         }
+        if index % 2 == 0 {
+            if let Err(message) = tally.salvages.generated() {
+                differ(&mut tally, format!("salvage {index}: {message}"));
+            }
+        }
     }
     if let Err(message) = tally.writer.longest() {
         differ(&mut tally, message);
@@ -256,6 +266,11 @@ fn damaged(number: u64, seed: u64) -> Tally {
         };
         let result = both(&mut rng, &input);
         count(&mut tally, index, &input, result);
+        if index % 2 == 0 {
+            if let Err(message) = tally.salvages.damaged() {
+                differ(&mut tally, format!("salvage {index}: {message}"));
+            }
+        }
     }
     finish(&mut tally);
     tally
@@ -289,6 +304,7 @@ fn main() -> ExitCode {
     tally.writer.writes.print();
     tally.shelves.print();
     tally.whys.print();
+    tally.salvages.print();
     let what = if random { "damaged inputs" } else { "payloads" };
     println!("{number} {what}, {} differences", tally.differences);
     ExitCode::from(u8::from(tally.differences != 0))

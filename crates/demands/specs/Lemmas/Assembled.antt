@@ -84,7 +84,7 @@ bodies-append (x ∷ xs) ys = ap (λ (l : List Body). x .is ∷ l) (bodies-appen
 -- ---- what is read
 
 -- the bits that a reader took it reads exactly
-piece : {A : Type 0} (p : P A) (b : Bits) (at e o : ℕ) {v : A} {to : ℕ} → run p b at e o ≡ ok v to → at ≤ e → Exactly p (taken b at to) v
+pub piece : {A : Type 0} (p : P A) (b : Bits) (at e o : ℕ) {v : A} {to : ℕ} → run p b at e o ≡ ok v to → at ≤ e → Exactly p (taken b at to) v
 piece p b at e o {v} {to} h le =
     let x = local p b at e o h le in
     let n = length-slice b at (x .used) in
@@ -92,7 +92,7 @@ piece p b at e o {v} {to} h le =
     subst (λ (k : ℕ). Exactly p (slice b at k) v) used
     (ok-at (x .moved (listed (slice b at (x .used))) 0 (length (slice b at (x .used))) pastPayload (slice-at b at (x .used)) (omega arith)) (omega arith))
 
-count-spells : Spells oa-element-count (λ l n. (l ≡ countBits n) × (n ≤ mostElements))
+pub count-spells : Spells oa-element-count (λ l n. (l ≡ countBits n) × (n ≤ mostElements))
 unfolding oa-element-count countBits
 count-spells =
     s-bind _ _ _ (s-bits 4 _ λ c a.

@@ -5,39 +5,17 @@ use Prim.Native.Nat.{ℕ, _+_, _-_, _*_, _≤_, _<_}
 use native.Mathlib.Omega.{arith}
 use lib.ListN.{length, length-append}
 use borrow.Author.Tests.{le-leb, ne-eqb}
-use Rattle.bits.specs.Language.{Res, no, Bits, P, give, refuse, field, within, _>>=_, run, bit, pastPayload, pastDeclared}
-use Rattle.bits.specs.Steps.{no-ok, by-order, give-no, refuse-no, bind-no, field-is, bind-is, bind-stops}
+use Rattle.bits.specs.Language.{no, Bits, P, give, refuse, field, within, _>>=_, run, bit, pastPayload, pastDeclared}
+use Rattle.bits.specs.Steps.{give-no, refuse-no, bind-no, bind-is, bind-stops}
 use Rattle.bits.specs.Laws.{local, still, numbered}
 use Rattle.bits.specs.Reached.{field-passes, size-passes}
-use Rattle.bits.specs.ReachedLaws.{stop-refuses, element-no}
+use Rattle.bits.specs.ReachedLaws.{stop-refuses, field-past, element-past}
 use Rattle.bits.specs.Terms.{Same, Says}
 use Rattle.oamd.specs.Answer.{missingOf}
 use Rattle.oamd.specs.Payload.{object-audio-metadata-payload}
 use Rattle.demands.specs.Terms.{parsed}
 use Rattle.demands.specs.Lemmas.Numbers.{payload-says}
 use Rattle.demands.specs.Lemmas.Reading.{bit-append}
-
-pub same-no : {A : Type 0} {r pl m r' pl' m' : ℕ} → _≡_ {A = Res A} (no r pl m) (no r' pl' m') → (r ≡ r') × (pl ≡ pl') × (m ≡ m')
-same-no {A} {r} {pl} {m} {r'} {pl'} {m'} h =
-    let i : r ≡ r' = cc in
-    let j : pl ≡ pl' = cc in
-    let k : m ≡ m' = cc in
-    (i, j, k)
-
--- a field that is refused passes the end, and lacks the bits by which it does
-pub field-past : {A : Type 0} (w : ℕ) (f : List ℕ → A) (b : Bits) (at e o : ℕ) {r pl m : ℕ} → run (field w f) b at e o ≡ no r pl m
-    → (e < at + w) × (o ≡ r) × (at ≡ pl) × (at + w - e ≡ m)
-field-past w f b at e o h =
-    by-order (at + w) e (λ l. absurd (no-ok (sym h ∙ field-is w f b at e o l)))
-    (λ l. let x = same-no (sym (stop-refuses b (field-passes {f = f} l)) ∙ h) in (l, x .0, x .1, x .2))
-
--- an element that is refused: something in it, or its declared end, which lacks the bits by which it passes the end
-pub element-past : {A X : Type 0} (n back : ℕ) (p : P A) (b : Bits) (at e o : ℕ) {r pl m : ℕ} → run (within n back p) b at e o ≡ no r pl m
-    → (at + n ≤ e → run p b at (at + n) pastDeclared ≡ no r pl m → X)
-    → ((e < at + n) × (o ≡ r) × (at - back ≡ pl) × (at + n - e ≡ m) → X) → X
-element-past n back p b at e o h f g =
-    element-no n back p b at e o h f
-    (λ l. let x = same-no (sym (stop-refuses b (size-passes {p = p} l)) ∙ h) in g (l, x .0, x .1, x .2))
 
 -- a refusal that is none of the reader's own lacks one bit or more
 lacks : {A : Type 0} (p : P A) (b : Bits) (at e o : ℕ) {r pl m : ℕ} → Says p (λ n. n ≡ r → ⊥) → run p b at e o ≡ no r pl m → 1 ≤ m

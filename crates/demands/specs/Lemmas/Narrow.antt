@@ -11,6 +11,7 @@ use Rattle.bits.specs.Language.{no, pick, Bits, P, give, refuse, field, within,
 use Rattle.bits.specs.Bytes.{bit-lt}
 use Rattle.bits.specs.Steps.{give-no, refuse-no, bind-no}
 use Rattle.bits.specs.Laws.{local, numbered}
+use Rattle.bits.specs.ReachedLaws.{field-past, element-past}
 use Rattle.bits.specs.Size.{sizeFrom}
 use Rattle.bits.specs.Ensures.{ensured, e-give, e-bits, e-bind, e-any, e-then, e-pick, e-if}
 use Rattle.bits.specs.Terms.{Says, Ensures}
@@ -21,7 +22,7 @@ use Rattle.oamd.specs.Answer.{missingOf}
 use Rattle.oamd.specs.Payload.{oa-md-version, object-count, oa-element-count, header, object-audio-metadata-payload}
 use Rattle.demands.specs.Terms.{parsed}
 use Rattle.demands.specs.Lemmas.Limits.{carried-le}
-use Rattle.demands.specs.Lemmas.Missing.{field-past, element-past, own, parsed-lacks, missing-none, missing-is}
+use Rattle.demands.specs.Lemmas.Missing.{own, parsed-lacks, missing-none, missing-is}
 
 -- the widest is an element whose size is five groups F
 abbrev pub widest : ℕ

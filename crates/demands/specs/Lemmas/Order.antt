@@ -261,7 +261,7 @@ inside-early p back st k b at e o h i =
     by-kind p back st (λ k x. isSecond k (st .known) ≡ false → isEarly k (st .known) ≡ true → run x b at e o ≡ no 7 (at - back) 0)
     (λ h i. let z : _≡_ {A = ℕ} 0 1 = cc in absurd (omega arith)) (λ k known h i. known-early p back st k b at e o h i) k h i
 
-then-no : {A B : Type 0} (x : Res A) (f : A → B) (end : ℕ) {r pl m : ℕ} → andThen x (λ a mid. ok (f a) end) ≡ no r pl m → x ≡ no r pl m
+pub then-no : {A B : Type 0} (x : Res A) (f : A → B) (end : ℕ) {r pl m : ℕ} → andThen x (λ a mid. ok (f a) end) ≡ no r pl m → x ≡ no r pl m
 then-no (ok a mid) f end h = absurd (no-ok (sym h))
 then-no (no r pl m) f end h = cc
 

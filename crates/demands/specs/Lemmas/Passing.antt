@@ -20,9 +20,10 @@ use Rattle.oamd.specs.Element.{declaredLength, sizeLength, State, kind, isSecon
 use Rattle.demands.specs.Skeleton.{isKnown}
 use Rattle.demands.specs.Lemmas.Plain.{size-plain}
 use Rattle.demands.specs.Lemmas.Frame.{size-goes, alternate-goes}
+use Rattle.demands.specs.Lemmas.Elements.{refuseIf-ok}
 
 -- no reader is marked
-data Unmarked : (A : Type 0) → P A → Type 1 where
+pub data Unmarked : (A : Type 0) → P A → Type 1 where
 
 -- p comes to a field that passes the end to which p itself is held
 pub record Passes {A : Type 0} (p : P A) (b : Bits) (at e o r pl : ℕ) : Type 1 where
@@ -33,7 +34,7 @@ pub record Passes {A : Type 0} (p : P A) (b : Bits) (at e o r pl : ℕ) : Type 1
   pub passes : e < pl + width
   pub over : r ≡ o
 
-field-in : {A B : Type 0} {p : P A} {q : P B} {b : Bits} {at to e o r pl m : ℕ} → Comes p b at e o q to e o
+pub field-in : {A B : Type 0} {p : P A} {q : P B} {b : Bits} {at to e o r pl m : ℕ} → Comes p b at e o q to e o
     → Halts Unmarked (λ r. ⊥) q b to e o r pl m → Passes p b at e o r pl
 field-in x (at-field c l i) = record { Value = _; width = _; value = _; comes = comes-on x c; passes = l; over = i }
 
@@ -119,23 +120,24 @@ element-refused alternate f b id e o {r} {pl} {m} h =
     let is = place (sym (stop-refuses b (size-passes l)) ∙ h) in
     by-end size to sized l (is .0) (omega arith))
 
--- what stands behind a frame is refused with 6 or 7, or in the fields of a known element
-pub data InKnown (p : Programme) (st : State) (k : Kind) (q : P State) (b : Bits) (at e o r pl m : ℕ) : Type 1 where
-  of-order : (r ≡ 6) ⊎ (r ≡ 7) → InKnown p st k q b at e o r pl m
+-- what stands behind a frame is refused if its kind is known: with 6 or 7, so many bits back, or in its fields
+pub data InKnown (p : Programme) (back : ℕ) (st : State) (k : Kind) (q : P State) (b : Bits) (at e o r pl m : ℕ) : Type 1 where
+  of-order : isKnown k ≡ true → (r ≡ 6) ⊎ (r ≡ 7) → pl ≡ at - back → InKnown p back st k q b at e o r pl m
   in-fields : isKnown k ≡ true → (to : ℕ) → Comes q b at e o (fields p k (st .known)) to e o → run (fields p k (st .known)) b to e o ≡ no r pl m
-      → InKnown p st k q b at e o r pl m
+      → InKnown p back st k q b at e o r pl m
 
 known-refused : (p : Programme) (back : ℕ) (st : State) (k : Kind) (b : Bits) (at e o : ℕ) {r pl m : ℕ} → isKnown k ≡ true
-    → run (readKnown p back st k) b at e o ≡ no r pl m → InKnown p st k (readKnown p back st k) b at e o r pl m
+    → run (readKnown p back st k) b at e o ≡ no r pl m → InKnown p back st k (readKnown p back st k) b at e o r pl m
 unfolding readKnown
 known-refused p back st k b at e o known h =
-    bind-no _ _ b at e o h (λ x. of-order (inl (refusal-of-own (isSecond k (st .known)) _ _ _ b at e o x .1))) λ once p1 h1 h.
-    bind-no _ _ b p1 e o h (λ x. of-order (inr (refusal-of-own (isEarly k (st .known)) _ _ _ b p1 e o x .1))) λ timely p2 h2 h.
+    bind-no _ _ b at e o h (λ x. let y = refusal-of-own (isSecond k (st .known)) _ _ _ b at e o x in of-order known (inl (y .1)) (y .2)) λ once p1 h1 h.
+    let here-still : p1 ≡ at = refuseIf-ok (isSecond k (st .known)) _ _ _ b at e o h1 .1 in
+    bind-no _ _ b p1 e o h (λ x. let y = refusal-of-own (isEarly k (st .known)) _ _ _ b p1 e o x in of-order known (inr (y .1)) (omega arith)) λ timely p2 h2 h.
     bind-no _ _ b p2 e o h (λ x. in-fields known p2 (behind h1 (behind h2 (first here))) x) λ known p3 h3 h.
     absurd (give-no _ b p3 e o h)
 
 pub body-refused : (p : Programme) (back : ℕ) (st : State) (k : Kind) (b : Bits) (at e o : ℕ) {r pl m : ℕ} → run (oa-element p back st k) b at e o ≡ no r pl m
-    → InKnown p st k (oa-element p back st k) b at e o r pl m
+    → InKnown p back st k (oa-element p back st k) b at e o r pl m
 unfolding oa-element passOver
 body-refused p back st Unknown b at e o h = absurd (give-no _ b at e o h)
 body-refused p back st Object b at e o h = known-refused p back st Object b at e o refl h

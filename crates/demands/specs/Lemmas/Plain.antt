@@ -99,7 +99,7 @@ module _ (M : (A : Type 0) → P A → Type 1) (Q : ℕ → Type 0) where
   unfolding object-count
   count-plain = search plainly depth 12
 
-  many-plain : Plain M Q _ oa-element-count
+  pub many-plain : Plain M Q _ oa-element-count
   unfolding oa-element-count
   many-plain = search plainly depth 12
 
@@ -173,6 +173,17 @@ module _ (M : (A : Type 0) → P A → Type 1) (Q : ℕ → Type 0) where
     fields-plain p Trim known = both (trim-plain _) (λ t. giving)
     fields-plain p Extended known = both (extended-plain _) (λ e. giving)
 
+    -- ---- what stands before the elements
+
+    module _ (version : Q 3) (counts : Q 4) where
+      version-plain : Plain M Q _ oa-md-version
+      unfolding oa-md-version
+      version-plain = search plainly depth 12
+
+      pub header-plain : Plain M Q _ header
+      unfolding header
+      header-plain = search (plainly, version-plain, count-plain, assignment-plain) depth 12
+
     -- ---- the whole, where its elements are marked
 
     module _ (element : (p : Programme) (alternate : ℕ) (st : State) → M State (oa-element-md p alternate st)) where
@@ -181,15 +192,6 @@ module _ (M : (A : Type 0) → P A → Type 1) (Q : ℕ → Type 0) where
       elements-plain p alternate zero st = giving
       elements-plain p alternate (suc n) st = both (marked (element p alternate st)) (λ st. elements-plain p alternate n st)
 
-      module _ (version : Q 3) (counts : Q 4) where
-        version-plain : Plain M Q _ oa-md-version
-        unfolding oa-md-version
-        version-plain = search plainly depth 12
-
-        header-plain : Plain M Q _ header
-        unfolding header
-        header-plain = search (plainly, version-plain, count-plain, assignment-plain) depth 12
-
-        pub payload-plain : Plain M Q _ object-audio-metadata-payload
-        unfolding object-audio-metadata-payload
-        payload-plain = search (plainly, header-plain, many-plain, elements-plain) depth 12
+      pub payload-plain : Q 3 → Q 4 → Plain M Q _ object-audio-metadata-payload
+      unfolding object-audio-metadata-payload
+      payload-plain version counts = search (plainly, header-plain version counts, many-plain, elements-plain) depth 12

@@ -134,10 +134,10 @@ record Element (p : Programme) (alternate : ℕ) (st st' : State) (b : Bits) (at
   counted : st' .unknown ≡ pick (isKnown (x .kind)) (st .unknown) (suc (st .unknown))
 
 -- its bits behind the discard flag
-inner : {alternate : ℕ} {b : Bits} {at e o : ℕ} → Frame alternate b at e o → List ℕ
+pub inner : {alternate : ℕ} {b : Bits} {at e o : ℕ} → Frame alternate b at e o → List ℕ
 inner {alternate} {b} {at} f = slice b (bodyAt at alternate (f .size)) (declaredLength (f .size) - headLength alternate)
 
-body-is : (alternate : ℕ) (b : Bits) (at e o : ℕ) (f : Frame alternate b at e o)
+pub body-is : (alternate : ℕ) (b : Bits) (at e o : ℕ) (f : Frame alternate b at e o)
     → run (body alternate) b at e o ≡ ok (record { kind = f .kind; bits = inner f }) (endAt at (f .size))
 unfolding body inner
 body-is alternate b at e o f =

@@ -26,7 +26,7 @@ use Rattle.demands.specs.Lemmas.Plain.{fields-plain, payload-plain}
 use Rattle.demands.specs.Lemmas.Passing.{Passes, Reserves, limited-refused, limited-refuses, InElement, in-field, by-end, in-body, element-refused, InKnown, of-order, in-fields, body-refused}
 
 -- in a known element the fields with reserved values are marked; outside of the elements these and the elements
-data Limited : (A : Type 0) → P A → Type 1 where
+pub data Limited : (A : Type 0) → P A → Type 1 where
   limited : (f : Field) → Limited ℕ (unreserved f)
 
 data Marked : (A : Type 0) → P A → Type 1 where
@@ -104,9 +104,9 @@ element-where s p alternate st id c {r} {place} {m} h = go (element-refused alte
     body : (size : Size) (to : ℕ) (z : runs variable-bits-max s (id + 4) ≡ ok size to) (k : Kind) (at : ℕ)
         → Comes (oa-element-md p alternate st) (bit s) id (8 * length s) pastPayload (oa-element p (backToId alternate size) st k) at (to + declaredLength size)
         pastDeclared
-        → InKnown p st k (oa-element p (backToId alternate size) st k) (bit s) at (to + declaredLength size) pastDeclared r place m → Where s r place
-    body size to z k at d (of-order (inl x)) = other (omega arith)
-    body size to z k at d (of-order (inr x)) = other (omega arith)
+        → InKnown p (backToId alternate size) st k (oa-element p (backToId alternate size) st k) (bit s) at (to + declaredLength size) pastDeclared r place m → Where s r place
+    body size to z k at d (of-order known (inl x) i) = other (omega arith)
+    body size to z k at d (of-order known (inr x) i) = other (omega arith)
     body size to z k at d (in-fields known at' d' x) = fields-refused s id (sized size to z) k known at' (comes-on d d') x
 
     go : InElement alternate (λ k size. oa-element p (backToId alternate size) st k) (bit s) id (8 * length s) pastPayload r place m → Where s r place

@@ -1,34 +1,35 @@
 -- `read_elements` meets its contract (`ElementLoop.antt`). Assumes nothing.
-use mathlib.Core.Path.{_≡_, refl, ap, _∙_}
+use mathlib.Core.Path.{_≡_, refl, _∙_}
 use mathlib.Core.List.{List}
-use Prim.Native.Nat.{ℕ, _-_, _≤_}
+use Prim.Native.Nat.{ℕ, _+_, _-_, _≤_}
 use native.Mathlib.Omega.{arith}
 use lib.ListN.{length}
 use Rattle.bits.specs.declared.Cur.{Cur}
 use Rattle.bits.specs.declared.Limit.{Limit}
 use Rattle.bits.specs.Language.{Bits, bit}
 use Rattle.oamd.specs.declared.Programme.{Programme}
-use Rattle.oamd.specs.declared.Timing.{Timing}
 use Rattle.oamd.specs.Tables.{mostBlocks}
+use Rattle.oamd.specs.Element.{Known}
 use Rattle.reader.specs.declared.Scope.{Scope}
 use Rattle.reader.specs.declared.State.{State}
-use Rattle.reader.specs.Steps.{Buffers, lent, Sized, Scoped}
+use Rattle.reader.specs.Steps.{Buffers, lent, Sized, Holding, Scoped, stateOf}
 use Rattle.reader.proofs.ElementLoop.{Ongoing, first, further, finish, stop}
 use borrow.Author.Needs.{needs}
 use Rattle.reader.proofs.element.read_elements.Statement.{statement}
 use Rattle.reader.proofs.element.read_elements.Tie as tie
 
 -- before element i
-record Standing (n : ℕ) (scope : Scope) (b : Bits) (c : Cur) (l : Limit) (t : List ℕ) (i : ℕ) (st : State) (cur : Cur) (held : Buffers) : Type 0 where
+record Standing (n : ℕ) (scope : Scope) (st₀ : State) (b : Bits) (c : Cur) (l : Limit) (held₀ : Buffers) (i : ℕ) (st : State) (cur : Cur) (held : Buffers) : Type 0 where
   pub within : i ≤ n
   pub sized : Sized (scope .objects) held
-  pub same : length (held .out) ≡ length t
+  pub same : length (held .out) ≡ length (held₀ .out)
   pub blocks : st .timing .blocks ≤ mostBlocks
-  pub unknown : st .unknown ≤ i
-  pub ongoing : (q : Programme) → Scoped q scope → Ongoing n scope q b c l t i st cur held
+  pub unknown : st .unknown ≤ st₀ .unknown + i
+  pub ongoing : (q : Programme) (known : Known) (t : List ℕ) → Scoped q scope → (c .no ≡ 0 → Holding (scope .objects) known t st₀ held₀)
+      → Ongoing n scope q (stateOf known (st₀ .unknown)) b c l t i st cur held
 
 abbrev Inv-loop : tie.InvT-loop
-Inv-loop s l scope n out₀ table₀ state₀ cur₀ i₀ out table state cur i = Standing n scope (bit s) cur₀ l out₀ i state cur (lent out table)
+Inv-loop s l scope n out₀ table₀ state₀ cur₀ i₀ out table state cur i = Standing n scope state₀ (bit s) cur₀ l (lent out₀ table₀) i state cur (lent out table)
 
 abbrev μ-loop : tie.MeasureT-loop
 μ-loop s l scope n out₀ table₀ state₀ cur₀ i₀ out table state cur i = n - i
@@ -42,14 +43,14 @@ at-loop c = c .before .before
 
 loop-holds : tie.Need-loop-holds Inv-loop μ-loop
 loop-holds c =
-    let none = c .no-timing .ensures in
+    let asked = c .before .before .pre in
     record {
       within = omega arith;
-      sized = c .before .before .before .pre .ready .sized;
+      sized = asked .ready .sized;
       same = refl;
-      blocks = omega (arith, ap (λ (x : Timing). x .blocks) none);
+      blocks = asked .blocks;
       unknown = omega arith;
-      ongoing = λ q sc. first _ _ _ _ _ _ _ none (search needs) (search needs);
+      ongoing = λ q known t sc h. first h;
     }
 
 loop-again : tie.Need-loop-again Inv-loop μ-loop
@@ -63,7 +64,7 @@ loop-again c =
       same = c .before .before .before .out .given ∙ standing .same;
       blocks = one .few;
       unknown = omega (arith, one .next, standing .unknown);
-      ongoing = λ q sc. further (standing .ongoing q sc) (omega arith) sc one;
+      ongoing = λ q known t sc h. further (standing .ongoing q known t sc h) (omega arith) sc one;
     }
 
 read-element-requires : tie.Need-read-element-requires Inv-loop μ-loop
@@ -78,12 +79,22 @@ read-element-requires c κs =
 returns : tie.Need-returns Inv-loop μ-loop
 returns c =
     let standing = at-loop (c .before) .loop .inv in
-    record { sized = standing .sized; few = standing .blocks; went = λ q sc. stop (standing .ongoing q sc) (c .if1 .taken) }
+    record {
+      sized = standing .sized;
+      few = standing .blocks;
+      next = omega (arith, standing .unknown, standing .within);
+      went = λ q known t sc h. stop (standing .ongoing q known t sc h) (c .if1 .taken);
+    }
 
 returns-2 : tie.Need-returns-2 Inv-loop μ-loop
 returns-2 c =
     let standing = c .before .loop .inv in
-    record { sized = standing .sized; few = standing .blocks; went = λ q sc. finish (standing .ongoing q sc) (omega (arith, standing .within)) }
+    record {
+      sized = standing .sized;
+      few = standing .blocks;
+      next = omega (arith, standing .unknown, standing .within);
+      went = λ q known t sc h. finish (standing .ongoing q known t sc h) (omega (arith, standing .within));
+    }
 
 pub read-elements-spec : {M : Type 1} → statement M
 read-elements-spec =
@@ -91,7 +102,6 @@ read-elements-spec =
     (tie.spec
     Inv-loop
     μ-loop
-    (λ c κs. search needs)
     loop-holds
     (λ c. at-loop (c .before) .loop .inv .same)
     returns

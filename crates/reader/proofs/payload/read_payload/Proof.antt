@@ -1,11 +1,11 @@
 use native.Mathlib.Omega.{arith}
-use Rattle.reader.proofs.Whole.{payload-read}
+use Rattle.reader.proofs.Whole.{payload-read, counts-on}
 use borrow.Author.Needs.{needs}
 use Rattle.reader.proofs.payload.read_payload.Statement.{statement}
 use Rattle.reader.proofs.payload.read_payload.Tie as tie
 
 -- the element count read, behind the header
-abbrev counted : tie.After-shares → tie.After-read-element-count
+abbrev counted : tie.After-nothing-read → tie.After-read-element-count
 counted c = c .before .before
 
 abbrev start : tie.After-read-element-count → tie.Start
@@ -13,22 +13,20 @@ start c = c .before .before .before .before .before
 
 read-elements-requires : tie.Need-read-elements-requires
 read-elements-requires c κs =
-    let count = counted (c .before .before) in
+    let begun = c .before .before in
+    let count = counted begun in
     let asked = start count .pre in
-    record {
-      ready = record { objects = asked .headed .head .few; alternate = asked .headed .head .bit; sized = asked .sized };
-      few = omega (arith, count .read-element-count .ensures .small);
-      empty = asked .empty;
-    }
+    counts-on (asked .headed) (asked .sized) (begun .before .scope-of .ensures) (begun .nothing-read .ensures)
+    (omega (arith, count .read-element-count .ensures .small))
 
 returns : tie.Need-returns
 returns c =
     let elements = c .before .before .before .before in
-    let shared = elements .before .before .before in
-    let count = counted shared in
-    let (shares, beds, isf) = shared .shares .ensures in
-    payload-read (start count .pre .headed) (count .before .before .limit-of .ensures) shares (count .read-element-count .ensures .reads)
-    (elements .read-elements .ensures)
+    let begun = elements .before .before .before in
+    let count = counted begun in
+    let asked = start count .pre in
+    payload-read (asked .headed) (asked .empty) (count .before .before .limit-of .ensures) (begun .before .scope-of .ensures) (begun .nothing-read .ensures)
+    (count .read-element-count .ensures .reads) (elements .read-elements .ensures)
 
 pub read-payload-spec : {M : Type 1} → statement M
 read-payload-spec =
@@ -36,7 +34,7 @@ read-payload-spec =
     (tie.spec
     (λ c κs. c .before .before .pre .headed .short)
     (λ c κs. search needs)
-    (λ c. search needs)
+    (λ c κs. search needs)
     (λ c κs. search needs)
     read-elements-requires
     (λ c. c .before .before .before .out .given)

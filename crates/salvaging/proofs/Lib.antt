@@ -1,0 +1,5 @@
+pub mod Copies
+pub mod RunLoop
+pub mod Reports
+pub mod Whole
+pub mod Verdicts

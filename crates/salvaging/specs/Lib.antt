@@ -1,0 +1,10 @@
+pub mod Salvage
+pub mod Promises
+pub mod Parts
+pub mod Worked
+pub mod Lemmas
+pub mod LiesIn
+pub mod AsAsked
+pub mod Remains
+pub mod Again
+pub mod When
