@@ -1,15 +1,15 @@
 -- No refusal of an element lies before the first bit of its id: a line for each clause. The refusals of a clause lie no further back than its own first bit, so than any n bits before
 -- it; those of 6 and 7 lie at the first bit of the id, as far back as the frame is long.
-use mathlib.Core.Path.{_≡_, refl}
+use mathlib.Core.Path.{_≡_}
 use mathlib.Core.Bool.{Bool, true, false}
 use mathlib.Core.List.{List}
-use Prim.Native.Nat.{ℕ, zero, suc, _+_, _*_, _≤_, _<_}
+use Prim.Native.Nat.{ℕ, zero, suc, _+_, _*_, _≤_}
 use native.Mathlib.Omega.{arith}
 use lib.Dec.{eqb}
 use lib.ListN.{length}
 use Rattle.bits.specs.declared.Size.{Size}
-use Rattle.bits.specs.Language.{no, pick, Bits, P, run, bitsIf}
-use Rattle.bits.specs.Moves.{Backs, moves, backing, backs-give, backs-field, backs-within, backs-bind, backs-more, backs-pick, backs-pass}
+use Rattle.bits.specs.Language.{pick, P, bitsIf}
+use Rattle.bits.specs.Moves.{Backs, backing, backs-give, backs-field, backs-within, backs-bind, backs-more, backs-pick, backs-pass}
 use Rattle.bits.specs.Size.{sizeFrom}
 use Rattle.bits.specs.Spells.{s-give, s-bits, s-bind, s-then, s-pick}
 use Rattle.bits.specs.Writes.{toBits, Spells}
@@ -189,10 +189,3 @@ inside-backs p back st = by-kind p back st (λ k x. Backs back x) (backs-give ba
 pub backs-md : (p : Programme) (alternate : ℕ) (st : State) → Backs 0 (oa-element-md p alternate st)
 unfolding oa-element-md
 backs-md p alternate st = framed-backs alternate _ (λ k z. inside-backs p (backToId alternate z) st k)
-
--- so the place of its refusal does not lie before the element
-pub md-low : (p : Programme) (alternate : ℕ) (st : State) (b : Bits) → ((i : ℕ) → b i < 2) → (at e o : ℕ) {r pl m : ℕ}
-    → run (oa-element-md p alternate st) b at e o ≡ no r pl m → at ≤ e → at ≤ pl
-md-low p alternate st b bin at e o h le =
-    let x = moves 0 _ (backs-md p alternate st) b b bin at e at e o h le (omega arith) (omega arith) (λ i l. refl) (omega arith) in
-    omega (arith, x .low)
