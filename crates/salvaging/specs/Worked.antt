@@ -19,6 +19,7 @@ use Rattle.oamd.specs.Payload.{oa-md-version, object-count, oa-element-count, h
 use Rattle.oamd.specs.Sift.{sift, sieve}
 use Rattle.oamd.specs.Answer.{missingOf}
 use Rattle.demands.specs.Assembly.{countBits}
+use Rattle.salvaging.specs.declared.Drop.{Drop}
 use Rattle.salvaging.specs.Salvage.{without, left, roomed, remaining, salvagedTo, notSalvaged, salvaging}
 
 -- a buffer of n bytes, each 9
@@ -35,6 +36,30 @@ abbrev fourteen : List ℕ
 fourteen =
     0x01 ∷ 0x3A ∷ 0x40 ∷ 0x01 ∷ 0x20 ∷ 0x00 ∷ 0x90 ∷ 0x00 ∷ 0x48 ∷ 0x00 ∷ 0x24 ∷ 0x00 ∷ 0x12 ∷ 0x00 ∷ 0x09 ∷ 0x00 ∷ 0x04
     ∷ 0x80 ∷ 0x02 ∷ 0x40 ∷ 0x01 ∷ 0x20 ∷ 0x00 ∷ 0x90 ∷ 0x00 ∷ 0x48 ∷ 0x00 ∷ 0x24 ∷ 0x00 ∷ 0x12 ∷ 0x00 ∷ 0x00 ∷ 0x00 ∷ []
+
+-- an element that was dropped, as it is reported
+abbrev drop : ℕ → ℕ → ℕ → Drop
+drop place id refusal = record { place = record { 0 = place }; id = id; refusal = refusal }
+
+-- Two answers with all that they say, and the buffer behind each: of the first, what is left and two bytes that stay; of the second, which is refused, all that was there.
+pub written-out :
+    (salvaging followed (room 8) ≡ record {
+      answer = record {
+        place = 0;
+        missing = 0;
+        length = record { 0 = 6 };
+        refusal = 0;
+        drops = 2;
+        dropped = drop 24 1 5 ∷ (drop 31 5 7 ∷ replicate 44 (drop 0 0 0));
+      };
+      out = 0x01 ∷ 0x04 ∷ 0x84 ∷ 0x43 ∷ 0x00 ∷ 0x00 ∷ 9 ∷ 9 ∷ [];
+    })
+    × (salvaging broken (room 3) ≡ record {
+      answer = record { place = 31; missing = 3; length = record { 0 = 0 }; refusal = 2; drops = 0; dropped = replicate 46 (drop 0 0 0) };
+      out = 9 ∷ 9 ∷ 9 ∷ [];
+    })
+unfolding salvaging sieve sift left without remaining roomed missingOf onto toBits pack toBytes countBits sizeFrom slice number run bit each from bed-assignment bed-instances intermediate-spatial-format num-dynamic-objects reserved-data program-assignment labels bedObjects allBeds named agrees shares classOf kind framed scenes fields passOver readKnown oa-element oa-element-md elements oa-md-version object-count oa-element-count header sample-offset block-update-info md-update-info status-idx object-basic-info position distance zone extent screen object-render-info additional-table-data object-info-block object-data object-element obj-div-block ext-prec-pos-block extended-object-element trim-config trim-element
+written-out = (refl, refl)
 
 pub worked :
     (salvaging reserved (room 4) ≡ salvagedTo (room 4) (told 14 31 24 1 5 ∷ []) (0x01 ∷ 0x02 ∷ []))
