@@ -1,15 +1,14 @@
 -- One turn of a batch: what is done, and what is to come of the rest, is the whole. Assumes nothing.
 use mathlib.Core.Path.{_≡_, refl, sym, ap, _∙_, subst}
-use mathlib.Core.List.{List, [], _∷_, _++_, append-assoc}
-use Prim.Native.Nat.{ℕ, suc, _+_, _-_, _*_, _≤_, _<_}
+use mathlib.Core.List.{List, [], _++_, append-assoc}
+use Prim.Native.Nat.{ℕ, _+_, _-_, _*_, _≤_, _<_}
 use native.Mathlib.Nat.{suc-mul, zero-mul, mul-le-mul-right}
 use native.Mathlib.Numerals.{add-one}
 use native.Mathlib.Omega.{arith}
 use lib.ListN.{length, getD, take, drop, length-drop, length-append, take-append-drop}
-use lib.Seq.{drop-cons, take-at, drop-at, length-take-le, drop-length, take-all}
+use lib.Seq.{drop-cons, take-at, drop-at, length-take-le, drop-length}
 use Rattle.oamd.specs.declared.ReadAnswer.{ReadAnswer}
 use Rattle.oamd.specs.Tables.{answerBytes}
-use Rattle.oamd.specs.Answer.{Outcome}
 use Rattle.oamd.specs.Batch.{answerBytesOf, entry, Shelf, inFront, shelved}
 use Rattle.batch.proofs.Outcomes.{outcome}
 

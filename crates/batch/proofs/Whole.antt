@@ -5,8 +5,6 @@ use Prim.Native.Nat.{ℕ, _+_, _*_, _≤_}
 use native.Mathlib.Omega.{arith}
 use lib.ListN.{length, take, drop, replicate, length-append, length-replicate, drop-of-length-le}
 use lib.Seq.{take-all}
-use Rattle.oamd.specs.declared.Bed.{Bed}
-use Rattle.oamd.specs.declared.Update.{Update}
 use Rattle.oamd.specs.declared.ReadAnswer.{ReadAnswer}
 use Rattle.oamd.specs.Tables.{mostBeds, mostBlocks, answerBytes}
 use Rattle.oamd.specs.LeastFirst.{leastFirst}

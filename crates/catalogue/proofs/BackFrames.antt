@@ -2,8 +2,8 @@
 use mathlib.Core.Path.{_≡_, refl, sym, ap, _∙_, subst}
 use mathlib.Core.Bool.{true, false, true≢false}
 use mathlib.Core.List.{List, [], _∷_, _++_, append-nil, append-assoc}
-use mathlib.Core.Option.{none, some}
-use Prim.Native.Nat.{ℕ, _+_, _-_, _<_, _≤_}
+use mathlib.Core.Option.{none}
+use Prim.Native.Nat.{ℕ, _+_, _<_, _≤_}
 use native.Mathlib.Omega.{arith}
 use lib.ListN.{length, drop, length-append, length-drop, drop-of-length-le}
 use Rattle.oamd.specs.Tables.{scratchBytes}
@@ -14,7 +14,7 @@ use Rattle.catalogue.specs.declared.Spot.{Spot}
 use Rattle.catalogue.specs.declared.Leaf.{Leaf}
 use Rattle.catalogue.specs.declared.Tally.{Tally}
 use Rattle.catalogue.specs.Sheets.{Sheet, rowsBehind, rowsAfter}
-use Rattle.catalogue.specs.Scan.{Got, got, bad, after, run}
+use Rattle.catalogue.specs.Scan.{Got, got, bad, run}
 use Rattle.catalogue.specs.Back.{sheet-back, sheets-back, back}
 use Rattle.catalogue.specs.Answer.{lineBytes, recordsBytes}
 use Rattle.catalogue.specs.Parts.{rowsOf}

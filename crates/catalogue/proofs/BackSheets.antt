@@ -8,7 +8,7 @@ use Rattle.bits.specs.Language.{pick, from}
 use Rattle.catalogue.specs.declared.Spot.{Spot}
 use Rattle.catalogue.specs.declared.Leaf.{Leaf}
 use Rattle.catalogue.specs.Sheets.{Change, Sheet, refusedSheet, acceptedSheet, rowsBehind}
-use Rattle.catalogue.specs.Scan.{Got, bad, S, give, number, _>>=_, run}
+use Rattle.catalogue.specs.Scan.{Got, S, give, number, _>>=_, run}
 use Rattle.catalogue.specs.Back.{check, updates-back, refused-back}
 use Rattle.catalogue.specs.Parts.{rowsOf, spotted, runs}
 use Rattle.catalogue.specs.BackCalls.{Room, LeafRead, refusal-back, refusedLeaf}

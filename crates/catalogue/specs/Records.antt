@@ -1,7 +1,7 @@
 -- What is read back of the sheet of a read is what the read gave: its line says what the answer says, and its records are those in the lent buffer, byte for byte.
 use mathlib.Core.Path.{_≡_, refl, sym, ap, ap₂, _∙_}
 use mathlib.Core.List.{List, [], _∷_, _++_, map}
-use Prim.Native.Nat.{ℕ, zero, suc, _+_, _-_, _*_, _/_, _%_, _≤_, _<_}
+use Prim.Native.Nat.{ℕ, zero, suc, _+_, _*_, _/_, _%_, _≤_, _<_}
 use native.Mathlib.Nat.{zero-add, add-suc, mul-zero, zero-mul, mul-suc, suc-mul, mul-comm, mul-assoc, le-refl, mul-le-mul, mod-eq-of-lt, add-mod-right}
 use native.Mathlib.Omega.{arith}
 use lib.ListN.{length, getD, take, drop, length-drop}

@@ -10,7 +10,7 @@ use Rattle.oamd.specs.Element.{nothing}
 use Rattle.oamd.specs.Payload.{tables}
 use Rattle.oamd.specs.Answer.{Outcome, housed, reading}
 use Rattle.demands.specs.Terms.{runs, tablesOf}
-use Rattle.demands.specs.Skeleton.{Outline, outline-payload, outline, known, unknowns, given, takenOut, skeleton, tablesIn, SameTables}
+use Rattle.demands.specs.Skeleton.{Outline, outline-payload, outline, unknowns, given, takenOut, skeleton, tablesIn, SameTables}
 use Rattle.demands.specs.Lemmas.Reading.{read-of, reading-ok, housed-fits}
 use Rattle.demands.specs.Lemmas.Skeletons.{Steps, outlined, from-outline, given-some, taken-some}
 

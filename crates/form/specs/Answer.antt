@@ -9,15 +9,12 @@ use Rattle.bits.specs.Refusals.{numberOf}
 use Rattle.bits.specs.Language.{pick}
 use Rattle.oamd.specs.declared.Programme.{Programme}
 use Rattle.oamd.specs.declared.Timing.{Timing}
-use Rattle.oamd.specs.declared.Scene.{Scene}
-use Rattle.oamd.specs.declared.Divergence.{Divergence}
-use Rattle.oamd.specs.declared.Precise.{Precise}
 use Rattle.oamd.specs.declared.TrimConfig.{TrimConfig}
 use Rattle.oamd.specs.declared.WriteAnswer.{WriteAnswer}
-use Rattle.oamd.specs.Tables.{mostBytes, recordStride, trimConfigs, configBytes, trimHead, perObjectByte, trimFixed}
+use Rattle.oamd.specs.Tables.{mostBytes, trimConfigs, configBytes, trimHead, perObjectByte, trimFixed}
 use Rattle.oamd.specs.Programme.{shares}
 use Rattle.oamd.specs.Trim.{TrimTable, trimNeeded}
-use Rattle.oamd.specs.Record.{Record, recordOf, onto}
+use Rattle.oamd.specs.Record.{onto}
 use Rattle.oamd.specs.Payload.{Tables}
 use Rattle.oamd.specs.Time.{timeOf}
 use Rattle.oamd.specs.Answer.{needed}

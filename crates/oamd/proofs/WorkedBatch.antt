@@ -3,14 +3,10 @@
 -- missing). The slots hold nothing for records and 95 bytes for the trim table, which is all 0; one byte lies behind the slots and one behind the places.
 use mathlib.Core.Path.{_≡_, refl}
 use mathlib.Core.List.{List, [], _∷_, _++_}
-use Prim.Native.Nat.{ℕ, _+_, _-_, _*_}
-use lib.ListN.{length, replicate}
-use Rattle.bits.specs.Language.{ok, slice, number, run, bit, each, from, pastPayload}
-use Rattle.bits.specs.Writes.{listed}
-use Rattle.bits.specs.Size.{sizeFrom, sizeOf, variable-bits-max}
-use Rattle.oamd.specs.declared.ReadAnswer.{ReadAnswer}
-use Rattle.oamd.specs.declared.Update.{Update}
-use Rattle.oamd.specs.Tables.{mostTrim}
+use Prim.Native.Nat.{ℕ, _+_}
+use lib.ListN.{replicate}
+use Rattle.bits.specs.Language.{slice, number, run, bit, each, from}
+use Rattle.bits.specs.Size.{sizeFrom}
 use Rattle.oamd.specs.Programme.{bed-assignment, bed-instances, intermediate-spatial-format, num-dynamic-objects, reserved-data, program-assignment, labels, bedObjects}
 use Rattle.oamd.specs.Programme.{allBeds, named, agrees, shares, classOf}
 use Rattle.oamd.specs.Timing.{sample-offset, block-update-info, md-update-info, offsetOf, rampOf, startOf, timingOf}
@@ -20,10 +16,10 @@ use Rattle.oamd.specs.Extended.{obj-div-block, ext-prec-pos-block, exten
 use Rattle.oamd.specs.Meaning.{gainOf, priorityOf, distanceOf, locationOf, volumeOf, resolve, scenesFrom, scenesOf, allScenes}
 use Rattle.oamd.specs.Record.{plainRecords, extendedRecords, recordBytesOf, onto}
 use Rattle.oamd.specs.Time.{timedBytesOf}
-use Rattle.oamd.specs.Trim.{trim-config, trim-element, trimOf, configsBytesOf, trimBytesOf, trimNeeded}
+use Rattle.oamd.specs.Trim.{trim-config, trim-element, trimOf, configsBytesOf, trimBytesOf}
 use Rattle.oamd.specs.Element.{kind, framed, scenes, fields, passOver, readKnown, oa-element, oa-element-md, elements}
 use Rattle.oamd.specs.Payload.{oa-md-version, object-count, oa-element-count, header, object-audio-metadata-payload, timing, records, tables}
-use Rattle.oamd.specs.Answer.{missingOf, refusedWith, housed, reading}
+use Rattle.oamd.specs.Answer.{missingOf, housed, reading}
 use Rattle.oamd.specs.LeastFirst.{leastFirst}
 use Rattle.oamd.specs.Batch.{eachBytes, bedBytesOf, programmeBytesOf, updateBytesOf, timingBytesOf, answerBytesOf, entry, Shelf, shelved, roomy, batchedWith, batching}
 

@@ -9,7 +9,7 @@ use borrow.Author.Tests.{le-leb, lt-leb}
 use lib.ListN.{length, getD, drop, length-append}
 use Rattle.bits.specs.declared.Refusal.the-variants.{NoSuch}
 use Rattle.bits.specs.Refusals.{numberOf}
-use Rattle.bits.specs.Language.{ok, no, bit, pastPayload}
+use Rattle.bits.specs.Language.{ok, bit, pastPayload}
 use Rattle.oamd.specs.declared.ReadAnswer.{ReadAnswer}
 use Rattle.oamd.specs.Tables.{mostBytes, mostObjects, mostBlocks, roomBytes, mostTrim, recordBytes, recordStride}
 use Rattle.oamd.specs.Timing.{timingOf}
@@ -17,13 +17,13 @@ use Rattle.oamd.specs.Record.{Record, onto}
 use Rattle.oamd.specs.Time.{timeOf, timedBytesOf}
 use Rattle.oamd.specs.Lengths.{length-timed}
 use Rattle.oamd.specs.ObjectElement.{ObjectElement}
-use Rattle.oamd.specs.Payload.{Payload, Tables, timing, tables}
+use Rattle.oamd.specs.Payload.{Payload, timing, tables}
 use Rattle.oamd.specs.Answer.{Outcome, accepted, laidRecords, needed, reading}
 use Rattle.record.specs.Bytes.{recordsAt}
 use Rattle.record.specs.Laws.{records-again}
 use Rattle.demands.specs.Terms.{parsed, tablesOf}
 use Rattle.demands.specs.Conditions.{Short, records-short, trim-short}
-use Rattle.demands.specs.Lemmas.Limits.{Blocked, Limits, limits}
+use Rattle.demands.specs.Lemmas.Limits.{Blocked, limits}
 use Rattle.demands.specs.Lemmas.Reading.{Case, long, stopped, full, read, case, trimRoom}
 use Rattle.demands.specs.Lemmas.Records.{length-needed}
 use Rattle.sources.specs.Chain.{objectsIn, blocksIn, noRecord}

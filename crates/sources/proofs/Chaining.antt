@@ -2,14 +2,14 @@
 use mathlib.Core.Path.{_≡_, refl, sym, ap, ap₂, _∙_}
 use mathlib.Core.Bool.{Bool, true, false}
 use mathlib.Core.List.{List, [], _∷_, _++_, append-assoc, append-nil, map}
-use Prim.Native.Nat.{ℕ, zero, suc, _+_, _-_, _*_, _≤_, _<_}
+use Prim.Native.Nat.{ℕ, suc, _+_, _-_, _*_, _≤_, _<_}
 use native.Mathlib.Omega.{arith}
 use native.Mathlib.Nat.{mul-le-mul}
 use lib.Dec.{eqb}
-use lib.ListN.{length, getD, set, replicate, take, drop, length-append}
+use lib.ListN.{length, getD, set, replicate, drop, length-append}
 use lib.Seq.{getD-take, getD-drop}
 use Rattle.bits.specs.Language.{pick}
-use Rattle.oamd.specs.Tables.{recordBytes, recordStride, mostObjects, mostBlocks}
+use Rattle.oamd.specs.Tables.{recordBytes, recordStride}
 use Rattle.oamd.specs.Programme.{filled}
 use Rattle.oamd.specs.Record.{recordBytesOf}
 use Rattle.record.specs.Laws.{record-bytes}
@@ -22,7 +22,7 @@ use Rattle.sources.specs.declared.WhyAnswer.{WhyAnswer}
 use Rattle.sources.specs.declared.Told.{Told}
 use Rattle.sources.specs.declared.Link.{Link}
 use Rattle.sources.specs.Sources.{sourceNumber}
-use Rattle.sources.specs.Chain.{objectsIn, blocksIn, noRecord, recordAt, sourceAt, Step, behind, chain, stepsFrom}
+use Rattle.sources.specs.Chain.{objectsIn, blocksIn, noRecord, recordAt, sourceAt, Step, behind, chain}
 use Rattle.sources.specs.Explaining.{mostSteps, noStep, valueAt, told, answerOf, explained, stepsTold}
 use Rattle.sources.specs.Lemmas.Records.{among}
 use Rattle.sources.specs.Asked.{payloadIn, mostRecords, Asked, Recorded, toldAt, stepOf, linkOf}

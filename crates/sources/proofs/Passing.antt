@@ -11,15 +11,14 @@ use Rattle.bits.specs.Language.{Bits, P, give, run, ok, bit, when, for, pastPay
 use Rattle.bits.specs.Steps.{bind-ok}
 use Rattle.bits.specs.View.{Reads, Took}
 use Rattle.bits.proofs.Sticky.{Left, turns, for-step, for-stop, done, plain}
-use Rattle.oamd.specs.declared.Programme.{Programme}
 use Rattle.oamd.specs.ObjectElement.{object-data}
-use Rattle.oamd.specs.Payload.{header, oa-element-count, object-audio-metadata-payload}
+use Rattle.oamd.specs.Payload.{oa-element-count, object-audio-metadata-payload}
 use Rattle.reader.specs.declared.HeaderStep.{HeaderStep}
-use Rattle.reader.specs.Steps.{startCur, wholeOf, Headed}
+use Rattle.reader.specs.Steps.{wholeOf, Headed}
 use Rattle.reader.proofs.ObjectLoop.{begun}
 use Rattle.sources.specs.Asked.{payloadIn, Accepted}
-use Rattle.sources.specs.Lemmas.Walking.{one-place, Stepped, stepped}
-use Rattle.sources.specs.Lemmas.Seeking.{Seeking, seek-start}
+use Rattle.sources.specs.Lemmas.Walking.{one-place, stepped}
+use Rattle.sources.specs.Lemmas.Seeking.{seek-start}
 use Rattle.sources.specs.Walks.{Went, Begun}
 
 -- ---- a loop

@@ -1,40 +1,33 @@
 -- From the fields of the object element to a block of an object. Assumes nothing.
-use mathlib.Core.Path.{_≡_, refl, sym, ap, ap₂, _∙_, subst}
-use mathlib.Core.Bool.{Bool, true, false}
-use mathlib.Core.List.{List, [], _∷_, _++_, append-assoc}
+use mathlib.Core.Path.{_≡_, refl, sym, ap, _∙_}
+use mathlib.Core.Bool.{true, false}
+use mathlib.Core.List.{List, [], _∷_, _++_}
 use mathlib.Core.Option.{Option, none, some}
-use Prim.Native.Nat.{ℕ, _+_, _*_, _≤_, _<_}
+use Prim.Native.Nat.{ℕ, _+_, _*_, _<_}
 use native.Mathlib.Omega.{arith}
-use lib.ListN.{length, getD, replicate}
+use lib.ListN.{length}
 use Rattle.bits.specs.declared.Cur.{Cur}
 use Rattle.bits.specs.declared.Limit.{Limit}
-use Rattle.bits.specs.Language.{P, ok, bits, bitsIf, bit, for, give, pastPayload, pastDeclared}
-use Rattle.bits.specs.Laws.{local}
+use Rattle.bits.specs.Language.{P, bits, bitsIf, bit, for, pastPayload, pastDeclared}
 use Rattle.bits.specs.Steps.{bind-ok, give-ok}
-use Rattle.bits.specs.View.{overOf, Reads, Took, Gave}
+use Rattle.bits.specs.View.{overOf, Reads, Gave}
 use Rattle.oamd.specs.declared.Block.{Block}
-use Rattle.oamd.specs.declared.Programme.{Programme}
 use Rattle.oamd.specs.declared.Shares.{Shares}
-use Rattle.oamd.specs.Tables.{mostBytes}
 use Rattle.oamd.specs.Programme.{clear?, shares, classOf}
-use Rattle.oamd.specs.Timing.{MdUpdateInfo, md-update-info, timingOf}
+use Rattle.oamd.specs.Timing.{MdUpdateInfo, timingOf}
 use Rattle.oamd.specs.Block.{object-info-block}
 use Rattle.oamd.specs.ObjectElement.{ObjectElement, object-data, object-element}
 use Rattle.oamd.specs.Element.{there}
-use Rattle.oamd.specs.Payload.{Payload, header, object-audio-metadata-payload, timing, tables}
+use Rattle.oamd.specs.Payload.{Payload, object-audio-metadata-payload, timing, tables}
 use Rattle.reader.specs.declared.HeaderStep.{HeaderStep}
 use Rattle.reader.specs.declared.TimingStep.{TimingStep}
 use Rattle.reader.specs.Steps.{Headed, TimingRead}
 use Rattle.sources.specs.declared.Inside.{Inside}
-use Rattle.sources.specs.declared.Placed.{Placed}
-use Rattle.sources.specs.Places.{entry}
-use Rattle.sources.specs.Sources.{infoBlock}
 use Rattle.sources.specs.Where.{objectPath, pathOf}
-use Rattle.sources.specs.Chain.{objectsIn, blocksIn, noBlock, codedIn, blockAt}
+use Rattle.sources.specs.Chain.{objectsIn, noBlock, codedIn, blockAt}
 use Rattle.sources.specs.Asked.{payloadIn, Accepted, Asked}
 use Rattle.sources.specs.Lemmas.Meeting.{line}
 use Rattle.sources.specs.Lemmas.Walking.{Here, here, one-value, stepped, On, on-over, on-read, on-turn}
-use Rattle.sources.specs.Lemmas.Seeking.{seenOf}
 use Rattle.sources.specs.Walks.{Went, Entered, Sought, BlockFound}
 
 -- the programme that the header names

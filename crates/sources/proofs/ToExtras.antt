@@ -1,9 +1,9 @@
 -- From the fields of the extended element to what it has for a record. Assumes nothing.
 use mathlib.Core.Path.{_≡_, refl, sym, ap, ap₂, _∙_, subst}
-use mathlib.Core.Bool.{Bool, true, false, true≢false, false≢true}
+use mathlib.Core.Bool.{Bool, true, false, false≢true}
 use mathlib.Core.List.{List, [], _∷_, _++_, map}
-use mathlib.Core.Option.{Option, none, some}
-use Prim.Native.Nat.{ℕ, zero, suc, _+_, _*_, _≤_, _<_}
+use mathlib.Core.Option.{Option}
+use Prim.Native.Nat.{ℕ, suc, _+_, _*_, _≤_, _<_}
 use native.Mathlib.Omega.{arith}
 use native.Mathlib.Nat.{zero-mul}
 use borrow.Author.Tests.{eq-eqb, ne-eqb}
@@ -11,10 +11,10 @@ use lib.Dec.{eqb}
 use lib.ListN.{length, getD, replicate}
 use Rattle.bits.specs.declared.Cur.{Cur}
 use Rattle.bits.specs.declared.Limit.{Limit}
-use Rattle.bits.specs.Language.{P, give, _>>=_, ok, pick, both, bits, bitsIf, bit, when, each, from, for, pastDeclared}
+use Rattle.bits.specs.Language.{P, give, _>>=_, both, bits, bitsIf, bit, when, each, from, for, pastDeclared}
 use Rattle.bits.specs.Steps.{give-ok}
-use Rattle.bits.specs.View.{overOf, Reads, Took}
-use Rattle.oamd.specs.Tables.{recordStride, mostBytes}
+use Rattle.bits.specs.View.{overOf, Reads}
+use Rattle.oamd.specs.Tables.{recordStride}
 use Rattle.oamd.specs.declared.Precise.{Precise}
 use Rattle.oamd.specs.declared.Programme.{Programme}
 use Rattle.oamd.specs.Programme.{set?}
@@ -22,7 +22,6 @@ use Rattle.oamd.specs.Extended.{obj-div-block, ext-prec-pos-block, noDivergence
 use Rattle.oamd.specs.Meaning.{idle}
 use Rattle.oamd.specs.Record.{Record, carries, allCarry}
 use Rattle.oamd.specs.Element.{scenes}
-use Rattle.oamd.specs.Payload.{Payload}
 use Rattle.record.specs.Bytes.{sceneAt}
 use Rattle.reader.specs.declared.HeaderStep.{HeaderStep}
 use Rattle.reader.specs.Steps.{Headed}
@@ -30,7 +29,7 @@ use Rattle.demands.specs.Terms.{tablesOf}
 use Rattle.sources.specs.declared.Inside.{Inside}
 use Rattle.sources.specs.declared.Extra.{Extra}
 use Rattle.sources.specs.Chain.{objectsIn, blocksIn, noRecord, codedIn, recordAt, mayCarry, divergenceSent, presenceSent}
-use Rattle.sources.specs.Sources.{divBlock, precBlock}
+use Rattle.sources.specs.Sources.{precBlock}
 use Rattle.sources.specs.Given.{divergenceIn, preciseIn, divergenceAt, preciseAt}
 use Rattle.sources.specs.SceneAt.{length-all}
 use Rattle.sources.specs.Asked.{payloadIn, mostRecords, Asked, Recorded}
@@ -41,7 +40,7 @@ use Rattle.sources.specs.Where.{bitOf, pathOf, extendedPath, divergenceP
 use Rattle.sources.specs.Lemmas.Extras.{flag-bit}
 use Rattle.sources.specs.Lemmas.Standing.{both-first, both-second}
 use Rattle.sources.specs.Lemmas.Meeting.{line}
-use Rattle.sources.specs.Lemmas.Walking.{Here, here, stepped, On, on-over, on-read, on-turn}
+use Rattle.sources.specs.Lemmas.Walking.{Here, here, stepped, On, on-over, on-turn}
 use Rattle.sources.specs.Walks.{Went, Entered, Sought, carriesAt, Carried, Room, DivergenceFound, PreciseFound}
 use Rattle.sources.proofs.ToBlock.{programme-is, restated}
 use Rattle.sources.proofs.Chaining.{among-asked}

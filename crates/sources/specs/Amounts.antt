@@ -2,7 +2,7 @@
 use mathlib.Core.Path.{_≡_, refl, ap, _∙_}
 use mathlib.Core.List.{List, map}
 use Prim.Native.Nat.{ℕ, _≤_, _<_}
-use lib.ListN.{length, getD, length-map}
+use lib.ListN.{getD, length-map}
 use Rattle.bits.specs.Language.{ok}
 use Rattle.oamd.specs.Tables.{recordBytes}
 use Rattle.oamd.specs.Payload.{Payload}
@@ -10,7 +10,7 @@ use Rattle.demands.specs.Terms.{parsed}
 use Rattle.sources.specs.declared.WhyAnswer.{WhyAnswer}
 use Rattle.sources.specs.declared.Source.the-variants.{ByNothing}
 use Rattle.sources.specs.Chain.{objectsIn, blocksIn, sourceAt, Step, stepsFrom}
-use Rattle.sources.specs.Explaining.{mostSteps, valueAt, told, noStep, explained, stepsTold, explaining}
+use Rattle.sources.specs.Explaining.{mostSteps, valueAt, told, noStep, stepsTold, explaining}
 use Rattle.sources.specs.Given.{lastOf, amount, amountTold, stepsIn}
 use Rattle.sources.specs.Lemmas.Answering.{told-amount, first-map, last-map, end-number, explained-of, steps-in}
 use Rattle.sources.specs.Ends.{led-from, ends}

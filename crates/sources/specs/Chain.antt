@@ -15,7 +15,7 @@ use Rattle.oamd.specs.Extended.{noDivergence, noPrecise}
 use Rattle.oamd.specs.Meaning.{idle}
 use Rattle.oamd.specs.Record.{Record, recordOf, carries}
 use Rattle.oamd.specs.Element.{there}
-use Rattle.oamd.specs.Payload.{Payload, Tables}
+use Rattle.oamd.specs.Payload.{Payload}
 use Rattle.demands.specs.Terms.{tablesOf}
 use Rattle.sources.specs.declared.Source.{Source}
 use Rattle.sources.specs.declared.Source.the-variants.{ByField, ByProgramme, ByBasicDefault, ByRenderDefault, ByNothing, ByBlock, ByMove, ByObject}

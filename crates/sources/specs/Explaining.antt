@@ -1,5 +1,5 @@
 -- Why a byte of a record is what it is: the answer, for all bytes, objects, blocks and bytes of a record.
-use mathlib.Core.List.{List, [], _∷_, map}
+use mathlib.Core.List.{List, [], map}
 use Prim.Native.Nat.{ℕ}
 use lib.Dec.{leb}
 use lib.ListN.{length, getD}

@@ -7,7 +7,7 @@ use Rattle.bits.specs.Language.{Res, ok, no, pick, P, give, _>>=_, bit, pastPay
 use Rattle.oamd.specs.declared.Kind.{Kind}
 use Rattle.oamd.specs.declared.Kind.the-variants.{Unknown, Object, Trim, Extended}
 use Rattle.oamd.specs.Element.{framed}
-use Rattle.oamd.specs.Payload.{Header, header, oa-element-count, object-audio-metadata-payload}
+use Rattle.oamd.specs.Payload.{header, oa-element-count, object-audio-metadata-payload}
 use Rattle.demands.specs.Terms.{runs}
 use Rattle.sources.specs.declared.Field.{Field}
 use Rattle.sources.specs.Places.{arrival, entry}

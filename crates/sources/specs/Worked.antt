@@ -2,8 +2,8 @@
 -- the lines behind it, is seen here.
 use mathlib.Core.Path.{_≡_, refl}
 use mathlib.Core.List.{List, [], _∷_, _++_, map}
-use Prim.Native.Nat.{ℕ, _+_, _-_, _*_}
-use lib.ListN.{length, getD, replicate}
+use Prim.Native.Nat.{ℕ, _+_}
+use lib.ListN.{getD, replicate}
 use Rattle.bits.specs.Language.{slice, number, run, bit, each, from}
 use Rattle.bits.specs.Size.{sizeFrom}
 use Rattle.oamd.specs.Programme.{bed-assignment, bed-instances, intermediate-spatial-format, num-dynamic-objects, reserved-data, program-assignment, labels, bedObjects}

@@ -1,9 +1,6 @@
 -- `read_batch` meets its contract: nothing where there is no room for all, else the shelf. Assumes nothing.
-use denote.Ref.{now}
-use mathlib.Core.Path.{_≡_, sym, ap, _∙_}
+use mathlib.Core.Path.{sym, _∙_}
 use borrow.Author.Tests.{not-true, not-false}
-use Rattle.oamd.specs.Batch.{batchedWith}
-use Rattle.oamd.specs.declared.BatchAnswer.{BatchAnswer}
 use Rattle.batch.proofs.Calls.{no-room, room-for, shelf-read}
 use borrow.Author.Needs.{needs}
 use Rattle.batch.proofs.read_batch.Statement.{statement}

@@ -10,7 +10,6 @@ use Rattle.bits.specs.Terms.{Every}
 use Rattle.oamd.specs.declared.Bed.{Bed}
 use Rattle.oamd.specs.declared.Programme.{Programme}
 use Rattle.oamd.specs.declared.Update.{Update}
-use Rattle.oamd.specs.declared.Timing.{Timing}
 use Rattle.oamd.specs.declared.ReadAnswer.{ReadAnswer}
 use Rattle.oamd.specs.Tables.{mostBeds, mostBlocks}
 use Rattle.oamd.specs.LeastFirst.{leastFirst, leastAt}

@@ -8,16 +8,15 @@ use native.Mathlib.Omega.{arith}
 use lib.ListN.{length, replicate, length-append, length-replicate, length-map}
 use Rattle.bits.specs.Language.{bit, pick, from, pastPayload}
 use Rattle.bits.specs.Bytes.{bit-lt}
-use Rattle.bits.specs.Laws.{length-from, each-long}
+use Rattle.bits.specs.Laws.{length-from}
 use Rattle.bits.specs.Ensures.{ensured, e-give, e-bind, e-any, e-then, e-pass, e-if, e-each}
 use Rattle.bits.specs.Terms.{Ensures, All}
-use Rattle.oamd.specs.declared.Programme.{Programme}
 use Rattle.oamd.specs.declared.ReadAnswer.{ReadAnswer}
 use Rattle.oamd.specs.Tables.{mostBeds, mostBlocks}
-use Rattle.oamd.specs.Programme.{set?, hasBeds, bedInstances, bed-assignment, filled, Beds, bed-instances, program-assignment, agrees}
+use Rattle.oamd.specs.Programme.{set?, hasBeds, bedInstances, bed-assignment, filled, bed-instances, program-assignment, agrees}
 use Rattle.oamd.specs.Timing.{noUpdate, updateOf, offsetOf, timingOf}
 use Rattle.oamd.specs.ObjectElement.{ObjectElement}
-use Rattle.oamd.specs.Payload.{header, object-audio-metadata-payload, noTiming, timing, tables}
+use Rattle.oamd.specs.Payload.{header, object-audio-metadata-payload, timing, tables}
 use Rattle.oamd.specs.Answer.{reading}
 use Rattle.demands.specs.Lemmas.Reading.{Case, long, stopped, full, read, case}
 use Rattle.demands.specs.Lemmas.Limits.{Blocked, limits}

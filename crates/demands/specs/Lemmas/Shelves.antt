@@ -1,25 +1,23 @@
 -- The entries of a shelf, each in its slots and its place, whatever stands before and behind them.
 use mathlib.Core.Path.{_≡_, refl, sym, ap, _∙_}
-use mathlib.Core.Bool.{Bool, true, false}
 use mathlib.Core.List.{List, [], _∷_, _++_}
 use mathlib.Core.Logic.{_⊎_, ⊎-elim}
-use Prim.Native.Nat.{ℕ, zero, suc, _+_, _-_, _*_, _≤_, _<_}
+use Prim.Native.Nat.{ℕ, zero, suc, _+_, _*_, _≤_, _<_}
 use native.Mathlib.Nat.{zero-mul, suc-mul, add-comm}
 use native.Mathlib.Omega.{arith}
-use lib.Dec.{leb}
-use lib.ListN.{length, getD, take, drop, length-take, length-drop, length-append, take-append-drop}
+use lib.ListN.{length, getD, take, drop, length-drop, length-append, take-append-drop}
 use lib.Seq.{take-at, drop-at, drop-drop, length-take-le}
-use borrow.Author.Tests.{leb-true, leb-false, le-leb, lt-leb}
+use borrow.Author.Tests.{le-leb, lt-leb}
 use Rattle.bits.specs.declared.Refusal.the-variants.{Outside}
 use Rattle.bits.specs.Refusals.{numberOf}
 use Rattle.bits.specs.Steps.{by-order}
 use Rattle.oamd.specs.Tables.{answerBytes}
 use Rattle.oamd.specs.Lengths.{length-answer}
 use Rattle.oamd.specs.Answer.{Outcome, refused, reading}
-use Rattle.oamd.specs.Batch.{answerBytesOf, entry, Shelf, inFront, shelved}
-use Rattle.demands.specs.Promises.{Fronts, Accepts, Refuses, slot}
+use Rattle.oamd.specs.Batch.{answerBytesOf, entry, Shelf, shelved}
+use Rattle.demands.specs.Promises.{Fronts, slot}
 use Rattle.demands.specs.Answers.{answers}
-use Rattle.demands.specs.Lemmas.Arrays.{Arrays, arrays}
+use Rattle.demands.specs.Lemmas.Arrays.{arrays}
 
 -- ---- an entry
 

@@ -2,7 +2,6 @@
 use borrow.Author.Needs.{needs}
 use denote.Ref.{now}
 use mathlib.Core.Path.{_∙_}
-use native.Mathlib.Omega.{arith}
 use Rattle.sources.proofs.Came.{Came, came-refused, came-read, no-object, no-block, no-byte, there-asked, all-there}
 use Rattle.sources.proofs.why.Statement.{statement}
 use Rattle.sources.proofs.why.Tie as tie

@@ -6,7 +6,7 @@ use mathlib.Core.Option.{Option, none, some}
 use Prim.Native.Nat.{ℕ, zero, suc, _+_, _*_}
 use lib.ListN.{length}
 use Rattle.bits.specs.declared.Size.{Size}
-use Rattle.bits.specs.Language.{Res, ok, pick, andThen, Bits, P, give, within, run, bit, pastPayload, pastDeclared}
+use Rattle.bits.specs.Language.{Res, ok, pick, andThen, Bits, P, give, run, bit, pastPayload, pastDeclared}
 use Rattle.bits.specs.Steps.{bind-ok, bind-is, give-ok, give-is, within-is, value, andThen-ok}
 use Rattle.oamd.specs.declared.Kind.{Kind}
 use Rattle.oamd.specs.declared.Kind.the-variants.{Unknown, Object, Trim, Extended}

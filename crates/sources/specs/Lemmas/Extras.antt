@@ -6,7 +6,7 @@ use Prim.Native.Nat.{ℕ, _+_, _*_, _^_, _<_}
 use native.Mathlib.Omega.{arith}
 use lib.Dec.{eqb}
 use lib.ListN.{length, getD, replicate, length-replicate, getD-replicate}
-use Rattle.bits.specs.Language.{ok, pick, both, P, give, field, _>>=_, run, bit, bits, bitsIf, when, each, slice, number}
+use Rattle.bits.specs.Language.{ok, pick, both, P, _>>=_, run, bit, bits, bitsIf, when, each, slice, number}
 use Rattle.bits.specs.Bytes.{bit-lt}
 use Rattle.bits.specs.Steps.{give-ok, field-ok}
 use Rattle.bits.specs.Terms.{Ensures}
@@ -22,7 +22,7 @@ use Rattle.sources.specs.declared.Field.{Field}
 use Rattle.sources.specs.declared.Field.the-variants.{ObjectDivergence, DivMode, DivTable, DivCode, Presence, PreciseX, PreciseY, PreciseZ}
 use Rattle.sources.specs.declared.Source.{Source}
 use Rattle.sources.specs.declared.Source.the-variants.{ByField, ByNothing}
-use Rattle.sources.specs.Places.{arrival, entry, arrival-here}
+use Rattle.sources.specs.Places.{entry, arrival-here}
 use Rattle.sources.specs.Sources.{divergenceSources, preciseSources}
 use Rattle.bits.specs.Laws.{each-long}
 use Rattle.sources.specs.Where.{bitOf, extendedPath, divergencePresent, precisePresent, preciseFlag}

@@ -1,32 +1,31 @@
 -- From element to element, to the first of a kind that is looked for: the object element, or the extended one.
 use mathlib.Core.Path.{_≡_, refl, sym, ap, _∙_, subst, subst₂}
-use mathlib.Core.Bool.{Bool, true, false, not, true≢false, false≢true}
+use mathlib.Core.Bool.{Bool, true, false}
 use mathlib.Core.List.{List, [], _∷_, _++_}
-use mathlib.Core.Option.{Option, none, some}
-use Prim.Native.Nat.{ℕ, zero, suc, _+_, _-_, _*_, _≤_, _<_}
+use mathlib.Core.Option.{Option, some}
+use Prim.Native.Nat.{ℕ, suc, _+_, _-_, _*_, _≤_, _<_}
 use native.Mathlib.Omega.{arith}
 use lib.ListN.{length}
 use Rattle.bits.specs.declared.Refusal.the-variants.{Second, Early}
-use Rattle.bits.specs.declared.Size.{Size}
 use Rattle.bits.specs.Refusals.{numberOf}
-use Rattle.bits.specs.Language.{Res, ok, no, pick, P, give, _>>=_, run, bit, pastPayload, pastDeclared}
+use Rattle.bits.specs.Language.{ok, pick, P, _>>=_, run, bit, pastPayload, pastDeclared}
 use Rattle.bits.specs.Steps.{bind-ok, bind-is, give-ok, ok-at}
 use Rattle.oamd.specs.declared.Kind.{Kind}
-use Rattle.oamd.specs.declared.Kind.the-variants.{Unknown, Object, Trim, Extended}
+use Rattle.oamd.specs.declared.Kind.the-variants.{Object, Extended}
 use Rattle.oamd.specs.declared.Programme.{Programme}
 use Rattle.oamd.specs.Programme.{shares}
 use Rattle.oamd.specs.ObjectElement.{ObjectElement, object-element}
 use Rattle.oamd.specs.Extended.{Extension, extended-object-element}
 use Rattle.oamd.specs.Record.{allCarry}
-use Rattle.oamd.specs.Element.{backToId, framed, Known, nothing, there, scenes, isSecond, isEarly, withObject, withExtended, fields, State, readKnown, oa-element, oa-element-md, elements}
+use Rattle.oamd.specs.Element.{backToId, Known, nothing, there, scenes, isSecond, isEarly, withObject, withExtended, fields, State, readKnown, oa-element, oa-element-md, elements}
 use Rattle.oamd.specs.Payload.{Payload, Header, header, oa-element-count, object-audio-metadata-payload}
 use Rattle.demands.specs.Terms.{parsed}
 use Rattle.demands.specs.Lemmas.Frame.{bodyAt, endAt}
 use Rattle.demands.specs.Lemmas.Elements.{refuseIf-ok}
 use Rattle.sources.specs.Where.{kinds, payload-kinds, listOf, kindsIn, isObject, isExtended, indexOf, objectPath, extendedPath, bitOf}
 use Rattle.sources.specs.Asked.{payloadIn}
-use Rattle.sources.specs.Lemmas.Meeting.{Meets, next, line}
-use Rattle.sources.specs.Lemmas.Elements.{Adds, Added, added, kinds-run, stays, other-object, other-extended, is-object, is-extended, some-of}
+use Rattle.sources.specs.Lemmas.Meeting.{next, line}
+use Rattle.sources.specs.Lemmas.Elements.{Adds, added, kinds-run, stays, other-object, other-extended, is-object, is-extended, some-of}
 use Rattle.sources.specs.Lemmas.Walking.{Here, here, along, one-value, one-place, over, Framed, in-frame}
 
 -- ---- what is looked for: the extended element, or else the object element

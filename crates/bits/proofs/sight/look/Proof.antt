@@ -1,7 +1,5 @@
 use borrow.Author.Needs.{needs}
 use native.Mathlib.Omega.{arith}
-use mathlib.Core.Path.{refl, ap}
-use Rattle.bits.specs.declared.Sighted.{Sighted}
 use Rattle.bits.proofs.Free.{looks-bits}
 use Rattle.bits.proofs.sight.look.Statement.{statement}
 use Rattle.bits.proofs.sight.look.Tie as tie

@@ -1,5 +1,5 @@
 use borrow.Author.Needs.{needs}
-use borrow.Author.Tests.{eq-eqb, ne-eqb}
+use borrow.Author.Tests.{ne-eqb}
 use Rattle.sources.proofs.answer.link_of.Statement.{statement}
 use Rattle.sources.proofs.answer.link_of.Tie as tie
 

@@ -1,7 +1,6 @@
 -- `step_of` meets its contract (`Naming.antt`). Assumes nothing.
 use borrow.Author.Needs.{needs}
-use mathlib.Core.Path.{_≡_, ap, _∙_}
-use Prim.Native.Nat.{ℕ}
+use mathlib.Core.Path.{ap, _∙_}
 use Rattle.bits.specs.Language.{pick}
 use Rattle.sources.specs.declared.Named.{Named}
 use Rattle.sources.specs.Sources.{fieldNumber}

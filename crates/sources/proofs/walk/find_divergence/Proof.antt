@@ -1,6 +1,5 @@
 -- `find_divergence` meets its contract (`ToExtras.antt`). Assumes nothing.
 use borrow.Author.Needs.{needs}
-use mathlib.Core.Path.{_≡_}
 use native.Mathlib.Omega.{arith}
 use borrow.Author.Tests.{not-true, not-false}
 use Rattle.sources.proofs.Chaining.{among-asked, record-fits}

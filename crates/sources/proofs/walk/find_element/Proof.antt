@@ -1,13 +1,11 @@
 -- `find_element` meets its contract (`Entering.antt`). Assumes nothing.
 use borrow.Author.Needs.{needs}
-use denote.Ref.{now}
-use mathlib.Core.Path.{_≡_, sym, ap, _∙_}
-use Prim.Native.Nat.{ℕ, _+_, _*_, _≤_, _-_}
+use mathlib.Core.Path.{sym, _∙_}
+use Prim.Native.Nat.{_*_, _≤_, _-_}
 use native.Mathlib.Omega.{arith}
-use Rattle.oamd.specs.Element.{headLength}
 use Rattle.oamd.specs.Tables.{mostBytes}
-use Rattle.demands.specs.Lemmas.Frame.{bodyAt, endAt}
-use Rattle.sources.proofs.Entering.{Between, between-start, was-read, passed-over, entered, not-found, body-near}
+use Rattle.demands.specs.Lemmas.Frame.{bodyAt}
+use Rattle.sources.proofs.Entering.{Between, between-start, passed-over, entered, not-found, body-near}
 use Rattle.sources.proofs.walk.find_element.Statement.{statement}
 use Rattle.sources.proofs.walk.find_element.Tie as tie
 

@@ -1,4 +1,3 @@
-use borrow.Author.Needs.{needs}
 use borrow.Author.Tests.{eq-eqb, ne-eqb}
 use Rattle.sources.proofs.walk.head_bits.Statement.{statement}
 use Rattle.sources.proofs.walk.head_bits.Tie as tie
