@@ -24,10 +24,6 @@ unfolding bytesOf
 bytes-append [] ys = refl
 bytes-append (x ∷ xs) ys = ap (λ (t : List ℕ). recordBytesOf x ++ t) (bytes-append xs ys) ∙ sym (append-assoc (recordBytesOf x) (bytesOf xs) (bytesOf ys))
 
-pub one-record : (r : Record) → bytesOf (r ∷ []) ≡ recordBytesOf r
-unfolding bytesOf
-one-record r = append-nil (recordBytesOf r)
-
 -- the bytes around one record
 pub around : (front rest : List Record) (r : Record) (t : List ℕ)
     → onto (bytesOf (front ++ (r ∷ rest))) t ≡ bytesOf front ++ (recordBytesOf r ++ (bytesOf rest ++ drop (recordBytes * (length front + suc (length rest))) t))
@@ -51,14 +47,12 @@ plain-append (s ∷ ss) us = ap (λ (rs : List Record). recordOf s noDivergence 
 -- one more record is stored behind those that stand
 pub stored : (ss : List Scene) (s : Scene) (t : List ℕ) (at : ℕ) → at ≡ recordBytes * length ss → at + recordBytes ≤ length t
     → setFrom at 0 (recordBytesOf (recordOf s noDivergence noPrecise)) (onto (bytesOf (plainRecords ss)) t) ≡ onto (bytesOf (plainRecords (ss ++ (s ∷ [])))) t
-unfolding plainRecords
+unfolding plainRecords bytesOf
 stored ss s t at e h =
     let r : Record = recordOf s noDivergence noPrecise in
-    let n = length-bytes (plainRecords ss) in
-    let m = length-plain ss in
-    seam (recordBytesOf r) (bytesOf (plainRecords ss)) t at 0 (omega arith) (omega (arith, length-record r))
+    seam (recordBytesOf r) (bytesOf (plainRecords ss)) t at 0 (omega (arith, length-bytes (plainRecords ss), length-plain ss)) (omega (arith, length-record r))
     ∙ ap (λ (f : List ℕ). onto f t)
-    (ap (λ (f : List ℕ). bytesOf (plainRecords ss) ++ f) (sym (one-record r)) ∙ sym (bytes-append (plainRecords ss) (r ∷ [])) ∙ ap bytesOf (sym (plain-append ss (s ∷ []))))
+    (ap (λ (f : List ℕ). bytesOf (plainRecords ss) ++ f) (sym (append-nil (recordBytesOf r))) ∙ sym (bytes-append (plainRecords ss) (r ∷ [])) ∙ ap bytesOf (sym (plain-append ss (s ∷ []))))
 
 scene-of-plain : (ss : List Scene) (m : ℕ) → getD (plainRecords ss) m (recordOf (idle 0) noDivergence noPrecise) .scene ≡ getD ss m (idle 0)
 unfolding plainRecords

@@ -1,18 +1,21 @@
 -- The ways through an element, the frame around it, and the loop over the elements. Assumes nothing.
 use mathlib.Core.Path.{_≡_, refl, sym, ap, _∙_}
-use mathlib.Core.Bool.{Bool, true, false, not}
+use mathlib.Core.Bool.{true, false, not, true≢false}
 use mathlib.Core.List.{List}
 use mathlib.Core.Option.{Option, none, some}
+use mathlib.Core.Logic.{_⊎_, inl, inr}
 use Prim.Native.Nat.{ℕ, suc, _+_, _-_, _*_, _≤_, _<_}
 use native.Mathlib.Omega.{arith}
 use native.Mathlib.Numerals.{add-one}
 use native.Mathlib.Nat.{sub-zero}
+use lib.Dec.{eqb}
+use lib.ListN.{length}
 use borrow.Author.Tests.{ne-eqb}
 use Rattle.bits.specs.declared.Cur.{Cur}
 use Rattle.bits.specs.declared.Limit.{Limit}
 use Rattle.bits.specs.declared.Refusal.the-variants.{Second, Early}
 use Rattle.bits.specs.declared.Size.{Size}
-use Rattle.bits.specs.Language.{Bits, bits, bitsIf, refuseIf}
+use Rattle.bits.specs.Language.{pick, Bits, bits, bitsIf, refuseIf}
 use Rattle.bits.specs.Refusals.{numberOf}
 use Rattle.bits.specs.Size.{variable-bits-max}
 use Rattle.bits.specs.View.{Reads, openAt, innerOf, closeAt}
@@ -21,7 +24,7 @@ use Rattle.bits.proofs.Sticky.{Left, start, step, done, broken, bind, plain, fr
 use Rattle.oamd.specs.declared.Kind.{Kind}
 use Rattle.oamd.specs.declared.Kind.the-variants.{Unknown, Object, Trim, Extended}
 use Rattle.oamd.specs.declared.Programme.{Programme}
-use Rattle.oamd.specs.Tables.{mostObjects}
+use Rattle.oamd.specs.Tables.{mostObjects, mostBlocks}
 use Rattle.oamd.specs.Programme.{set?}
 use Rattle.oamd.specs.Record.{plainRecords, bytesOf, onto}
 use Rattle.oamd.specs.Trim.{trimOf}
@@ -34,7 +37,7 @@ use Rattle.reader.specs.declared.StateStep.{StateStep}
 use Rattle.reader.specs.declared.TimingStep.{TimingStep}
 use Rattle.reader.specs.Layout.{noTrimBytes}
 use Rattle.reader.specs.Steps.{Buffers, lent, nothingRead, objectSeen, trimSeen, extendedSeen, unknownSeen, seen, tooEarly, Holding, Underway, stateOf, Scoped}
-use Rattle.reader.specs.Steps.{ElementRead, TrimRead, ExtendedRead, FieldsRead, Went-on, KnownRead, BodyRead, OneRead}
+use Rattle.reader.specs.Steps.{Sized, ElementRead, TrimRead, ExtendedRead, FieldsRead, KnownRead, BodyRead, OneRead, ElementsRead}
 use Rattle.reader.proofs.Bytes.{length-plain}
 use Rattle.reader.proofs.ObjectLoop.{still-roomy}
 use Rattle.reader.proofs.Gates.{stuck, carried, regiven, opened, by-zero}
@@ -42,15 +45,7 @@ use Rattle.reader.proofs.TrimLoop.{not-read}
 
 none-of : {A : Type 0} (o : Option A) → there o ≡ false → o ≡ none
 none-of none h = refl
-none-of (some a) h = let z : _≡_ {A = ℕ} 0 1 = cc in absurd (omega arith)
-
-not-none : {A : Type 0} (o : Option A) → there o ≡ true → o ≡ none → ⊥
-not-none none h e = let z : _≡_ {A = ℕ} 0 1 = cc in omega arith
-not-none (some a) h e = let z : _≡_ {A = ℕ} 0 1 = cc in omega arith
-
-not-false : (t : Bool) → not t ≡ false → t ≡ true
-not-false true h = refl
-not-false false h = let z : _≡_ {A = ℕ} 0 1 = cc in absurd (omega arith)
+none-of (some a) h = absurd (true≢false h)
 
 -- ---- what the state tells of the elements that have been read, by kind
 
@@ -133,7 +128,6 @@ module _ {scope : Scope} {st : State} {b : Bits} {c : Cur} {l : Limit} {out tabl
     few = asked .blocks;
     same = refl;
     went = λ q known t sc first timely h.
-        let had : there (known .object) ≡ true = not-false (there (known .object)) timely in
         let bare : known .extended ≡ none = none-of (known .extended) first in
         let stood : out ≡ onto (bytesOf (plainRecords (scenes (known .object)))) t = rw bare at (h .records .stand) in
         let u = e .went (scenes (known .object)) t stood (h .records .many) in
@@ -144,7 +138,7 @@ module _ {scope : Scope} {st : State} {b : Bits} {c : Cur} {l : Limit} {out tabl
             records = record {
               object-told = h .records .object-told;
               extended-told = refl;
-              ordered = λ o. absurd (not-none (known .object) had o);
+              ordered = λ o. absurd (true≢false (rw o at timely));
               timed = h .records .timed;
               many = h .records .many;
               full = u .full z;
@@ -224,29 +218,25 @@ as-known back Extended h e = e
 
 -- ---- the frame
 
-open-begun : (l : Limit) (c o : Cur) (n back : ℕ) → o ≡ openAt l c n back → o .no ≡ 0 → c .no ≡ 0
-unfolding openAt
-open-begun l c o n back e z = by-zero (c .no) (λ y. y) (λ y. ap (λ (d : Cur). d .no) (sym (rw (ne-eqb (c .no) 0 y) at e)) ∙ z)
-
-close-begun : (e : Cur) (l : Limit) (d : Cur) → d ≡ closeAt e l → d .no ≡ 0 → e .no ≡ 0
-unfolding closeAt
-close-begun e l d h z = by-zero (e .no) (λ y. y) (λ y. ap (λ (c : Cur). c .no) (sym (rw (ne-eqb (e .no) 0 y) at h)) ∙ z)
+-- a cursor that a step leaves alone where it carries a refusal
+unrefused : (c d : Cur) {o : Cur} → o ≡ pick (eqb (c .no) 0) d c → o .no ≡ 0 → c .no ≡ 0
+unrefused c d e z = by-zero (c .no) (λ y. y) (λ y. ap (λ (o : Cur). o .no) (sym (rw (ne-eqb (c .no) 0 y) at e)) ∙ z)
 
 pub framed-read : {scope : Scope} {st : State} {b : Bits} {c c₁ c₂ o c₃ c₄ d : Cur} {l i : Limit} {held held' : Buffers} {id other flag back n : ℕ} {z : Size} {k : Kind} {r : StateStep}
     → Reads (bits 4) b c l id c₁ → Reads variable-bits-max b c₁ l z c₂ → n ≡ z .value + 1 → o ≡ openAt l c₂ (8 * n) (sizeLength z) → i ≡ innerOf l c₂ (8 * n)
     → Reads (bitsIf (set? (scope .alternate)) 4) b o i other c₃ → Reads (bits 1) b c₃ i flag c₄ → k ≡ kind id other → back ≡ backToId (scope .alternate) z
     → BodyRead k back scope st b c₄ i held r held' → d ≡ closeAt (r .cur) i → OneRead scope st b c l held (record { state = r .state; cur = d }) held'
-unfolding oa-element-md framed
-framed-read {c₂ = c₂} {o} {l = l} {i} {r = r} r₁ r₂ hn ho hi r₃ r₄ hk hb body hd = record {
+unfolding oa-element-md framed openAt closeAt
+framed-read {c₂ = c₂} {r = r} r₁ r₂ hn ho hi r₃ r₄ hk hb body hd = record {
   sized = body .sized;
   few = body .few;
   next = body .next;
   went = λ q known t sc h.
-      let u = body .went q known t sc (λ y. h (begun r₁ (begun r₂ (open-begun l c₂ o _ _ ho (begun r₃ (begun r₄ y)))))) in
+      let u = body .went q known t sc (λ y. h (begun r₁ (begun r₂ (unrefused c₂ _ ho (begun r₃ (begun r₄ y)))))) in
       record {
         known = u .known;
         reads = bind r₁ (bind r₂ (framing _ _ _ _ _ _ _ _ _ _ _ _ (rw hn at ho) (rw hn at hi) (bind r₃ (bind r₄ (rw (hk, hb) at (u .reads)))) hd));
-        holding = λ y. u .holding (close-begun (r .cur) i _ hd y);
+        holding = λ y. u .holding (unrefused (r .cur) _ hd y);
       };
 }
 
@@ -268,34 +258,62 @@ nothing-held objects few empty = record {
   trim = rw empty (not-read objects few);
 }
 
-module _ (n : ℕ) (scope : Scope) (q : Programme) (from : Rattle.oamd.specs.Element.State) (b : Bits) (c : Cur) (l : Limit) (t : List ℕ) where
-  -- before element i
-  pub record Ongoing (i : ℕ) (st : State) (cur : Cur) (held : Buffers) : Type 0 where
+module _ (n : ℕ) (scope : Scope) (st₀ : State) (b : Bits) (c : Cur) (l : Limit) (held₀ : Buffers) where
+  -- before element i, where so much was known before the first
+  pub record Reached (q : Programme) (from : Known) (t : List ℕ) (i : ℕ) (st : State) (cur : Cur) (held : Buffers) : Type 0 where
     pub known : Known
-    pub left : Left (elements q (scope .alternate) n from) b c l (elements q (scope .alternate) (n - i) (stateOf known (st .unknown))) cur
+    pub left : Left (elements q (scope .alternate) n (stateOf from (st₀ .unknown))) b c l (elements q (scope .alternate) (n - i) (stateOf known (st .unknown))) cur
     pub holding : cur .no ≡ 0 → Holding (scope .objects) known t st held
 
-module _ {n : ℕ} {scope : Scope} {q : Programme} {b : Bits} {c : Cur} {l : Limit} {t : List ℕ} {held : Buffers} where
-  pub first : {known : Known} {st : State} → (c .no ≡ 0 → Holding (scope .objects) known t st held)
-      → Ongoing n scope q (stateOf known (st .unknown)) b c l t 0 st c held
-  first {known} h = record { known = known; left = rw (sub-zero n) start; holding = h }
+  -- the same whatever was known
+  pub record Ongoing (i : ℕ) (st : State) (cur : Cur) (held : Buffers) : Type 0 where
+    pub within : i ≤ n
+    pub sized : Sized (scope .objects) held
+    pub same : length (held .out) ≡ length (held₀ .out)
+    pub blocks : st .timing .blocks ≤ mostBlocks
+    pub unknown : st .unknown ≤ st₀ .unknown + i
+    pub reached : (q : Programme) (known : Known) (t : List ℕ) → Scoped q scope → (c .no ≡ 0 → Holding (scope .objects) known t st₀ held₀)
+        → Reached q known t i st cur held
 
-  module _ {from : Rattle.oamd.specs.Element.State} {i : ℕ} {st : State} {cur : Cur} where
-    pub further : {r : StateStep} {held' : Buffers} → Ongoing n scope q from b c l t i st cur held → i < n → Scoped q scope
-        → OneRead scope st b cur l held r held' → Ongoing n scope q from b c l t (i + 1) (r .state) (r .cur) held'
+module _ {n : ℕ} {scope : Scope} {st₀ : State} {b : Bits} {c : Cur} {l : Limit} {held₀ : Buffers} where
+  pub first : Underway n scope st₀ held₀ → Ongoing n scope st₀ b c l held₀ 0 st₀ c held₀
+  first asked = record {
+    within = omega arith;
+    sized = asked .ready .sized;
+    same = refl;
+    blocks = asked .blocks;
+    unknown = omega arith;
+    reached = λ q known t sc h. record { known = known; left = rw (sub-zero n) start; holding = h };
+  }
+
+  module _ {i : ℕ} {st : State} {cur : Cur} {held : Buffers} (x : Ongoing n scope st₀ b c l held₀ i st cur held) where
+    pub further : {r : StateStep} {held' : Buffers} → i < n → length (held' .out) ≡ length (held .out) → OneRead scope st b cur l held r held'
+        → Ongoing n scope st₀ b c l held₀ (i + 1) (r .state) (r .cur) held'
     unfolding elements
-    further x h sc one =
-        let u = one .went q (x .known) t sc (x .holding) in
-        let e : n - i ≡ suc (n - (i + 1)) = omega arith in
-        record { known = u .known; left = step (rw e at (x .left)) (u .reads); holding = u .holding }
+    further h e one = record {
+      within = omega arith;
+      sized = one .sized;
+      same = e ∙ x .same;
+      blocks = one .few;
+      unknown = omega (arith, one .next, x .unknown);
+      reached = λ q known t sc g.
+          let y = x .reached q known t sc g in
+          let u = one .went q (y .known) t sc (y .holding) in
+          let d : n - i ≡ suc (n - (i + 1)) = omega arith in
+          record { known = u .known; left = step (rw d at (y .left)) (u .reads); holding = u .holding };
+    }
 
-    pub finish : Ongoing n scope q from b c l t i st cur held → i ≡ n
-        → Went-on scope (elements q (scope .alternate) n from) b c l t (record { state = st; cur = cur }) held
+    -- none is left, or one was refused
+    pub ended : (n ≤ i) ⊎ (cur .no ≡ 0 → ⊥) → ElementsRead n scope st₀ b c l held₀ (record { state = st; cur = cur }) held
     unfolding elements
-    finish x h =
-        let e : n - i ≡ 0 = omega arith in
-        record { known = x .known; reads = done (rw e at (x .left)); holding = x .holding }
-
-    pub stop : Ongoing n scope q from b c l t i st cur held → (cur .no ≡ 0 → ⊥)
-        → Went-on scope (elements q (scope .alternate) n from) b c l t (record { state = st; cur = cur }) held
-    stop x h = record { known = x .known; reads = broken (x .left) h; holding = λ z. absurd (h z) }
+    ended h = record {
+      sized = x .sized;
+      few = x .blocks;
+      next = omega (arith, x .unknown, x .within);
+      went = λ q known t sc g. let y = x .reached q known t sc g in record { known = y .known; reads = reads y h; holding = y .holding };
+    }
+      where
+        reads : {q : Programme} {from : Known} {t : List ℕ} (y : Reached n scope st₀ b c l held₀ q from t i st cur held) → (n ≤ i) ⊎ (cur .no ≡ 0 → ⊥)
+            → Reads (elements q (scope .alternate) n (stateOf from (st₀ .unknown))) b c l (stateOf (y .known) (st .unknown)) cur
+        reads y (inl e) = let d : n - i ≡ 0 = omega arith in done (rw d at (y .left))
+        reads y (inr z) = broken (y .left) z

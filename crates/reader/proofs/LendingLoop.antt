@@ -5,7 +5,7 @@ use Prim.Native.Nat.{ℕ, suc, _+_, _*_, _%_, _≤_, _<_}
 use native.Mathlib.Omega.{arith}
 use native.Mathlib.Nat.{add-assoc, zero-mod, mod-lt}
 use lib.Dec.{ltb}
-use lib.ListN.{length, getD, take, drop, length-append}
+use lib.ListN.{length, getD, take, drop, length-append, drop-of-length-le}
 use lib.Seq.{drop-at, take-at}
 use Rattle.bits.specs.Language.{pick}
 use Rattle.oamd.specs.declared.Timing.{Timing}
@@ -93,11 +93,7 @@ module _ {count frame : ℕ} {timing : Timing} {scratch out₀ : List ℕ} where
   -- its block is one of the timing
   pub block-there : {from at blk i : ℕ} {out : List ℕ} → Going count frame timing scratch out₀ from at blk i out → i < count → count ≤ mostObjects * timing .blocks
       → blk < timing .blocks
-  block-there {i = i} x h few =
-      let some : 0 < timing .blocks = omega arith in
-      let b = x .block some in
-      let l = mod-lt i some in
-      omega arith
+  block-there {i = i} x h few = let some : 0 < timing .blocks = omega arith in omega (arith, x .block some, mod-lt i some)
 
   pub go-on : {from at blk i next time : ℕ} {out out₁ out₂ : List ℕ} → Going count frame timing scratch out₀ from at blk i out → i < count → count ≤ mostObjects * timing .blocks
       → recordBytes * count ≤ length scratch → recordStride * count ≤ length out₀
@@ -114,54 +110,48 @@ module _ {count frame : ℕ} {timing : Timing} {scratch out₀ : List ℕ} where
         block = λ z. n ∙ next-block i (timing .blocks) blk some b ∙ ap (λ (k : ℕ). k % timing .blocks) (let s : suc i ≡ i + 1 = omega arith in s);
         same = ap length second ∙ length-setFrom at recordBytes (timeBytesOf time) out₁ ∙ ap length first
             ∙ length-setFrom at 0 (bytesAt scratch recordBytes from) out ∙ x .same;
-        stands = λ rs t long stand. more rs t stand (x .stands rs t long stand) long b;
+        stands = λ rs t long stand. more rs t stand (x .stands rs t long stand) long b _ refl;
       }
     where
-      more : (rs : List Record) (t : List ℕ) → scratch ≡ onto (bytesOf rs) t → Laid-so-far (timeOf frame timing) i rs out₀ out → length rs ≡ count
-          → blk ≡ i % timing .blocks → Laid-so-far (timeOf frame timing) (i + 1) rs out₀ out₂
-      more rs t stand y long b = go (y .left) refl
-        where
-          go : (left : List Record) → y .left ≡ left → Laid-so-far (timeOf frame timing) (i + 1) rs out₀ out₂
-          go [] none =
-              let z : length rs ≡ i = ap length (y .all ∙ ap (λ (l : List Record). y .done ++ l) none ∙ append-nil (y .done)) ∙ y .far in
-              absurd (omega arith)
-          go (r ∷ left) some =
-              let f : ℕ → ℕ = timeOf frame timing in
-              let front : List ℕ = timedBytesOf f 0 (y .done) in
-              let whole : rs ≡ y .done ++ (r ∷ left) = y .all ∙ ap (λ (l : List Record). y .done ++ l) some in
-              let stood : scratch ≡ onto (bytesOf (y .done ++ (r ∷ left))) t = stand ∙ ap (λ (l : List Record). onto (bytesOf l) t) whole in
-              let there : bytesAt scratch recordBytes from ≡ recordBytesOf r =
-              ap (λ (l : List ℕ). bytesAt l recordBytes from) stood
-              ∙ bytes-there (y .done) left r t from (omega (arith, x .taken, y .far)) (omega (arith, ap length (sym stood), x .taken)) in
-              let when : time ≡ f (0 + length (y .done)) =
-              e ∙ ap (blockTime frame timing) (b ∙ ap (λ (k : ℕ). k % timing .blocks) (let s : i ≡ 0 + length (y .done) = omega (arith, y .far) in s)) in
-              let far : length front ≡ recordStride * i = length-timed f 0 (y .done) ∙ ap (λ (k : ℕ). recordStride * k) (y .far) in
-              let bytes : List ℕ = recordBytesOf r in
-              let one : out₁ ≡ onto (front ++ bytes) out₀ =
-              first ∙ ap₂ (λ (xs o : List ℕ). setFrom at 0 xs o) there (y .stand)
-              ∙ seam bytes front out₀ at 0 (omega (arith, far, x .place)) (omega (arith, x .place, length-record r)) in
-              let two : out₂ ≡ onto ((front ++ bytes) ++ timeBytesOf time) out₀ =
-              second ∙ ap (setFrom at recordBytes (timeBytesOf time)) one
-              ∙ seam (timeBytesOf time) (front ++ bytes) out₀ at recordBytes (omega (arith, far, x .place, length-record r, length-append front bytes))
-              (omega (arith, x .place, length-time time)) in
-              record {
-                done = y .done ++ (r ∷ []);
-                left = left;
-                all = whole ∙ sym (append-assoc (y .done) (r ∷ []) left);
-                far = length-append (y .done) (r ∷ []) ∙ omega (arith, y .far);
-                stand = two ∙ ap (λ (l : List ℕ). onto l out₀)
-                    (append-assoc front bytes (timeBytesOf time) ∙ ap (λ (k : ℕ). front ++ (bytes ++ timeBytesOf k)) when ∙ sym (timed-more f 0 (y .done) r));
-              }
+      more : (rs : List Record) (t : List ℕ) → scratch ≡ onto (bytesOf rs) t → (y : Laid-so-far (timeOf frame timing) i rs out₀ out) → length rs ≡ count
+          → blk ≡ i % timing .blocks → (left : List Record) → y .left ≡ left → Laid-so-far (timeOf frame timing) (i + 1) rs out₀ out₂
+      more rs t stand y long b [] none =
+          let z : length rs ≡ i = ap length (y .all ∙ ap (λ (l : List Record). y .done ++ l) none ∙ append-nil (y .done)) ∙ y .far in
+          absurd (omega arith)
+      more rs t stand y long b (r ∷ left) some =
+          let f : ℕ → ℕ = timeOf frame timing in
+          let front : List ℕ = timedBytesOf f 0 (y .done) in
+          let whole : rs ≡ y .done ++ (r ∷ left) = y .all ∙ ap (λ (l : List Record). y .done ++ l) some in
+          let stood : scratch ≡ onto (bytesOf (y .done ++ (r ∷ left))) t = stand ∙ ap (λ (l : List Record). onto (bytesOf l) t) whole in
+          let there : bytesAt scratch recordBytes from ≡ recordBytesOf r =
+          ap (λ (l : List ℕ). bytesAt l recordBytes from) stood
+          ∙ bytes-there (y .done) left r t from (omega (arith, x .taken, y .far)) (omega (arith, ap length (sym stood), x .taken)) in
+          let when : time ≡ f (0 + length (y .done)) =
+          e ∙ ap (blockTime frame timing) (b ∙ ap (λ (k : ℕ). k % timing .blocks) (let s : i ≡ 0 + length (y .done) = omega (arith, y .far) in s)) in
+          let far : length front ≡ recordStride * i = length-timed f 0 (y .done) ∙ ap (λ (k : ℕ). recordStride * k) (y .far) in
+          let bytes : List ℕ = recordBytesOf r in
+          let one : out₁ ≡ onto (front ++ bytes) out₀ =
+          first ∙ ap₂ (λ (xs o : List ℕ). setFrom at 0 xs o) there (y .stand)
+          ∙ seam bytes front out₀ at 0 (omega (arith, far, x .place)) (omega (arith, x .place, length-record r)) in
+          let two : out₂ ≡ onto ((front ++ bytes) ++ timeBytesOf time) out₀ =
+          second ∙ ap (setFrom at recordBytes (timeBytesOf time)) one
+          ∙ seam (timeBytesOf time) (front ++ bytes) out₀ at recordBytes (omega (arith, far, x .place, length-record r, length-append front bytes))
+          (omega (arith, x .place, length-time time)) in
+          record {
+            done = y .done ++ (r ∷ []);
+            left = left;
+            all = whole ∙ sym (append-assoc (y .done) (r ∷ []) left);
+            far = length-append (y .done) (r ∷ []) ∙ omega (arith, y .far);
+            stand = two ∙ ap (λ (l : List ℕ). onto l out₀)
+                (append-assoc front bytes (timeBytesOf time) ∙ ap (λ (k : ℕ). front ++ (bytes ++ timeBytesOf k)) when ∙ sym (timed-more f 0 (y .done) r));
+          }
 
   pub arrive : {from at blk i : ℕ} {out : List ℕ} → Going count frame timing scratch out₀ from at blk i out → count ≤ i → Lent count frame timing scratch out₀ out
   arrive {i = i} x h = record {
     same = x .same;
     front = λ rs t long stand.
         let y = x .stands rs t long stand in
-        let none : length (y .left) ≡ 0 = omega (arith, ap length (y .all) ∙ length-append (y .done) (y .left), x .within, y .far) in
-        y .stand ∙ ap (λ (l : List Record). onto (timedBytesOf (timeOf frame timing) 0 l) out₀) (sym (y .all ∙ ap (λ (l : List Record). y .done ++ l) (empty (y .left) none) ∙ append-nil (y .done)));
+        let none : length (y .left) ≤ 0 = omega (arith, ap length (y .all) ∙ length-append (y .done) (y .left), x .within, y .far) in
+        y .stand ∙ ap (λ (l : List Record). onto (timedBytesOf (timeOf frame timing) 0 l) out₀)
+        (sym (y .all ∙ ap (λ (l : List Record). y .done ++ l) (drop-of-length-le (y .left) {i = 0} none) ∙ append-nil (y .done)));
   }
-    where
-      empty : (l : List Record) → length l ≡ 0 → l ≡ []
-      empty [] e = refl
-      empty (r ∷ l) e = absurd (omega arith)

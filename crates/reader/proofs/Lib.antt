@@ -1,9 +1,7 @@
 pub mod Bytes
 pub mod Structure
-pub mod TimingLoop
 pub mod ObjectLoop
 pub mod Pass
-pub mod Extending
 pub mod Gates
 pub mod TrimLoop
 pub mod ElementLoop

@@ -10,19 +10,19 @@ use lib.Dec.{leb, eqb}
 use borrow.Author.Tests.{eqb-false}
 use Rattle.bits.specs.declared.Cur.{Cur}
 use Rattle.bits.specs.declared.Limit.{Limit}
-use Rattle.bits.specs.Language.{pick, Bits, Res, ok, no, P, give, _>>=_, andThen, run, bits, bitsIf, for}
+use Rattle.bits.specs.Language.{pick, Bits, Res, ok, no, P, give, _>>=_, andThen, run, bits, for}
 use Rattle.bits.specs.Steps.{no-ok}
 use Rattle.bits.specs.Unique as unique
 use Rattle.bits.specs.View.{overOf, runFrom, Reads}
-use Rattle.bits.proofs.Sticky.{Alike, Left, start, done, turned, broken, turns, for-step, for-stop, bind, plain}
+use Rattle.bits.proofs.Sticky.{Alike, Left, start, done, turned, broken, turns, for-step, for-stop}
 use Rattle.oamd.specs.declared.Block.{Block}
 use Rattle.oamd.specs.declared.Scene.{Scene}
 use Rattle.oamd.specs.declared.Shares.{Shares}
 use Rattle.oamd.specs.declared.Status.the-variants.{Default}
 use Rattle.oamd.specs.Tables.{mostObjects, mostBlocks, recordBytes, scratchBytes}
-use Rattle.oamd.specs.Programme.{clear?, classOf}
+use Rattle.oamd.specs.Programme.{classOf}
 use Rattle.oamd.specs.Block.{nowhere, object-info-block}
-use Rattle.oamd.specs.ObjectElement.{object-data, object-element}
+use Rattle.oamd.specs.ObjectElement.{object-data}
 use Rattle.oamd.specs.Meaning.{resolve, defaultZone, defaultScreen, nothingBefore, zeroDb, allScenes}
 use Rattle.oamd.specs.Record.{recordOf, plainRecords, recordBytesOf, bytesOf, onto}
 use Rattle.oamd.specs.Extended.{noDivergence, noPrecise}
@@ -31,8 +31,7 @@ pub use Rattle.record.specs.Stored.{length-setFrom}
 use Rattle.scenes.specs.Resolved.{resolved-block}
 use Rattle.reader.specs.Rooms.{ElementRoom}
 use Rattle.reader.specs.Running.{gainOfObjectBefore, withBlocks, withObjects}
-use Rattle.reader.specs.declared.TimingStep.{TimingStep}
-use Rattle.reader.specs.Steps.{TimingRead, Standing, ObjectRead, ObjectsRead, ElementRead}
+use Rattle.reader.specs.Steps.{Standing, ObjectRead, ObjectsRead}
 use Rattle.reader.proofs.Bytes.{stored, gain-before}
 use Rattle.reader.proofs.Structure.{Each, same}
 
@@ -181,9 +180,6 @@ each-snoc k [] o e h = (h, tt)
 each-snoc k (v ∷ vs) o e h = (e .0, each-snoc k vs o (e .1) h)
 
 module _ (n : ℕ) (s : Shares) (k : ℕ) (b : Bits) (l : Limit) (c : Cur) (out₀ : List ℕ) where
-  abbrev pub oneObject : ℕ → P (List Block)
-  oneObject j = object-data k (classOf s j)
-
   -- before object j
   pub record Among (j at : ℕ) (cur : Cur) (out : List ℕ) : Type 0 where
     pub within : j ≤ n
@@ -191,7 +187,7 @@ module _ (n : ℕ) (s : Shares) (k : ℕ) (b : Bits) (l : Limit) (c : Cur) (out�
     pub vs : List (List Block)
     pub whole : Each k vs
     pub size : length out ≡ length out₀
-    pub left : Left (for n oneObject) b c l (turns n oneObject (λ vs. give vs) j vs) cur
+    pub left : Left (for n (λ j. object-data k (classOf s j))) b c l (turns n (λ j. object-data k (classOf s j)) (λ vs. give vs) j vs) cur
     pub ss : List Scene
     pub stand : cur .no ≡ 0 → Standing ss out₀ out
     pub more : length ss ≡ j * k
@@ -261,19 +257,3 @@ rooms {n} {k} a d = (omega (arith, mul-le-mul-left n d), omega arith)
 -- a buffer that keeps its length keeps its room
 pub still-roomy : {n : ℕ} {out out' : List ℕ} → ElementRoom n out → length out' ≡ length out → ElementRoom n out'
 still-roomy r e = record { many = r .many; fits = omega (arith, r .fits) }
-
--- ---- the element
-
-pub element-read : {n : ℕ} {s : Shares} {b : Bits} {c c₁ c₂ d : Cur} {l : Limit} {out out' : List ℕ} {t : TimingStep} {v w : ℕ} → TimingRead b c l t
-    → Reads (bits 1) b (t .cur) l v c₁ → Reads (bitsIf (clear? v) 5) b c₁ l w c₂ → ObjectsRead n s (t .timing .blocks) b c₂ l out d out'
-    → ElementRead n s b c l out (record { timing = t .timing; cur = d }) out'
-unfolding object-element
-element-read t r₁ r₂ o = record {
-  value = record { timing = t .value; objects = o .value };
-  reads = bind (t .reads) (bind r₁ (bind r₂ (bind (rw (← t .counts) (o .reads)) plain)));
-  holds = t .holds;
-  few = t .few;
-  size = o .size;
-  many = o .many;
-  stand = o .stand;
-}

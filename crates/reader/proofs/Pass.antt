@@ -1,36 +1,44 @@
--- A pass over the records that stand already: each is given the value that is read for it. One law for both blocks of the extended element.
--- Assumes nothing.
-use mathlib.Core.Path.{_≡_, refl, sym, ap, _∙_}
+-- A pass over the records that stand already: each is given the value that is read for it. One law for both blocks of the extended element, and the
+-- two passes put together. Assumes nothing.
+use mathlib.Core.Path.{_≡_, refl, sym, ap, _∙_, subst}
 use mathlib.Core.Bool.{Bool, true, false}
 use mathlib.Core.List.{List, [], _∷_, _++_, append-assoc, append-nil}
-use Prim.Native.Nat.{ℕ, zero, suc, _+_, _-_, _*_, _≤_, _<_}
+use Prim.Native.Nat.{ℕ, suc, _+_, _*_, _≤_, _<_}
 use native.Mathlib.Omega.{arith}
-use lib.ListN.{length, drop, replicate, length-append}
+use lib.ListN.{length, drop, replicate, length-append, drop-of-length-le, length-replicate}
 use Rattle.bits.specs.declared.Cur.{Cur}
 use Rattle.bits.specs.declared.Limit.{Limit}
-use Rattle.bits.specs.Language.{Bits, P, give, _>>=_, each}
+use Rattle.bits.specs.Language.{Bits, P, give, _>>=_, each, bits, when, run, ok}
 use Rattle.bits.specs.View.{Reads}
-use Rattle.bits.proofs.Sticky.{Left, start, done, turned, broken, each-step, each-stop, plain}
+use Rattle.bits.proofs.Sticky.{Left, start, done, turned, broken, each-step, each-stop, plain, bind}
+use Rattle.bits.specs.Steps.{give-ok}
+use Rattle.bits.specs.Laws.{each-long}
+use Rattle.bits.specs.Unique.{begun, ran}
 use Rattle.oamd.specs.Tables.{recordBytes}
-use Rattle.oamd.specs.Record.{Record, carries, recordBytesOf, bytesOf, onto}
+use Rattle.oamd.specs.Record.{Record, carries, recordBytesOf, bytesOf, onto, recordOf, allCarry, plainRecords, extendedRecords}
 use Rattle.oamd.specs.Lengths.{length-bytes}
+use Rattle.oamd.specs.declared.Divergence.{Divergence}
+use Rattle.oamd.specs.declared.Precise.{Precise}
+use Rattle.oamd.specs.declared.Scene.{Scene}
+use Rattle.oamd.specs.Programme.{set?}
+use Rattle.oamd.specs.Extended.{obj-div-block, ext-prec-pos-block, noDivergence, noPrecise, extended-object-element}
 use Rattle.record.specs.Bytes.{setFrom, sceneAt}
 use Rattle.record.specs.Laws.{record-among}
 use Rattle.record.specs.Stored.{length-setFrom, setFrom-behind}
-use Rattle.reader.specs.Steps.{put, carriers, Went, Passed, PassedIf}
-use Rattle.reader.proofs.Bytes.{around}
+use Rattle.reader.specs.Steps.{put, carriers, Went, Passed, PassedIf, Standing, withDivergence, withPrecise, Extending, ExtendedRead}
+use Rattle.reader.proofs.Bytes.{around, length-plain}
 use Rattle.reader.proofs.ObjectLoop.{unit}
 
-length-carriers : (rs : List Record) → length (carriers rs) ≡ length rs
+pub length-carriers : (rs : List Record) → length (carriers rs) ≡ length rs
 length-carriers [] = refl
 length-carriers (r ∷ rs) = ap suc (length-carriers rs)
 
-module _ {X : Type 0} (p : Bool → P X) (f : Record → X → Record) where
-  put-none : (rs : List Record) → put f rs [] ≡ rs
-  unfolding put
-  put-none [] = refl
-  put-none (r ∷ rs) = refl
+pub put-none : {X : Type 0} (f : Record → X → Record) (rs : List Record) → put f rs [] ≡ rs
+unfolding put
+put-none f [] = refl
+put-none f (r ∷ rs) = refl
 
+module _ {X : Type 0} (p : Bool → P X) (f : Record → X → Record) where
   -- the first record that has no value yet
   record Next (rs : List Record) (vs : List X) : Type 0 where
     front : List Record
@@ -51,7 +59,7 @@ module _ {X : Type 0} (p : Bool → P X) (f : Record → X → Record) where
     stands = refl;
     far = refl;
     waits = refl;
-    given = λ x. ap (λ (t : List Record). f r x ∷ t) (put-none rs);
+    given = λ x. ap (λ (t : List Record). f r x ∷ t) (put-none f rs);
   }
   next (r ∷ rs) (v ∷ vs) h =
       let y = next rs vs (omega arith) in
@@ -66,23 +74,20 @@ module _ {X : Type 0} (p : Bool → P X) (f : Record → X → Record) where
       }
 
   module _ (rs : List Record) (b : Bits) (c : Cur) (l : Limit) (t : List ℕ) where
-    abbrev pub left-of : ℕ → List X → P (List X)
-    left-of i vs = each p (drop i (carriers rs)) >>= λ ws. give (vs ++ ws)
-
     -- before record i
     pub record Mid (i : ℕ) (cur : Cur) (out : List ℕ) : Type 0 where
       pub vs : List X
       pub many : length vs ≡ i
       pub begun : cur .no ≡ 0 → c .no ≡ 0
       pub stand : c .no ≡ 0 → out ≡ onto (bytesOf (put f rs vs)) t
-      pub left : Left (each p (carriers rs)) b c l (left-of i vs) cur
+      pub left : Left (each p (carriers rs)) b c l (each p (drop i (carriers rs)) >>= λ ws. give (vs ++ ws)) cur
 
     pub begin : {out : List ℕ} → (c .no ≡ 0 → out ≡ onto (bytesOf rs) t) → Mid 0 c out
     begin e = record {
       vs = [];
       many = refl;
       begun = λ z. z;
-      stand = λ z. e z ∙ ap (λ (q : List Record). onto (bytesOf q) t) (sym (put-none rs));
+      stand = λ z. e z ∙ ap (λ (q : List Record). onto (bytesOf q) t) (sym (put-none f rs));
       left = turned (unit (each p (carriers rs))) start;
     }
 
@@ -116,18 +121,12 @@ module _ {X : Type 0} (p : Bool → P X) (f : Record → X → Record) where
 
       pub finish : Mid i cur out → i ≡ length rs → Went (each p (carriers rs)) f rs b c l t cur out
       finish x h =
-          let e : drop i (carriers rs) ≡ [] = all-dropped i (carriers rs) (omega (arith, length-carriers rs)) in
+          let e : drop i (carriers rs) ≡ [] = drop-of-length-le (carriers rs) {i = i} (omega (arith, length-carriers rs)) in
           record {
             value = x .vs;
             reads = done (rw (append-nil (x .vs)) at (each-stop p (λ ws. give (x .vs ++ ws)) (rw e at (x .left))));
             stand = λ z. x .stand (x .begun z);
           }
-        where
-          all-dropped : (n : ℕ) (bs : List Bool) → length bs ≤ n → drop n bs ≡ []
-          all-dropped zero [] q = refl
-          all-dropped (suc n) [] q = refl
-          all-dropped zero (y ∷ ys) q = absurd (omega arith)
-          all-dropped (suc n) (y ∷ ys) q = all-dropped n ys (omega arith)
 
       pub stop : Mid i cur out → (cur .no ≡ 0 → ⊥) → Went (each p (carriers rs)) f rs b c l t cur out
       stop x h = record { value = x .vs; reads = broken (x .left) h; stand = λ z. absurd (h z) }
@@ -174,3 +173,83 @@ module _ {X : Type 0} (p : Bool → P X) (f : Record → X → Record) (n : ℕ)
 
     pub arrive : i ≡ n → Passed p f n b c l out₀ cur out
     arrive h = record { size = x .size; went = λ rs t s m. finish p f rs b c l t (x .mid rs t s m) (omega arith) }
+
+-- ---- the two passes of the extended element
+
+carriers-plain : (ss : List Scene) → carriers (plainRecords ss) ≡ allCarry ss
+unfolding plainRecords
+carriers-plain [] = refl
+carriers-plain (s ∷ ss) = ap (λ (bs : List Bool). carries s ∷ bs) (carriers-plain ss)
+
+carriers-put : (rs : List Record) (ds : List Divergence) → carriers (put withDivergence rs ds) ≡ carriers rs
+unfolding put
+carriers-put [] ds = refl
+carriers-put (r ∷ rs) [] = refl
+carriers-put (r ∷ rs) (d ∷ ds) = ap (λ (bs : List Bool). carries (r .scene) ∷ bs) (carriers-put rs ds)
+
+-- a record to which nothing is given stays
+no-divergence : (ss : List Scene) → put withDivergence (plainRecords ss) (replicate (length ss) noDivergence) ≡ plainRecords ss
+unfolding put plainRecords
+no-divergence [] = refl
+no-divergence (s ∷ ss) = ap (λ (rs : List Record). recordOf s noDivergence noPrecise ∷ rs) (no-divergence ss)
+
+no-precise : (ss : List Scene) (ds : List Divergence)
+    → put withPrecise (put withDivergence (plainRecords ss) ds) (replicate (length ss) noPrecise) ≡ put withDivergence (plainRecords ss) ds
+unfolding put plainRecords
+no-precise [] ds = refl
+no-precise (s ∷ ss) [] = ap (λ (rs : List Record). recordOf s noDivergence noPrecise ∷ rs) (rw (put-none withDivergence (plainRecords ss)) at (no-precise ss []))
+no-precise (s ∷ ss) (d ∷ ds) = ap (λ (rs : List Record). recordOf s d noPrecise ∷ rs) (no-precise ss ds)
+
+length-put : {X : Type 0} (f : Record → X → Record) (rs : List Record) (xs : List X) → length (put f rs xs) ≡ length rs
+unfolding put
+length-put f [] xs = refl
+length-put f (r ∷ rs) [] = refl
+length-put f (r ∷ rs) (x ∷ xs) = ap suc (length-put f rs xs)
+
+-- a record to which both are given
+both-given : (ss : List Scene) (ds : List Divergence) (ps : List Precise) → length ds ≡ length ss → length ps ≡ length ss
+    → put withPrecise (put withDivergence (plainRecords ss) ds) ps ≡ extendedRecords ss ds ps
+unfolding put plainRecords extendedRecords
+both-given [] ds ps e f = refl
+both-given (s ∷ ss) [] ps e f = absurd (omega arith)
+both-given (s ∷ ss) (d ∷ ds) [] e f = absurd (omega arith)
+both-given (s ∷ ss) (d ∷ ds) (p ∷ ps) e f = ap (λ (rs : List Record). recordOf s d p ∷ rs) (both-given ss ds ps (omega arith) (omega arith))
+
+-- as many values are read as there are records
+all-read : {X : Type 0} (on : Bool) (p : Bool → P X) (bs : List Bool) (none : X) (b : Bits) (at e o : ℕ) {v : List X} {to : ℕ}
+    → run (when on (each p bs) (replicate (length bs) none)) b at e o ≡ ok v to → length v ≡ length bs
+all-read true p bs none b at e o h = each-long p bs b at e o h
+all-read false p bs none b at e o h = ap length (sym (give-ok _ b at e o h .0)) ∙ length-replicate (length bs) none
+
+-- the same reading, by the scenes' flags
+retold : {X : Type 0} (on : Bool) (p : Bool → P X) (none : X) {bs cs : List Bool} {n : ℕ} {b : Bits} {c d : Cur} {l : Limit} {v : List X} → bs ≡ cs → length cs ≡ n
+    → Reads (when on (each p bs) (replicate n none)) b c l v d → Reads (when on (each p cs) (replicate (length cs) none)) b c l v d
+retold on p none e k r = rw (k, ← e) r
+
+pub extending : {n : ℕ} {b : Bits} {c d₁ e₁ d₂ e₂ : Cur} {l : Limit} {out out₁ out₂ : List ℕ} {v₁ v₂ : ℕ}
+    → Reads (bits 1) b c l v₁ d₁ → PassedIf (set? v₁) obj-div-block withDivergence noDivergence n b d₁ l out e₁ out₁
+    → Reads (bits 1) b e₁ l v₂ d₂ → PassedIf (set? v₂) ext-prec-pos-block withPrecise noPrecise n b d₂ l out₁ e₂ out₂
+    → ExtendedRead n b c l out e₂ out₂
+unfolding extended-object-element
+extending {n} {b} {c} {d₁} {e₁} {d₂} {e₂} {l} {out} {out₁} {out₂} {v₁} {v₂} r₁ p₁ r₂ p₂ = record { size = p₂ .size ∙ p₁ .size; went = went }
+  where
+    went : (ss : List Scene) (t : List ℕ) → Standing ss t out → length ss ≡ n → Extending ss b c l t e₂ out₂
+    went ss t s m =
+        let k : length (allCarry ss) ≡ n = ap length (sym (carriers-plain ss)) ∙ length-carriers (plainRecords ss) ∙ length-plain ss ∙ m in
+        let w₁ = p₁ .went (plainRecords ss) t (λ z. s) (length-plain ss ∙ m) (rw m at (no-divergence ss)) in
+        let q₁ = retold (set? v₁) obj-div-block noDivergence (carriers-plain ss) k (w₁ .reads) in
+        let rs : List Record = put withDivergence (plainRecords ss) (w₁ .value) in
+        let w₂ = p₂ .went rs t (λ z. w₁ .stand (begun r₂ z)) (length-put withDivergence (plainRecords ss) (w₁ .value) ∙ length-plain ss ∙ m)
+        (subst (λ (k : ℕ). put withPrecise rs (replicate k noPrecise) ≡ rs) m (no-precise ss (w₁ .value))) in
+        let q₂ = retold (set? v₂) ext-prec-pos-block noPrecise (carriers-put (plainRecords ss) (w₁ .value) ∙ carriers-plain ss) k (w₂ .reads) in
+        let given : e₂ .no ≡ 0 → put withPrecise rs (w₂ .value) ≡ extendedRecords ss (w₁ .value) (w₂ .value) =
+        λ z.
+        let m₁ = all-read (set? v₁) obj-div-block (allCarry ss) noDivergence _ _ _ _ (ran q₁ (begun r₂ (begun q₂ z))) in
+        let m₂ = all-read (set? v₂) ext-prec-pos-block (allCarry ss) noPrecise _ _ _ _ (ran q₂ z) in
+        both-given ss (w₁ .value) (w₂ .value) (m₁ ∙ k ∙ sym m) (m₂ ∙ k ∙ sym m) in
+        record {
+          value = record { divergence = w₁ .value; precise = w₂ .value };
+          reads = bind r₁ (bind q₁ (bind r₂ (bind q₂ plain)));
+          full = λ z. ap length (sym (given z)) ∙ length-put withPrecise rs (w₂ .value) ∙ length-put withDivergence (plainRecords ss) (w₁ .value) ∙ length-plain ss;
+          stand = λ z. w₂ .stand z ∙ ap (λ (x : List Record). onto (bytesOf x) t) (given z);
+        }

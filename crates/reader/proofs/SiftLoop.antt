@@ -39,10 +39,7 @@ use Rattle.reader.specs.Steps.{Buffers, lent, nothingRead, Sized, Holdin
 use Rattle.reader.specs.Turns.{unlessRefused, prepend, dropsOf, Turning, Refused, Dropped, Turned, TurnRead, Counted}
 use Rattle.reader.proofs.ElementLoop.{nothing-held}
 
--- ---- answers in which nothing stands
-
-pub all-zero : {from to place : BitPos} → from .0 ≡ 0 → to .0 ≡ 0 → place .0 ≡ 0 → record { from = from; to = to; place = place; id = 0; refusal = 0 } ≡ noGone
-all-zero e f g i = record { from = record { 0 = e i }; to = record { 0 = f i }; place = record { 0 = g i }; id = 0; refusal = 0 }
+-- ---- an answer in which nothing stands
 
 pub bare : {number place missing : ℕ} {head body : BitPos} {gone : List Gone} → gone ≡ replicate mostElements noGone → head .0 ≡ 0 → body .0 ≡ 0
     → record { place = place; missing = missing; refusal = number; head = head; count = 0; body = body; drops = 0; gone = gone } ≡ unsifted number place missing

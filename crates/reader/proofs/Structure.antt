@@ -4,30 +4,22 @@ use mathlib.Core.List.{List, [], _∷_, _++_, append-assoc, append-nil}
 use Prim.Native.Nat.{ℕ, zero, suc, _+_, _-_, _≤_, _<_}
 use native.Mathlib.Omega.{arith}
 use lib.ListN.{length, getD, drop, length-append, List·getD-append}
-use lib.Seq.{getD-append-add}
+use lib.Seq.{getD-append-add, drop-nil}
 use borrow.Author.Tests.{le-leb, lt-leb}
 use Rattle.oamd.specs.declared.Scene.{Scene}
 use Rattle.oamd.specs.declared.Block.{Block}
-use Rattle.oamd.specs.Meaning.{resolve, idle, zeroDb, firstGain, behindFirst, nothingBefore, scenesFrom, scenesOf, allScenes}
+use Rattle.oamd.specs.Meaning.{resolve, idle, firstGain, behindFirst, nothingBefore, scenesFrom, scenesOf, allScenes}
 use Rattle.reader.specs.Running.{gainOfObjectBefore, withBlocks, withObjects}
 
 -- behind the scenes ss, those of the object before are above
 abbrev Above : ℕ → List Scene → List Scene → Type 0
 Above k ss above = (mine : List Scene) → length mine < k → gainOfObjectBefore k (ss ++ mine) ≡ firstGain (drop (length mine) above)
 
-none-above : (m : ℕ) → firstGain (drop m []) ≡ zeroDb
-none-above zero = refl
-none-above (suc m) = refl
-
 behind-drop : (m : ℕ) (ss : List Scene) → behindFirst (drop m ss) ≡ drop (suc m) ss
 behind-drop zero [] = refl
 behind-drop zero (s ∷ ss) = refl
 behind-drop (suc m) [] = refl
 behind-drop (suc m) (s ∷ ss) = behind-drop m ss
-
-first-object : (k : ℕ) → Above k [] []
-unfolding gainOfObjectBefore
-first-object k mine h = rw (lt-leb k (length mine) h) (sym (none-above (length mine)))
 
 gain-at : (ss : List Scene) (m : ℕ) → m < length ss → firstGain (drop m ss) ≡ getD ss m (idle 0) .gain
 gain-at [] m h = absurd (omega arith)
@@ -75,4 +67,5 @@ same-from k (o ∷ os) ss above e h =
     rw (x, same-from k os (ss ++ mine) mine (e .1) (next-object k ss mine (length-scenes nothingBefore above o ∙ e .0)), append-assoc)
 
 pub same : (k : ℕ) (os : List (List Block)) → Each k os → withObjects k [] os ≡ allScenes [] os
-same k os e = same-from k os [] [] e (first-object k)
+unfolding gainOfObjectBefore
+same k os e = same-from k os [] [] e (λ mine h. rw (lt-leb k (length mine) h, drop-nil {A = Scene} (length mine)))

@@ -25,6 +25,7 @@ use Rattle.reader.proofs.ObjectLoop.{begun, length-setFrom}
 
 -- ---- zeros
 
+-- what is 0 and not stored is there all the same
 zeros-stay : (front : List ℕ) (k n : ℕ) → length front + k ≤ n → onto (front ++ replicate k 0) (replicate n 0) ≡ onto front (replicate n 0)
 unfolding onto
 zeros-stay [] zero n h = refl
@@ -33,11 +34,6 @@ zeros-stay [] (suc k) (suc n) h = ap (λ (t : List ℕ). 0 ∷ t) (zeros-stay []
 zeros-stay (x ∷ front) k zero h = absurd (omega arith)
 zeros-stay (x ∷ front) k (suc n) h = ap (λ (t : List ℕ). x ∷ t) (zeros-stay front k n (omega arith))
 
--- what is 0 and not stored is there all the same
-not-stored : (front : List ℕ) (k : ℕ) → length front + k ≤ mostTrim → onto (front ++ replicate k 0) noTrimBytes ≡ onto front noTrimBytes
-unfolding noTrimBytes
-not-stored front k h = zeros-stay front k mostTrim h
-
 pub length-none : length noTrimBytes ≡ mostTrim
 unfolding noTrimBytes
 length-none = length-replicate {A = ℕ} mostTrim 0
@@ -45,12 +41,13 @@ length-none = length-replicate {A = ℕ} mostTrim 0
 -- a list that is not carried
 pub absent : {X : Type 0} (bytes : List X → List ℕ) (value : List X) (n from : ℕ) {b : Bits} {c : Cur} {l : Limit} {out : List ℕ} → bytes value ≡ replicate n 0
     → from + n ≤ mostTrim → length out ≡ mostTrim → PartRead (give value) bytes n from b c l out c out
+unfolding noTrimBytes
 absent bytes value n from e f h = record {
   value = value;
   reads = plain;
   long = ap length e ∙ length-replicate n 0;
   size = h;
-  stand = λ front m s. s ∙ sym (ap (λ (t : List ℕ). onto (front ++ t) noTrimBytes) e ∙ not-stored front n (omega arith));
+  stand = λ front m s. s ∙ sym (ap (λ (t : List ℕ). onto (front ++ t) noTrimBytes) e ∙ zeros-stay front n mostTrim (omega arith));
 }
 
 -- ---- the loop over a list's entries, each of which takes so many bytes
@@ -59,6 +56,7 @@ module _ {X : Type 0} (n : ℕ) (f : ℕ → P X) (bytes : List X → List ℕ) 
     (count : (us : List X) → length (bytes us) ≡ wide * length us) where
   -- before entry i
   pub record Laying (i : ℕ) (cur : Cur) (out : List ℕ) : Type 0 where
+    pub within : i ≤ n
     pub vs : List X
     pub many : length vs ≡ i
     pub size : length out ≡ mostTrim
@@ -67,6 +65,7 @@ module _ {X : Type 0} (n : ℕ) (f : ℕ → P X) (bytes : List X → List ℕ) 
 
   pub none-laid : bytes [] ≡ [] → length out₀ ≡ mostTrim → Laying 0 c out₀
   none-laid e h = record {
+    within = omega arith;
     vs = [];
     many = refl;
     size = h;
@@ -78,6 +77,7 @@ module _ {X : Type 0} (n : ℕ) (f : ℕ → P X) (bytes : List X → List ℕ) 
     pub one-laid : {v : X} {cur' : Cur} (one : List ℕ) (at k : ℕ) → i < n → ((us : List X) → bytes (us ++ (v ∷ [])) ≡ bytes us ++ one) → at + k ≡ from + wide * i
         → at + k + length one ≤ mostTrim → Reads (f i) b cur l v cur' → Laying (i + 1) cur' (setFrom at k one out)
     one-laid {v} one at k h flat place fits r = record {
+      within = omega arith;
       vs = x .vs ++ (v ∷ []);
       many = length-append (x .vs) (v ∷ []) ∙ omega (arith, x .many);
       size = length-setFrom at k one out ∙ x .size;
@@ -90,11 +90,11 @@ module _ {X : Type 0} (n : ℕ) (f : ℕ → P X) (bytes : List X → List ℕ) 
           ∙ ap (λ (t : List ℕ). onto t noTrimBytes) (append-assoc front (bytes (x .vs)) one ∙ ap (λ (t : List ℕ). front ++ t) (sym (flat (x .vs))));
     }
 
-    pub all-laid : {m : ℕ} → i ≡ n → m ≡ wide * n → PartRead (for n f) bytes m from b c l out₀ cur out
+    pub all-laid : {m : ℕ} → n ≤ i → m ≡ wide * n → PartRead (for n f) bytes m from b c l out₀ cur out
     all-laid h e = record {
       value = x .vs;
-      reads = done (for-stop n f (λ vs. give vs) i (x .vs) (omega arith) (x .left));
-      long = count (x .vs) ∙ ap (λ (j : ℕ). wide * j) (x .many ∙ h) ∙ sym e;
+      reads = done (for-stop n f (λ vs. give vs) i (x .vs) h (x .left));
+      long = count (x .vs) ∙ ap (λ (j : ℕ). wide * j) (let all : length (x .vs) ≡ n = omega (arith, x .within, x .many) in all) ∙ sym e;
       size = x .size;
       stand = x .stand;
     }
@@ -128,25 +128,23 @@ trimming {out = out} {out₂ = out₂} {warp = warp} {mode = mode} {flagged} r�
     head : List ℕ
     head = 1 ∷ warp ∷ mode ∷ []
 
-    begins : out ≡ noTrimBytes → set (set (set out 0 1) 1 warp) 2 mode ≡ onto head noTrimBytes
-    begins e = ap (setFrom 0 0 head) e ∙ seam head [] noTrimBytes 0 0 (omega arith) (omega (arith, length-none))
-
     stand : out ≡ noTrimBytes → out₂ ≡ onto (trimBytesOf value) noTrimBytes
     stand e =
+        let begins = ap (setFrom 0 0 head) e ∙ seam head [] noTrimBytes 0 0 (omega arith) (omega (arith, length-none)) in
         let front : List ℕ = head ++ configsBytesOf (cs .value) in
         let n : length front ≡ perObjectByte = omega (arith, cs .long) in
-        let flags = fs .stand (front ++ (flagged ∷ [])) (length-append front (flagged ∷ []) ∙ omega arith)
-        (ap (λ (t : List ℕ). set t perObjectByte flagged) (cs .stand head refl (begins e)) ∙ seam (flagged ∷ []) front noTrimBytes perObjectByte 0 (omega arith) (omega (arith, length-none))) in
-        flags ∙ ap (λ (t : List ℕ). onto (head ++ t) noTrimBytes) (append-assoc (configsBytesOf (cs .value)) (flagged ∷ []) (fs .value))
+        let flag = seam (flagged ∷ []) front noTrimBytes perObjectByte 0 (omega arith) (omega (arith, length-none)) in
+        fs .stand (front ++ (flagged ∷ [])) (length-append front (flagged ∷ []) ∙ omega arith) (ap (λ (t : List ℕ). set t perObjectByte flagged) (cs .stand head refl begins) ∙ flag)
+        ∙ ap (λ (t : List ℕ). onto (head ++ t) noTrimBytes) (append-assoc (configsBytesOf (cs .value)) (flagged ∷ []) (fs .value))
 
 -- ---- without the element
 
 pub not-read : (objects : ℕ) → objects ≤ mostObjects → TrimHeld objects none false noTrimBytes
-unfolding trimOf trimBytesOf configsBytesOf onto
+unfolding trimOf trimBytesOf configsBytesOf onto noTrimBytes
 not-read objects h =
     let e : trimBytesOf (noTrim objects) ≡ replicate (trimNeeded objects) 0 = replicate-append-replicate trimFixed objects 0 in
     record {
       told = refl;
       long = ap length e ∙ length-replicate (trimNeeded objects) 0;
-      stand = sym (ap (λ (t : List ℕ). onto t noTrimBytes) e ∙ not-stored [] (trimNeeded objects) (omega arith));
+      stand = sym (ap (λ (t : List ℕ). onto t noTrimBytes) e ∙ zeros-stay [] (trimNeeded objects) mostTrim (omega arith));
     }

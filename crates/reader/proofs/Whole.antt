@@ -1,6 +1,5 @@
 -- The payload, and the five ways out of `read`. Assumes nothing.
-use mathlib.Core.Path.{_≡_, refl, sym, ap, _∙_, subst, subst₂}
-use mathlib.Core.Bool.{not}
+use mathlib.Core.Path.{_≡_, refl, ap, _∙_, subst₂}
 use mathlib.Core.List.{List, _++_}
 use Prim.Native.Nat.{ℕ, _+_, _*_, _≤_, _<_}
 use native.Mathlib.Omega.{arith}
@@ -10,20 +9,18 @@ use lib.Seq.{take-length, take-at}
 use borrow.Author.Tests.{le-leb, lt-leb, ne-eqb}
 use Rattle.bits.specs.declared.Cur.{Cur}
 use Rattle.bits.specs.declared.Limit.{Limit}
-use Rattle.bits.specs.declared.Refusal.the-variants.{TooLong, Counts, Room}
-use Rattle.bits.specs.Language.{Bits, bits, bit, refuseIf}
+use Rattle.bits.specs.declared.Refusal.the-variants.{TooLong, Room}
+use Rattle.bits.specs.Language.{bit}
 use Rattle.bits.specs.Refusals.{numberOf}
 use Rattle.bits.specs.View.{Reads}
 use Rattle.bits.specs.Unique.{clean}
 use Rattle.bits.proofs.Sticky.{bind, plain}
-use Rattle.oamd.specs.declared.Programme.{Programme}
 use Rattle.oamd.specs.declared.ReadAnswer.{ReadAnswer}
 use Rattle.oamd.specs.Tables.{mostBytes, mostObjects, mostBlocks, recordStride}
-use Rattle.oamd.specs.Programme.{program-assignment, agrees}
-use Rattle.oamd.specs.Record.{Record, onto}
+use Rattle.oamd.specs.Record.{onto}
 use Rattle.oamd.specs.Trim.{trimOf, trimBytesOf, trimNeeded}
 use Rattle.oamd.specs.Element.{nothing, scenes}
-use Rattle.oamd.specs.Payload.{Payload, oa-md-version, object-count, oa-element-count, header, object-audio-metadata-payload, records, tables}
+use Rattle.oamd.specs.Payload.{Payload, oa-element-count, object-audio-metadata-payload, records, tables}
 use Rattle.oamd.specs.Answer.{Outcome, missingOf, refused, acceptedWith, housed, reading}
 use Rattle.reader.specs.declared.HeaderStep.{HeaderStep}
 use Rattle.reader.specs.declared.PayloadStep.{PayloadStep}
@@ -32,49 +29,26 @@ use Rattle.reader.specs.declared.State.{State}
 use Rattle.reader.specs.declared.StateStep.{StateStep}
 use Rattle.reader.specs.Lending.{Lending, Lent}
 use Rattle.reader.specs.Layout.{noTrimBytes}
-use Rattle.reader.specs.Steps.{Buffers, lent, Sized, Underway, nothingRead, Headed, HeaderRead, ElementsRead, PayloadRead, NoRoom, scopeOf, wholeOf, startCur}
-use Rattle.reader.proofs.Gates.{regiven}
+use Rattle.reader.specs.Steps.{Buffers, lent, nothingRead, Headed, HeaderRead, ElementsRead, PayloadRead, NoRoom, scopeOf, wholeOf, startCur}
 use Rattle.reader.proofs.ElementLoop.{nothing-held}
 use Rattle.reader.proofs.ObjectLoop.{rooms}
-
--- the cursor at the start
-pub started : {n : ℕ} → n ≡ 0 → record { missing = 0; v = 0; at = record { 0 = n }; no = 0 } ≡ startCur
-started e i = record { missing = 0; v = 0; at = record { 0 = e i }; no = 0 }
 
 -- the header of a payload, read from its first bit up to its last
 pub headed : {s : List ℕ} {c : Cur} {l : Limit} {h : HeaderStep} → length s ≤ mostBytes → l ≡ wholeOf s → c ≡ startCur → HeaderRead (bit s) c l h → Headed s h
 headed {s} {h = h} short el ec r = record { short = short; head = subst₂ (λ (l : Limit) (c : Cur). HeaderRead (bit s) c l h) el ec r }
 
--- what stands before the element count
-pub header-read : {b : Bits} {c c₁ c₂ c₃ c₄ c₅ : Cur} {l : Limit} {v n x a : ℕ} {p : Programme} → Reads oa-md-version b c l v c₁ → Reads object-count b c₁ l n c₂
-    → Reads (program-assignment n) b c₂ l p c₃ → Reads (refuseIf (not (agrees p)) (numberOf Counts) 0 x) b c₃ l x c₄ → Reads (bits 1) b c₄ l a c₅
-    → p .objects ≤ mostObjects → a < 2 → HeaderRead b c l (record { programme = p; alternate = a; cur = c₅ })
-unfolding header
-header-read {p = p} r₁ r₂ r₃ r₄ r₅ few small =
-    record { reads = bind r₁ (bind r₂ (bind r₃ (bind (regiven (not (agrees p)) (numberOf Counts) 0 r₄) (bind r₅ plain)))); few = few; bit = small }
-
--- behind its header the elements can be read, as many as their count says
-pub counts-on : {s : List ℕ} {held : Buffers} {h : HeaderStep} {scope : Scope} {st : State} {n : ℕ} → Headed s h → Sized (h .programme .objects) held
-    → scope ≡ scopeOf h → st ≡ nothingRead → n ≤ 255 → Underway n scope st held
-counts-on opened sized es en few =
-    rw (es, en) (record {
-      ready = record { objects = opened .head .few; alternate = opened .head .bit; sized = sized };
-      blocks = omega arith;
-      unknown = omega arith;
-    })
-
--- the whole payload
-payload-of : {s out table : List ℕ} {held' : Buffers} {h : HeaderStep} {c : Cur} {l : Limit} {n : ℕ} {r : StateStep}
-    → Headed s h → table ≡ noTrimBytes → l ≡ wholeOf s → Reads oa-element-count (bit s) (h .cur) l n c
-    → ElementsRead n (scopeOf h) nothingRead (bit s) c l (lent out table) r held'
+-- the whole payload, by what the calls before the elements promise
+pub payload-read : {s out table : List ℕ} {held' : Buffers} {h : HeaderStep} {c : Cur} {l : Limit} {scope : Scope} {st : State} {n : ℕ} {r : StateStep}
+    → Headed s h → table ≡ noTrimBytes → l ≡ wholeOf s → scope ≡ scopeOf h → st ≡ nothingRead → Reads oa-element-count (bit s) (h .cur) l n c
+    → ElementsRead n scope st (bit s) c l (lent out table) r held'
     → PayloadRead s out (record { programme = h .programme; state = r .state; cur = r .cur }) held'
 unfolding object-audio-metadata-payload
-payload-of {s} {out} {h = h} {r = r} opened empty el count elements =
+payload-read {s} {out} {h = h} {r = r} opened empty el es en count read =
+    let elements = rw (es, en) at read in
     let u = elements .went (h .programme) nothing out (refl, refl) (λ z. nothing-held (h .programme .objects) (opened .head .few) empty) in
     let payload : Payload = record { programme = h .programme; known = u .known; unknown = r .state .unknown } in
-    let head = subst (λ (l : Limit). HeaderRead (bit s) startCur l h) (sym el) (opened .head) in
-    let reads = subst (λ (l : Limit). Reads object-audio-metadata-payload (bit s) startCur l payload (r .cur)) el
-    (bind (head .reads) (bind count (bind (u .reads) plain))) in
+    let reads : Reads object-audio-metadata-payload (bit s) startCur (wholeOf s) payload (r .cur) =
+    bind (opened .head .reads) (bind (rw el at count) (bind (rw el at (u .reads)) plain)) in
     record {
       short = opened .short;
       known = u .known;
@@ -85,17 +59,6 @@ payload-of {s} {out} {h = h} {r = r} opened empty el count elements =
       few = opened .head .few;
       little = elements .few;
     }
-
--- the same with what the calls before the elements promise
-pub payload-read : {s out table : List ℕ} {held' : Buffers} {h : HeaderStep} {c : Cur} {l : Limit} {scope : Scope} {st : State} {n : ℕ} {r : StateStep}
-    → Headed s h → table ≡ noTrimBytes → l ≡ wholeOf s → scope ≡ scopeOf h → st ≡ nothingRead → Reads oa-element-count (bit s) (h .cur) l n c
-    → ElementsRead n scope st (bit s) c l (lent out table) r held'
-    → PayloadRead s out (record { programme = h .programme; state = r .state; cur = r .cur }) held'
-payload-read opened empty el es en count elements = payload-of opened empty el count (rw (es, en) at elements)
-
--- the bytes that are needed are few
-pub small : (objects blocks : ℕ) → objects ≤ mostObjects → blocks ≤ mostBlocks → objects * blocks ≤ mostObjects * mostBlocks
-small objects blocks h k = let m : objects * blocks ≤ mostObjects * blocks = mul-le-mul-right blocks h in omega arith
 
 -- the front of bytes, copied over others
 copied : (front t out other last : List ℕ) (n : ℕ) → length front ≡ n → out ≡ onto front t
@@ -111,17 +74,15 @@ abbrev needOf : PayloadStep → ℕ
 needOf r = recordStride * countOf r
 
 module _ {s out : List ℕ} {r : PayloadStep} {held' : Buffers} (x : PayloadRead s out r held') where
+  -- the records are few
+  pub few-records : countOf r ≤ mostObjects * mostBlocks
+  few-records = let most = rooms (x .few) (x .little) in omega (arith, most .0, most .1)
+
   -- the trim table stands in its room
   pub trim-fits : trimNeeded (r .programme .objects) ≤ length (held' .table)
   trim-fits = omega (arith, x .sized .table, x .few)
 
   module _ (z : r .cur .no ≡ 0) where
-    abbrev rs : List Record
-    rs = records (scenes (x .known .object)) (x .known .extended)
-
-    all-there : length rs ≡ countOf r
-    all-there = omega (arith, x .holding z .records .full, x .holding z .records .many)
-
     -- the records can be laid into a buffer with room for them
     pub lending : {buffer : List ℕ} → needOf r ≤ length buffer → Lending (countOf r) (r .state .timing) (held' .out) buffer
     lending f = record {
@@ -165,6 +126,6 @@ module _ (frame : ℕ) (s buffer trim : List ℕ) where
         stored {first} {last} g e k =
             let element = x .known .trim in
             let holds = x .holding z in
-            let records-lent = e .front (rs x z) out (all-there x z) (holds .records .stand) in
+            let records-lent = e .front (records (scenes (x .known .object)) (x .known .extended)) out (omega (arith, holds .records .full, holds .records .many)) (holds .records .stand) in
             let trim-copied = copied (trimBytesOf (trimOf (r .programme .objects) element)) _ (held' .table) trim last _ (holds .trim .long) (holds .trim .stand) k in
             rw (le-leb (length s) mostBytes (x .short), ← x .reads .same, z, ← holds .records .timed, le-leb _ _ f, le-leb _ _ g, records-lent, trim-copied)

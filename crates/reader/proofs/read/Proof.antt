@@ -4,15 +4,12 @@ use borrow.Author.Needs.{needs}
 use Rattle.reader.proofs.read.Statement.{statement}
 use Rattle.reader.proofs.read.Tie as tie
 
-returns : tie.Need-returns
-returns c = rw (c .refused-with .ensures) (too-long _ _ _ _ (omega arith))
-
 pub read-spec : {M : Type 1} → statement M
 read-spec =
     tie.close
     (tie.spec
     (λ c κs. search needs)
-    returns
+    (λ c. rw (c .refused-with .ensures) (too-long _ _ _ _ (omega arith)))
     (λ c κs. search needs)
     (λ c κs. let few = c .before .before in (few .before .before .before .read-head .ensures, few .if2 .taken))
     (λ c κs. c .before .before .before .before .before .read-head .ensures)

@@ -4,17 +4,10 @@ use borrow.Author.Needs.{needs}
 use Rattle.reader.proofs.element.read_known.Statement.{statement}
 use Rattle.reader.proofs.element.read_known.Tie as tie
 
--- both tests made
-abbrev tested : tie.After-struct-known → tie.After-refuse-if2
-tested c = c .before
-
-abbrev first-tested : tie.After-refuse-if2 → tie.After-refuse-if
-first-tested c = c .before .before
-
 returns : tie.Need-returns
 returns c =
-    let early = tested (c .before) in
-    let second = first-tested early in
+    let early = c .before .before in
+    let second = early .before .before in
     known-refused _ _ (search needs) (gated _ _ _ _ (second .before .is-second .ensures) (second .refuse-if .ensures))
     (gated _ _ _ _ (early .before .is-early .ensures) (early .refuse-if2 .ensures)) (c .if1 .taken)
 
@@ -22,8 +15,8 @@ returns-2 : tie.Need-returns-2
 returns-2 c =
     let read = c .before .before in
     let admitted = read .before .before .before in
-    let early = tested (admitted .before) in
-    let second = first-tested early in
+    let early = admitted .before .before in
+    let second = early .before .before in
     known-read _ _ (search needs) (gated _ _ _ _ (second .before .is-second .ensures) (second .refuse-if .ensures))
     (gated _ _ _ _ (early .before .is-early .ensures) (early .refuse-if2 .ensures)) (admitted .if1 .left) (read .read-fields .ensures)
 

@@ -1,4 +1,4 @@
-use Rattle.reader.proofs.Extending.{extending}
+use Rattle.reader.proofs.Pass.{extending}
 use borrow.Author.Needs.{needs}
 use Rattle.reader.proofs.extended.read_extended.Statement.{statement}
 use Rattle.reader.proofs.extended.read_extended.Tie as tie

@@ -22,11 +22,10 @@ loop-again : tie.Need-loop-again Inv-loop μ-loop
 loop-again c =
     let storing = c .before .before .before in
     let reading = storing .before .before .before in
-    let asking = reading .before in
-    let unrefused = asking .before .before in
+    let unrefused = reading .before .before .before in
     let head = unrefused .before .before .before in
     rw (storing .store-precise .ensures)
-    (go-on _ _ _ _ _ _ _ (head .loop .inv) preciseByte _ preciseBytes _ (unrefused .if1 .left) (omega arith) precise-stored (asking .carries-at .ensures)
+    (go-on _ _ _ _ _ _ _ (head .loop .inv) preciseByte _ preciseBytes _ (unrefused .if1 .left) (omega arith) precise-stored (reading .before .carries-at .ensures)
     (reading .read-precise .ensures .reads))
 
 pub read-precises-spec : {M : Type 1} → statement M

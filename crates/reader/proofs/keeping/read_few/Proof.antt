@@ -7,8 +7,7 @@ read-kept-requires : tie.Need-read-kept-requires
 read-kept-requires c κs =
     let room = c .before .before .before in
     let asked = room .before .before .before .before .pre in
-    let made = room .little-room .ensures in
-    (asked .0, record { many = asked .0 .head .few; fits = omega (arith, asked .1, made) })
+    (asked .0, record { many = asked .0 .head .few; fits = omega (arith, asked .1, room .little-room .ensures) })
 
 pub read-few-spec : {M : Type 1} → statement M
 read-few-spec =

@@ -1,7 +1,7 @@
 use mathlib.Core.Path.{sym}
 use native.Mathlib.Omega.{arith}
 use lib.Seq.{length-take-le}
-use Rattle.reader.proofs.Whole.{small, stopped, refusing, no-room, no-trim-room, lending, trim-fits, stored}
+use Rattle.reader.proofs.Whole.{few-records, stopped, refusing, no-room, no-trim-room, lending, trim-fits, stored}
 use borrow.Author.Needs.{needs}
 use Rattle.reader.proofs.keeping.read_kept.Statement.{statement}
 use Rattle.reader.proofs.keeping.read_kept.Tie as tie
@@ -40,55 +40,34 @@ returns c =
 
 -- ---- accepted: the room is looked at
 
-mul-need : tie.Need-mul-need
-mul-need c = let read = read-at (accepted c) .read-payload .ensures in omega (arith, small _ _ (read .few) (read .little))
-
-mul-count : tie.Need-mul-count
-mul-count c = let read = read-at (accepted c) .read-payload .ensures in omega (arith, small _ _ (read .few) (read .little))
-
 returns-2 : tie.Need-returns-2
 returns-2 c =
     let answer = c .before .before .before .before in
-    let counted = answer .before .before .before .before in
-    let unrefused = accepted counted in
+    let unrefused = accepted (answer .before .before .before .before) in
     refusing (answer .no-room .ensures) (no-room _ _ _ _ (read-at unrefused .read-payload .ensures) (unrefused .if1 .left) (omega arith))
 
 returns-3 : tie.Need-returns-3
 returns-3 c =
     let answer = c .before .before .before .before in
-    let counted = answer .before .before .before .before .before .before in
-    let unrefused = accepted counted in
+    let unrefused = accepted (answer .before .before .before .before .before .before) in
     refusing (answer .no-room2 .ensures)
     (no-trim-room _ _ _ _ (read-at unrefused .read-payload .ensures) (unrefused .if1 .left) (omega arith) (omega arith))
 
 -- ---- room for both: the records are lent, the trim table is copied
 
--- the records lent
-abbrev lent : tie.After-slice-known9 → tie.After-lend-records
-lent c = c .before .before
-
-abbrev housed : tie.After-lend-records-arg2 → tie.Else3
-housed c = c .before .before
-
 lend-records-requires : tie.Need-lend-records-requires
 lend-records-requires c κs =
-    let unrefused = roomy (housed c) in
+    let unrefused = roomy (c .before .before) in
     lending (read-at unrefused .read-payload .ensures) (unrefused .if1 .left) (omega arith)
 
 array-share-prefix-table : tie.Need-array-share-prefix-table
-array-share-prefix-table c = omega (arith, trim-fits (read-at (roomy (housed (lent c .before))) .read-payload .ensures))
-
-slice-aggregate-copy : tie.Need-slice-aggregate-copy
-slice-aggregate-copy c = sym (length-take-le _ _ (array-share-prefix-table (c .before)))
-
-copy-requires : tie.Need-copy-requires
-copy-requires c κs = rw (length-take-le _ _ (array-share-prefix-table (c .before .before))) (omega arith)
+array-share-prefix-table c = omega (arith, trim-fits (read-at (roomy (c .before .before .before .before .before)) .read-payload .ensures))
 
 returns-4 : tie.Need-returns-4
 returns-4 c =
     let trim-copy = c .before .before .before in
-    let records-lent = lent (trim-copy .before .before .before) in
-    let unrefused = roomy (housed (records-lent .before)) in
+    let records-lent = trim-copy .before .before .before .before .before in
+    let unrefused = roomy (records-lent .before .before .before) in
     rw (c .accepted .ensures)
     (stored _ _ _ _ (read-at unrefused .read-payload .ensures) (unrefused .if1 .left) (omega arith) (omega arith)
     (records-lent .lend-records .ensures) (trim-copy .copy .ensures .1))
@@ -107,8 +86,8 @@ read-kept-spec =
     returns
     (λ c. search needs)
     (λ c. search needs)
-    mul-count
-    mul-need
+    (λ c. omega (arith, few-records (read-at (accepted c) .read-payload .ensures)))
+    (λ c. omega (arith, few-records (read-at (accepted c) .read-payload .ensures)))
     (λ c κs. search needs)
     (λ c. kept-at (accepted (c .before .before .before .before .before .before .before .before)) .scratch .given)
     (λ c. c .before .before .before .records .given)
@@ -123,8 +102,8 @@ read-kept-spec =
     returns-3
     lend-records-requires
     array-share-prefix-table
-    slice-aggregate-copy
-    copy-requires
+    (λ c. sym (length-take-le _ _ (array-share-prefix-table (c .before))))
+    (λ c κs. rw (length-take-le _ _ (array-share-prefix-table (c .before .before))) (omega arith))
     (λ c κs. search needs)
     (λ c. kept-at (roomy (c .before .before .before .before .before .before .before .before .before .before .before)) .scratch .given)
     (λ c. c .before .before .before .before .before .before .before .records3 .given)

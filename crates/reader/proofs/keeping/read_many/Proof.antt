@@ -7,8 +7,7 @@ read-kept-requires : tie.Need-read-kept-requires
 read-kept-requires c κs =
     let room = c .before .before .before in
     let asked = room .before .before .before .before .pre in
-    let made = room .all-room .ensures in
-    (asked, record { many = asked .head .few; fits = omega (arith, asked .head .few, made) })
+    (asked, record { many = asked .head .few; fits = omega (arith, asked .head .few, room .all-room .ensures) })
 
 pub read-many-spec : {M : Type 1} → statement M
 read-many-spec =

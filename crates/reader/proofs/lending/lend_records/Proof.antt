@@ -2,7 +2,7 @@
 use Prim.Native.Nat.{_+_, _-_, _<_, _≤_}
 use native.Mathlib.Omega.{arith}
 use lib.ListN.{length}
-use Rattle.oamd.specs.Tables.{mostBlocks, recordBytes, recordStride, scratchBytes}
+use Rattle.oamd.specs.Tables.{mostBlocks, recordStride}
 use Rattle.reader.proofs.LendingLoop.{Going, set-out, block-there, go-on, arrive}
 use borrow.Author.Needs.{needs}
 use Rattle.reader.proofs.lending.lend_records.Statement.{statement}
@@ -17,42 +17,27 @@ abbrev μ-loop : tie.MeasureT-loop
 
 -- ---- the places of a turn, each from the one behind it
 
-abbrev head : tie.In-loop Inv-loop μ-loop → tie.At-loop Inv-loop μ-loop
-head c = c .before
-
 abbrev asked : tie.At-loop Inv-loop μ-loop → tie.Start Inv-loop μ-loop
 asked c = c .before .before .before .before .before
-
-abbrev inside : tie.After-copy-record Inv-loop μ-loop → tie.In-loop Inv-loop μ-loop
-inside c = c .before .before
 
 abbrev copied : tie.After-time-of Inv-loop μ-loop → tie.After-copy-record Inv-loop μ-loop
 copied c = c .before .before .before .before .before
 
 -- ---- the record fits
 
-taken : (c : tie.In-loop Inv-loop μ-loop) → head c .loop .from + recordBytes ≤ length (asked (head c) .args .scratch .now)
-taken c = omega (arith, head c .loop .inv .taken, asked (head c) .pre .stand .fits)
-
-near : (c : tie.In-loop Inv-loop μ-loop) → head c .loop .from + recordBytes ≤ scratchBytes
-near c = omega (arith, head c .loop .inv .taken, asked (head c) .pre .stand .many)
-
-fits : (c : tie.In-loop Inv-loop μ-loop) → head c .loop .at + recordStride ≤ length (head c .loop .records)
-fits c = omega (arith, head c .loop .inv .place, head c .loop .inv .same, asked (head c) .pre .room)
+fits : (c : tie.In-loop Inv-loop μ-loop) → c .before .loop .at + recordStride ≤ length (c .before .loop .records)
+fits c = omega (arith, c .before .loop .inv .place, c .before .loop .inv .same, asked (c .before) .pre .room)
 
 -- and its block is one of eight
-block : (c : tie.In-loop Inv-loop μ-loop) → head c .loop .blk < mostBlocks
-block c =
-    let given = asked (head c) .pre in
-    let few = given .little in
-    omega (arith, block-there (head c .loop .inv) (omega arith) (given .few))
+block : (c : tie.In-loop Inv-loop μ-loop) → c .before .loop .blk < mostBlocks
+block c = let given = asked (c .before) .pre in omega (arith, given .little, block-there (c .before .loop .inv) (omega arith) (given .few))
 
 loop-again : tie.Need-loop-again Inv-loop μ-loop
 loop-again c =
     let stored = c .before .before .before in
     let timed = stored .before in
     let copy = copied timed in
-    let top = head (inside copy) in
+    let top = copy .before .before .before in
     let given = asked top .pre in
     go-on (top .loop .inv) (omega arith) (given .few) (given .stand .fits) (given .room) (copy .copy-record .ensures) (timed .time-of .ensures)
     (stored .store-time .ensures) (c .next-block .ensures)
@@ -65,13 +50,13 @@ lend-records-spec =
     μ-loop
     (λ c. search needs)
     (λ c. set-out)
-    (λ c κs. (taken (c .before), fits (c .before)))
-    (λ c. record { fits = omega (arith, block (inside (c .before .before))) })
-    (λ c. omega (arith, block (inside (c .before .before))))
+    (λ c κs. let top = c .before .before in (omega (arith, top .loop .inv .taken, asked top .pre .stand .fits), fits (c .before)))
+    (λ c. record { fits = omega (arith, block (c .before .before .before .before)) })
+    (λ c. omega (arith, block (c .before .before .before .before)))
     (λ c κs. search needs)
-    (λ c κs. omega (arith, fits (inside (copied c))))
-    (λ c. omega (arith, near (inside (copied (c .before .before .before)))))
-    (λ c. omega (arith, fits (inside (copied (c .before .before .before)))))
+    (λ c κs. omega (arith, fits (copied c .before .before)))
+    (λ c. let top = copied (c .before .before .before) .before .before .before in omega (arith, top .loop .inv .taken, asked top .pre .stand .many))
+    (λ c. omega (arith, fits (copied (c .before .before .before) .before .before)))
     (λ c κs. search needs)
     (λ c. search needs)
     (λ c. search needs)

@@ -4,7 +4,6 @@ use native.Mathlib.Omega.{arith}
 use lib.ListN.{length}
 use Rattle.bits.specs.Language.{bit}
 use Rattle.oamd.specs.Tables.{recordBytes}
-use Rattle.oamd.specs.Meaning.{idle}
 use Rattle.reader.proofs.ObjectLoop.{Inside, enter, turn, leave}
 use borrow.Author.Needs.{needs}
 use Rattle.reader.proofs.objects.read_object.Statement.{statement}
@@ -17,24 +16,13 @@ Inv-loop s l class blocks from out₀ back scene₀ cur₀ at₀ i₀ out scene 
 abbrev μ-loop : tie.MeasureT-loop
 μ-loop s l class blocks from out₀ back scene₀ cur₀ at₀ i₀ out scene cur at i = blocks - i
 
-loop-holds : tie.Need-loop-holds Inv-loop μ-loop
-loop-holds c = rw (c .idle .ensures) (enter _ _ _ _ _ _ _)
-
 -- in a turn the record fits
 fits : (c : tie.In-loop Inv-loop μ-loop) → c .before .loop .at + recordBytes ≤ length (c .before .loop .out)
-fits c =
-    let head = c .before in
-    omega (arith, head .loop .inv .place, head .loop .inv .size, head .before .before .before .before .pre .fits)
+fits c = let head = c .before in omega (arith, head .loop .inv .place, head .loop .inv .size, head .before .before .before .before .pre .fits)
 
 -- the loop's head, from the end of a turn
 abbrev top : tie.After-cur Inv-loop μ-loop → tie.At-loop Inv-loop μ-loop
 top c = let stored = c .before .before .before in stored .before .before .before .before .before .before .before
-
-add-at : tie.Need-add-at Inv-loop μ-loop
-add-at c = let head = top c in omega (arith, head .loop .inv .place, head .before .before .before .before .pre .near)
-
-add-i : tie.Need-add-i Inv-loop μ-loop
-add-i c = omega (arith, top c .before .before .before .before .pre .few)
 
 loop-again : tie.Need-loop-again Inv-loop μ-loop
 loop-again c =
@@ -46,9 +34,6 @@ loop-again c =
     (turn (above .gain-of-object-before .result) (turning .before .loop .inv) (omega arith) (fits turning) (above .gain-of-object-before .ensures)
     (reading .read-scene .ensures .reads))
 
-returns : tie.Need-returns Inv-loop μ-loop
-returns c = leave (c .before .loop .inv) (omega arith)
-
 pub read-object-spec : {M : Type 1} → statement M
 read-object-spec =
     tie.close
@@ -57,14 +42,14 @@ read-object-spec =
     μ-loop
     (λ c. search needs)
     (λ c κs. search needs)
-    loop-holds
+    (λ c. rw (c .idle .ensures) (enter _ _ _ _ _ _ _))
     (λ c κs. search needs)
     (λ c. search needs)
     (λ c κs. search needs)
     (λ c κs. search needs)
-    add-at
-    add-i
+    (λ c. let head = top c in omega (arith, head .loop .inv .place, head .before .before .before .before .pre .near))
+    (λ c. omega (arith, top c .before .before .before .before .pre .few))
     (λ c. search needs)
     loop-again
     (λ c. c .before .loop .inv .size)
-    returns)
+    (λ c. leave (c .before .loop .inv) (omega arith)))

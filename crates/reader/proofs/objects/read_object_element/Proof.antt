@@ -1,5 +1,7 @@
 use native.Mathlib.Omega.{arith}
-use Rattle.reader.proofs.ObjectLoop.{rooms, element-read}
+use Rattle.bits.proofs.Sticky.{bind, plain}
+use Rattle.oamd.specs.ObjectElement.{object-element}
+use Rattle.reader.proofs.ObjectLoop.{rooms}
 use borrow.Author.Needs.{needs}
 use Rattle.reader.proofs.objects.read_object_element.Statement.{statement}
 use Rattle.reader.proofs.objects.read_object_element.Tie as tie
@@ -17,12 +19,22 @@ read-objects-requires c κs =
     }
 
 returns : tie.Need-returns
+unfolding object-element
 returns c =
     let read = c .before .before in
     let reserved = read .before .before .before in
     let absent = reserved .before .before in
-    let timed = absent .before .before in
-    element-read (timed .read-timing .ensures) (absent .take .ensures .reads) (reserved .take-if .ensures .reads) (read .read-objects .ensures)
+    let time = absent .before .before .read-timing .ensures in
+    let objects = read .read-objects .ensures in
+    record {
+      value = record { timing = time .value; objects = objects .value };
+      reads = bind (time .reads) (bind (absent .take .ensures .reads) (bind (reserved .take-if .ensures .reads) (bind (rw (← time .counts) (objects .reads)) plain)));
+      holds = time .holds;
+      few = time .few;
+      size = objects .size;
+      many = objects .many;
+      stand = objects .stand;
+    }
 
 pub read-object-element-spec : {M : Type 1} → statement M
 read-object-element-spec =

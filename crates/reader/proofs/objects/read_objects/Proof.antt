@@ -35,9 +35,6 @@ read-object-requires c κs =
     let entry = head .before .before .before .before in
     record { some = entry .pre .some; few = entry .pre .few; near = near turn; fits = omega (arith, fits turn, head .loop .inv .size, entry .pre .fits) }
 
-add-at : tie.Need-add-at Inv-loop μ-loop
-add-at c = let turn = c .before .before .before .before .before .before .before in omega (arith, near turn)
-
 loop-again : tie.Need-loop-again Inv-loop μ-loop
 loop-again c =
     let read = c .before .before in
@@ -59,7 +56,7 @@ read-objects-spec =
     (λ c κs. search needs)
     read-object-requires
     (λ c. search needs)
-    add-at
+    (λ c. omega (arith, near (c .before .before .before .before .before .before .before)))
     (λ c. search needs)
     (λ c. search needs)
     loop-again

@@ -1,30 +1,26 @@
 use native.Mathlib.Omega.{arith}
-use Rattle.reader.proofs.Whole.{payload-read, counts-on}
+use Rattle.reader.proofs.Whole.{payload-read}
 use borrow.Author.Needs.{needs}
 use Rattle.reader.proofs.payload.read_payload.Statement.{statement}
 use Rattle.reader.proofs.payload.read_payload.Tie as tie
 
--- the element count read, behind the header
-abbrev counted : tie.After-nothing-read → tie.After-read-element-count
-counted c = c .before .before
-
-abbrev start : tie.After-read-element-count → tie.Start
-start c = c .before .before .before .before .before
-
 read-elements-requires : tie.Need-read-elements-requires
 read-elements-requires c κs =
     let begun = c .before .before in
-    let count = counted begun in
-    let asked = start count .pre in
-    counts-on (asked .headed) (asked .sized) (begun .before .scope-of .ensures) (begun .nothing-read .ensures)
-    (omega (arith, count .read-element-count .ensures .small))
+    let count = begun .before .before in
+    let asked = count .before .before .before .before .before .pre in
+    rw (begun .before .scope-of .ensures, begun .nothing-read .ensures) (record {
+      ready = record { objects = asked .headed .head .few; alternate = asked .headed .head .bit; sized = asked .sized };
+      blocks = omega arith;
+      unknown = omega (arith, count .read-element-count .ensures .small);
+    })
 
 returns : tie.Need-returns
 returns c =
     let elements = c .before .before .before .before in
     let begun = elements .before .before .before in
-    let count = counted begun in
-    let asked = start count .pre in
+    let count = begun .before .before in
+    let asked = count .before .before .before .before .before .pre in
     payload-read (asked .headed) (asked .empty) (count .before .before .limit-of .ensures) (begun .before .scope-of .ensures) (begun .nothing-read .ensures)
     (count .read-element-count .ensures .reads) (elements .read-elements .ensures)
 

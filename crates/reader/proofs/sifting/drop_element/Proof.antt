@@ -4,24 +4,19 @@ use borrow.Author.Needs.{needs}
 use Rattle.reader.proofs.sifting.drop_element.Statement.{statement}
 use Rattle.reader.proofs.sifting.drop_element.Tie as tie
 
-abbrev numbered : tie.After-struct-known → tie.After-number
-numbered c = c .before
-
-abbrev start : tie.After-number → tie.Start
-start c = c .before .before
-
 returns : tie.Need-returns
 returns c =
     let early = c .before in
-    let named = numbered (early .before) in
-    ends-pass (start named .pre) (early .if1 .taken ∙ named .number .ensures .0)
+    let named = early .before .before in
+    ends-pass (named .before .before .pre) (early .if1 .taken ∙ named .number .ensures .0)
 
 returns-2 : tie.Need-returns-2
 returns-2 c =
     let frame = c .before .before .before .before .before in
     let other = frame .before .before in
-    let named = numbered (other .before) in
-    goes (start named .pre) (λ e. other .if1 .left (e ∙ sym (named .number .ensures .0))) (frame .before .take .ensures .reads) (frame .read-frame .ensures .reads)
+    let named = other .before .before in
+    goes (named .before .before .pre) (λ e. other .if1 .left (e ∙ sym (named .number .ensures .0)))
+    (frame .before .take .ensures .reads) (frame .read-frame .ensures .reads)
 
 pub drop-element-spec : {M : Type 1} → statement M
 drop-element-spec =

@@ -4,9 +4,6 @@ use borrow.Author.Needs.{needs}
 use Rattle.reader.proofs.sifting.sift.Statement.{statement}
 use Rattle.reader.proofs.sifting.sift.Tie as tie
 
-returns : tie.Need-returns
-returns c = rw (c .refused .ensures, c .before .number .ensures .0) (too-long _ (omega arith))
-
 returns-2 : tie.Need-returns-2
 returns-2 c =
     let refused = c .before in
@@ -27,7 +24,7 @@ sift-spec =
     (tie.spec
     (λ c κs. search needs)
     (λ c κs. search needs)
-    returns
+    (λ c. rw (c .refused .ensures, c .before .number .ensures .0) (too-long _ (omega arith)))
     (λ c κs. search needs)
     (λ c κs. search needs)
     (λ c κs. search needs)

@@ -3,23 +3,17 @@ use borrow.Author.Needs.{needs}
 use Rattle.reader.proofs.sifting.sift_element.Statement.{statement}
 use Rattle.reader.proofs.sifting.sift_element.Tie as tie
 
-abbrev read-at : tie.After-struct-known → tie.After-read-element
-read-at c = c .before .before
-
-abbrev start : tie.After-read-element → tie.Start
-start c = c .before .before .before .before .before .before
-
 returns : tie.Need-returns
 returns c =
     let kept = c .before .before in
-    let read = read-at (kept .before) in
-    kept-turn (start read .pre) (read .read-element .ensures) (kept .if1 .taken)
+    let read = kept .before .before .before in
+    kept-turn (read .before .before .before .before .before .before .pre) (read .read-element .ensures) (kept .if1 .taken)
 
 returns-2 : tie.Need-returns-2
 returns-2 c =
     let refused = c .before in
-    let read = read-at (refused .before) in
-    dropped-turn (start read .pre) (read .read-element .ensures) (refused .if1 .left) (c .drop-element .ensures)
+    let read = refused .before .before .before in
+    dropped-turn (read .before .before .before .before .before .before .pre) (read .read-element .ensures) (refused .if1 .left) (c .drop-element .ensures)
 
 pub sift-element-spec : {M : Type 1} → statement M
 sift-element-spec = tie.close (tie.spec (λ c κs. search needs) (λ c κs. search needs) returns (λ c κs. search needs) returns-2)

@@ -9,7 +9,8 @@ use Rattle.reader.proofs.sifting.sift_elements.Statement.{statement}
 use Rattle.reader.proofs.sifting.sift_elements.Tie as tie
 
 abbrev Inv-loop : tie.InvT-loop
-Inv-loop s l head count scope scratch₀ table₀ state₀ gone₀ drops₀ cur₀ i₀ scratch table state gone drops cur i = Passing s head count scratch₀ i state gone drops cur (lent scratch table)
+Inv-loop s l head count scope scratch₀ table₀ state₀ gone₀ drops₀ cur₀ i₀ scratch table state gone drops cur i =
+    Passing s head count scratch₀ i state gone drops cur (lent scratch table)
 
 abbrev μ-loop : tie.MeasureT-loop
 μ-loop s l head count scope scratch₀ table₀ state₀ gone₀ drops₀ cur₀ i₀ scratch table state gone drops cur i = count .v - i
@@ -19,19 +20,6 @@ abbrev μ-loop : tie.MeasureT-loop
 abbrev scoped : tie.After-none-gone Inv-loop μ-loop → tie.After-scope-of Inv-loop μ-loop
 scoped c = c .before .before .before .before
 
-abbrev start : tie.After-scope-of Inv-loop μ-loop → tie.Start Inv-loop μ-loop
-start c = c .before .before
-
-abbrev at-loop : tie.Then1 Inv-loop μ-loop → tie.At-loop Inv-loop μ-loop
-at-loop c = c .before .before
-
--- in the loop, with an element sifted
-abbrev in-loop : tie.After-sift-element Inv-loop μ-loop → tie.Then1 Inv-loop μ-loop
-in-loop c = c .before .before .before
-
-abbrev sifted-at : tie.After-struct-known2 Inv-loop μ-loop → tie.After-sift-element Inv-loop μ-loop
-sifted-at c = c .before .before
-
 -- ---- what is asked there
 
 loop-holds : tie.Need-loop-holds Inv-loop μ-loop
@@ -39,48 +27,48 @@ loop-holds c =
     let nothing = c .before in
     let trim = nothing .before in
     let room = trim .before in
-    pass-start (start (scoped c) .pre) (nothing .nothing-read .ensures) (c .none-gone .ensures) (room .all-room .ensures) (trim .no-trim .ensures .0) (trim .no-trim .ensures .1)
+    pass-start (scoped c .before .before .pre) (nothing .nothing-read .ensures) (c .none-gone .ensures) (room .all-room .ensures) (trim .no-trim .ensures .0) (trim .no-trim .ensures .1)
 
 sift-element-requires : tie.Need-sift-element-requires Inv-loop μ-loop
 sift-element-requires c κs =
     let inside = c .before .before in
-    let loop = at-loop inside in
+    let loop = inside .before .before in
     let scope = scoped (loop .before) in
-    pass-asks (start scope .pre) (loop .loop .inv) (inside .if1 .taken) (scope .scope-of .ensures)
+    pass-asks (scope .before .before .pre) (loop .loop .inv) (inside .if1 .taken) (scope .scope-of .ensures)
 
 returns : tie.Need-returns Inv-loop μ-loop
 returns c =
     let refused = c .before in
-    let turn = sifted-at (refused .before) in
-    let inside = in-loop turn in
-    let loop = at-loop inside in
+    let turn = refused .before .before .before in
+    let inside = turn .before .before .before in
+    let loop = inside .before .before in
     let scope = scoped (loop .before) in
-    let asked = start scope .pre in
+    let asked = scope .before .before .pre in
     rw (c .refused-at .ensures)
     (refused-there asked (pass-stops asked (loop .loop .inv) (inside .if1 .taken) (scope .scope-of .ensures) (turn .sift-element .ensures) (refused .if2 .taken)))
 
 -- there is room for one more
 room-for-one : tie.Need-array-set-from-gone Inv-loop μ-loop
 room-for-one c =
-    let inside = in-loop (sifted-at (c .before .before .before .before)) in
-    let loop = at-loop inside in
-    omega (arith, loop .loop .inv .few, inside .if1 .taken, start (scoped (loop .before)) .pre .counts .small)
+    let inside = c .before .before .before .before .before .before .before .before .before in
+    let loop = inside .before .before in
+    omega (arith, loop .loop .inv .few, inside .if1 .taken, scoped (loop .before) .before .before .pre .counts .small)
 
 loop-again : tie.Need-loop-again Inv-loop μ-loop
 loop-again c =
     let clean = c .before .before in
-    let turn = sifted-at (clean .before) in
-    let inside = in-loop turn in
-    let loop = at-loop inside in
+    let turn = clean .before .before .before in
+    let inside = turn .before .before .before in
+    let loop = inside .before .before in
     let scope = scoped (loop .before) in
-    pass-on (start scope .pre) (loop .loop .inv) (inside .if1 .taken) (scope .scope-of .ensures) (turn .sift-element .ensures) (clean .if2 .left)
+    pass-on (scope .before .before .pre) (loop .loop .inv) (inside .if1 .taken) (scope .scope-of .ensures) (turn .sift-element .ensures) (clean .if2 .left)
     (⊎-elim (λ w. inl (w .0 .taken, w .2, w .3)) (λ w. inr (w .0 .left, w .1, w .2)) (c .if3 .came))
 
 returns-2 : tie.Need-returns-2 Inv-loop μ-loop
 returns-2 c =
     let ended = c .before .before in
     let loop = ended .before .before in
-    sifted-there (start (scoped (loop .before)) .pre) (loop .loop .inv) (omega (arith, ended .if1 .left, loop .loop .inv .within))
+    sifted-there (scoped (loop .before) .before .before .pre) (loop .loop .inv) (omega (arith, ended .if1 .left, loop .loop .inv .within))
 
 pub sift-elements-spec : {M : Type 1} → statement M
 sift-elements-spec =
