@@ -1,7 +1,7 @@
 -- Where the code computes a value first: what is packed with it is what the definition says. Assumes nothing.
 use mathlib.Core.Path.{_≡_}
 use mathlib.Core.Bool.{not}
-use mathlib.Core.List.{List, _++_}
+use mathlib.Core.List.{_++_}
 use Prim.Native.Nat.{ℕ, _-_, _/_, _%_}
 use lib.Dec.{leb, ltb, eqb}
 use Rattle.bits.specs.Language.{pick, both}

@@ -22,6 +22,7 @@ pub use frame::size;
 pub use heads::bed;
 pub use heads::head;
 pub use heads::tail;
+pub use packing::field;
 pub use timing::lead;
 pub use timing::update;
 pub use trim::config;

@@ -1,9 +1,10 @@
 // Bits packed into a number, one field behind the other.
 ghost use mathlib.Core.List.{[]};
 ghost use mathlib.Core.Path.{_≡_};
+ghost use Prim.Native.Nat.{_≤_};
 ghost use Rattle.bits.specs.Language.{both, pick};
 ghost use Rattle.bits.specs.Writes.{toBits, only};
-ghost use Rattle.coding.specs.Packing.{PacksIn, Room, Whole, Behind};
+ghost use Rattle.coding.specs.Packing.{PacksIn, Room, Whole, Behind, widestPacked};
 use crate::Packed;
 use units::BitCount;
 
@@ -35,6 +36,15 @@ pub fn pack(p: Packed, w: u32, v: u64) -> Packed
     ensures { λ r. ⌜ Behind w w p r (toBits w v) ⌝ }
 {
     pack_whole(p, w, (v << (64 - w)) >> (64 - w))
+}
+
+// A field of w bits, the low bits of v.
+pub fn field(w: u32, v: u64) -> Packed
+    requires { ⌜ (1 ≤ w) × (w ≤ widestPacked) ⌝ }
+    ensures { λ r. ⌜ PacksIn w w r (toBits w v) ⌝ }
+{
+    let p = nothing();
+    pack(p, w, v)
 }
 
 // The bits of more, which begin with those of p, where a test holds; else those of p. What is not kept is computed all the same: that costs less than a

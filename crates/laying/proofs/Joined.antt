@@ -1,252 +1,128 @@
--- The law over the width: eight bytes from the byte of position p on, which join its first bits with w others, lay these at p.
-use mathlib.Core.Path.{_≡_, refl, sym, ap, _∙_, subst}
-use mathlib.Core.List.{List, [], _∷_}
-use Prim.Native.Nat.{ℕ, zero, suc, _+_, _-_, _*_, _/_, _%_, _^_, _≤_, _<_}
-use native.Mathlib.Nat.{add-zero, lt-of-lt-of-le, mod-lt}
+-- The ways of `put`: the field behind the bits that are held, stored with them or held with them, is laid.
+use mathlib.Core.Path.{_≡_, refl, sym, ap, ap₂, _∙_, subst}
+use mathlib.Core.Bool.{Bool}
+use mathlib.Core.List.{List, _++_}
+use Prim.Native.Nat.{ℕ, _+_, _-_, _*_, _/_, _%_, _^_, _≤_, _<_}
 use native.Mathlib.Omega.{arith}
-use lib.Arith.{digits-lt}
-use lib.ListN.{length, getD, set, length-set, List·getD-eq-default}
-use lib.Seq.{getD-set-same, getD-set-other}
-use lib.Pow.{shr-shr, shl-shr, shl-lt, shr-lt, shl-exact, field, high, low, mod-mod-pow, pow-add, pow-mono, pow-pos}
-use Rattle.bits.specs.Language.{bit}
-use Rattle.bits.specs.Steps.{by-order}
-use Rattle.bits.specs.Writes.{toBits}
-use Rattle.bits.specs.Lists.{binary-toBits, length-toBits, getD-toBits}
-use Rattle.laying.specs.Laying.{Laid, Put, Bytes, widestPut, setWide, joined}
+use lib.ListN.{length, getD, drop, length-append, length-drop, List·getD-append}
+use lib.Seq.{drop-append-le, drop-drop}
+use borrow.Author.Tests.{le-leb, lt-leb}
+use Rattle.bits.specs.Language.{number, bit, pick}
+use Rattle.bits.specs.Writes.{toBits, Binary}
+use Rattle.bits.specs.Lists.{binary-append, binary-toBits, length-toBits}
+use Rattle.laying.specs.Laying.{Laid, Holds, Put, reach, widestPut, mostPosition, setWide, joined, advanced, longer}
+use Rattle.laying.specs.declared.Pen.{Pen}
+use Rattle.laying.proofs.Laws.{place-reach, reach-few, reach-near, few-held}
+use Rattle.laying.proofs.Words.{spelt, spelt-lt, spelt-join, spelt-drop, binary-drop, stored-bit, wide-length, bytes-wide}
 
--- a bit of a number's low k bits is that bit of the number
-low-bit : (y k j : ℕ) → j < k → y % 2 ^ k / 2 ^ j % 2 ≡ y / 2 ^ j % 2
-low-bit y k j h =
-    let e : k ≡ k - j - 1 + 1 + j = omega arith in
-    ap (λ (n : ℕ). y % 2 ^ n / 2 ^ j % 2) e
-    ∙ ap (λ (x : ℕ). x % 2) (field y (k - j - 1 + 1) j)
-    ∙ mod-mod-pow (y / 2 ^ j) (k - j - 1) 1
+abbrev pen : ℕ → ℕ → ℕ → Pen
+pen x k j = record { word = x; held = record { 0 = k }; stored = record { 0 = j } }
 
--- place q of the first o of n, counted from the other end
-from-top : (n o q : ℕ) → q < o → o ≤ n → n - 1 - q ≡ n - o + (o - 1 - q)
-from-top n o q h l = omega arith
+-- a pen is told by its numbers
+pub pen-is : {p q : Pen} → p .word ≡ q .word → p .held .0 ≡ q .held .0 → p .stored .0 ≡ q .stored .0 → p ≡ q
+pen-is {p} {q} e f g = ap₂ (λ (x k : ℕ). pen x k (p .stored .0)) e f ∙ ap (pen (q .word) (q .held .0)) g
 
-module _ (b o w v : ℕ) (ho : o < 8) (h1 : 1 ≤ w) (hw : w ≤ widestPut) where
-  abbrev sh : ℕ
-  sh = 64 - o - w
+-- a choice whose test is known
+picked : {A : Type 0} {b c : Bool} (x y : A) → b ≡ c → pick c x y ≡ pick b x y
+picked x y e = ap (λ (t : Bool). pick t x y) (sym e)
 
-  abbrev front : ℕ
-  front = b / 2 ^ (8 - o)
+module _ (s : List ℕ) (p : Pen) (w v : ℕ) (hw : w ≤ widestPut) (hv : v < 2 ^ w) (most : reach s p + w ≤ mostPosition) where
+  abbrev i : ℕ
+  i = p .stored .0
 
-  abbrev new : ℕ
-  new = v % 2 ^ w
-
-  abbrev mid : ℕ
-  mid = front * 2 ^ w + new
+  abbrev n : ℕ
+  n = p .held .0 + w
 
   abbrev y : ℕ
-  y = joined b o w v
+  y = joined (p .word) n v
 
-  -- what the code computes
-  abbrev top : ℕ
-  top = b / 2 ^ (8 - o) * 2 ^ w % 2 ^ 64
+  -- of the bits that were laid with the field behind them, those that are held
+  module _ (b : List ℕ) (h : Holds s p b) (fits : n ≤ 63) where
+    abbrev whole : List ℕ
+    whole = b ++ toBits w v
 
-  abbrev rest : ℕ
-  rest = v * 2 ^ (64 - w) % 2 ^ 64 / 2 ^ (64 - w)
+    abbrev still : List ℕ
+    still = drop (8 * i) whole
 
-  rest-is : rest ≡ new
-  rest-is =
-      let e : 64 ≡ w + (64 - w) = omega arith in
-      ap (λ (k : ℕ). v * 2 ^ (64 - w) % 2 ^ k / 2 ^ (64 - w)) e
-      ∙ field (v * 2 ^ (64 - w)) w (64 - w)
-      ∙ ap (λ (y : ℕ). y % 2 ^ w) (shl-shr v (64 - w))
+    whole-long : length whole ≡ 8 * i + n
+    whole-long = omega (arith, length-append b (toBits w v), length-toBits w v, h .long)
 
-  front-lt : b < 256 → front < 2 ^ o
-  front-lt h = let e : 8 ≡ o + (8 - o) = omega arith in shr-lt o (8 - o) (subst (λ (k : ℕ). b < 2 ^ k) e h)
+    still-long : length still ≡ n
+    still-long = omega (arith, length-drop (8 * i) whole, whole-long)
 
-  sum-is : b < 256 → top + rest ≡ mid
-  sum-is h = rw (shl-exact o w 64 (front-lt h) (omega arith), rest-is)
+    whole-binary : Binary whole
+    whole-binary = binary-append b (toBits w v) (h .binary) (binary-toBits w v)
 
-  mid-lt : b < 256 → mid < 2 ^ (o + w)
-  mid-lt h = subst (λ (k : ℕ). mid < k) (sym (pow-add 2 o w)) (digits-lt (front-lt h) (mod-lt v (pow-pos w)))
+    whole-stands : (q : ℕ) → q < 8 * i → bit s q ≡ getD whole q 0
+    whole-stands q l = h .stands q l ∙ sym (List·getD-append b (toBits w v) 0 q (omega (arith, h .long)))
 
-  pub sum-fits : b < 256 → top + rest < 2 ^ 64
-  sum-fits h = rw (sum-is h) (lt-of-lt-of-le (mid-lt h) (pow-mono {i = o + w} {j = 64} (omega arith)))
+    joined-is : y ≡ spelt still
+    unfolding joined
+    joined-is =
+        let e : length (drop (8 * i) b) ≡ p .held .0 = omega (arith, length-drop (8 * i) b, h .long) in
+        ap (λ (x : ℕ). (x + v * 2 ^ (64 - n)) % 2 ^ 64) (h .rest)
+        ∙ rw e at (spelt-join (drop (8 * i) b) w v (binary-drop (8 * i) b (h .binary)) hv (omega arith))
+        ∙ ap spelt (sym (drop-append-le (8 * i) b (toBits w v) (omega (arith, h .long))))
 
-  pub join-is : b < 256 → (top + rest) * 2 ^ sh % 2 ^ 64 ≡ joined b o w v
-  unfolding joined
-  join-is h = rw (sum-is h) (shl-exact (o + w) sh 64 (mid-lt h) (omega arith))
+    holds-longer : Holds s (longer p n v) whole
+    holds-longer = record {
+      bytes = h .bytes;
+      long = whole-long;
+      binary = whole-binary;
+      stands = whole-stands;
+      rest = sym (picked y (p .word) (le-leb n 63 fits)) ∙ joined-is ∙ ap (λ (k : ℕ). number still * 2 ^ (64 - k)) still-long;
+    }
 
-  joined-lt : b < 256 → y < 2 ^ 64
-  unfolding joined
-  joined-lt h =
-      let f : o + w + sh ≡ 64 = omega arith in
-      subst (λ (k : ℕ). mid * 2 ^ sh < 2 ^ k) f (shl-lt (o + w) sh (mid-lt h))
+    holds-advanced : i + 8 ≤ length s → Holds (setWide s i (spelt still)) (advanced p n (spelt still)) whole
+    holds-advanced room = record {
+      bytes = bytes-wide s i (spelt still) (spelt-lt still (binary-drop (8 * i) whole whole-binary) (omega (arith, still-long))) (h .bytes);
+      long = omega (arith, whole-long);
+      binary = whole-binary;
+      stands = λ q l. stored-bit s i whole whole-binary (omega (arith, whole-long)) whole-stands q (omega arith) (omega arith);
+      rest =
+          let k : ℕ = n / 8 * 8 in
+          let e : 8 * i + k ≡ 8 * (i + n / 8) = omega arith in
+          let d : drop k still ≡ drop (8 * (i + n / 8)) whole = drop-drop k (8 * i) whole ∙ ap (λ (j : ℕ). drop j whole) e in
+          let c : length (drop k still) ≡ n % 8 = omega (arith, length-drop k still, still-long) in
+          spelt-drop still k (binary-drop (8 * i) whole whole-binary) (omega (arith, still-long)) (omega (arith, still-long))
+          ∙ ap₂ (λ (x : List ℕ) (j : ℕ). number x * 2 ^ (64 - j)) d c;
+    }
 
-  -- its bits, counted from the top
-  y-mid : y / 2 ^ sh ≡ mid
-  unfolding joined
-  y-mid = shl-shr mid sh
+  laid-stored : i + 8 ≤ length s → Laid w s (setWide s i y) p (advanced p n y) (toBits w v)
+  laid-stored room =
+      let few = few-held s p (omega arith) room in
+      record {
+        kept = wide-length s i y;
+        next = omega (arith, length-toBits w v);
+        most = omega (arith, place-reach s p, reach-few (setWide s i y) (advanced p n y) (omega arith));
+        holds = λ e b h.
+            subst (λ (x : ℕ). Holds (setWide s i x) (advanced p n x) (b ++ toBits w v)) (sym (joined-is b h (omega arith))) (holds-advanced b h (omega arith) room);
+      }
 
-  bit-high : (q : ℕ) → q < o → y / 2 ^ (63 - q) % 2 ≡ b / 2 ^ (7 - q) % 2
-  bit-high q h =
-      let f : 64 - o ≡ sh + w = omega arith in
-      let k : ℕ = o - 1 - q in
-      let e : 63 - q ≡ 64 - o + k = from-top 64 o q h (omega arith) in
-      let d : 7 - q ≡ 8 - o + k = from-top 8 o q h (omega arith) in
-      let a : y / 2 ^ (64 - o) ≡ front =
-      ap (λ (n : ℕ). y / 2 ^ n) f ∙ sym (shr-shr y sh w) ∙ ap (λ (n : ℕ). n / 2 ^ w) y-mid ∙ high front w (mod-lt v (pow-pos w)) in
-      rw (e, d, ← shr-shr y (64 - o) k, ← shr-shr b (8 - o) k, a)
-
-  bit-mid : (i : ℕ) → i < w → y / 2 ^ (63 - (o + i)) % 2 ≡ v / 2 ^ (w - 1 - i) % 2
-  bit-mid i h =
-      let k : ℕ = w - 1 - i in
-      let e : 63 - (o + i) ≡ sh + k = omega arith in
-      ap (λ (n : ℕ). y / 2 ^ n % 2) e
-      ∙ ap (λ (n : ℕ). n % 2) (sym (shr-shr y sh k) ∙ ap (λ (n : ℕ). n / 2 ^ k) y-mid)
-      ∙ sym (low-bit mid w k (omega arith))
-      ∙ ap (λ (n : ℕ). n / 2 ^ k % 2) (low front w (mod-lt v (pow-pos w)))
-      ∙ low-bit v w k (omega arith)
-
--- ---- bytes in a list of bytes
-
--- bytes from i on replaced by others, as far as the buffer goes
-unfoldable setBytes : List ℕ → ℕ → List ℕ → List ℕ
-setBytes s i [] = s
-setBytes s i (b ∷ bs) = setBytes (set s i b) (i + 1) bs
-
--- the eight bytes of y
-abbrev wideBytes : ℕ → List ℕ
-wideBytes y =
-    y / 72057594037927936
-    ∷ y / 281474976710656 % 256
-    ∷ y / 1099511627776 % 256
-    ∷ y / 4294967296 % 256
-    ∷ y / 16777216 % 256
-    ∷ y / 65536 % 256
-    ∷ y / 256 % 256
-    ∷ y % 256
-    ∷ []
-
-wide-is : (s : List ℕ) (i y : ℕ) → setWide s i y ≡ setBytes s i (wideBytes y)
-unfolding setBytes
-wide-is s i y =
-    let e2 : i + 1 + 1 ≡ i + 2 = omega arith in
-    let e3 : i + 2 + 1 ≡ i + 3 = omega arith in
-    let e4 : i + 3 + 1 ≡ i + 4 = omega arith in
-    let e5 : i + 4 + 1 ≡ i + 5 = omega arith in
-    let e6 : i + 5 + 1 ≡ i + 6 = omega arith in
-    let e7 : i + 6 + 1 ≡ i + 7 = omega arith in
-    rw (e2, e3, e4, e5, e6, e7)
-
-length-bytes : (s : List ℕ) (i : ℕ) (bs : List ℕ) → length (setBytes s i bs) ≡ length s
-unfolding setBytes
-length-bytes s i [] = refl
-length-bytes s i (b ∷ bs) = length-bytes (set s i b) (i + 1) bs ∙ length-set s i b
-
--- before them the others stay
-bytes-before : (s : List ℕ) (i : ℕ) (bs : List ℕ) (k : ℕ) → k < i → getD (setBytes s i bs) k 0 ≡ getD s k 0
-unfolding setBytes
-bytes-before s i [] k h = refl
-bytes-before s i (b ∷ bs) k h = bytes-before (set s i b) (i + 1) bs k (omega arith) ∙ getD-set-other s i k b 0 (λ e. omega arith)
-
-bytes-inside : (s : List ℕ) (i : ℕ) (bs : List ℕ) (j : ℕ) → j < length bs → i + j < length s → getD (setBytes s i bs) (i + j) 0 ≡ getD bs j 0
-unfolding setBytes
-bytes-inside s i [] j h l = absurd (omega arith)
-bytes-inside s i (b ∷ bs) zero h l = rw (add-zero i) (bytes-before (set s i b) (i + 1) bs i (omega arith) ∙ getD-set-same s i b 0 (omega arith))
-bytes-inside s i (b ∷ bs) (suc j) h l =
-    let e : i + suc j ≡ i + 1 + j = omega arith in
-    rw e (bytes-inside (set s i b) (i + 1) bs j (omega arith) (omega (arith, length-set s i b)))
-
-bytes-set : (s : List ℕ) (i b : ℕ) → b < 256 → Bytes s → Bytes (set s i b)
-bytes-set [] i b l h k = h k
-bytes-set (x ∷ xs) zero b l h zero = l
-bytes-set (x ∷ xs) zero b l h (suc k) = h (suc k)
-bytes-set (x ∷ xs) (suc i) b l h zero = h 0
-bytes-set (x ∷ xs) (suc i) b l h (suc k) = bytes-set xs i b l (λ j. h (suc j)) k
-
-bytes-all : (s : List ℕ) (i : ℕ) (bs : List ℕ) → Bytes bs → Bytes s → Bytes (setBytes s i bs)
-unfolding setBytes
-bytes-all s i [] f h = h
-bytes-all s i (b ∷ bs) f h = bytes-all (set s i b) (i + 1) bs (λ j. f (suc j)) (bytes-set s i b (f 0) h)
-
-module _ (y : ℕ) (h : y < 2 ^ 64) where
-  wide-byte : (j : ℕ) → j < 8 → getD (wideBytes y) j 0 ≡ y / 2 ^ (8 * (7 - j)) % 256
-  wide-byte zero l = omega arith
-  wide-byte (suc zero) l = refl
-  wide-byte (suc (suc zero)) l = refl
-  wide-byte (suc (suc (suc zero))) l = refl
-  wide-byte (suc (suc (suc (suc zero)))) l = refl
-  wide-byte (suc (suc (suc (suc (suc zero))))) l = refl
-  wide-byte (suc (suc (suc (suc (suc (suc zero)))))) l = refl
-  wide-byte (suc (suc (suc (suc (suc (suc (suc zero))))))) l = omega arith
-  wide-byte (suc (suc (suc (suc (suc (suc (suc (suc j)))))))) l = absurd (omega arith)
-
-  wide-bytes : Bytes (wideBytes y)
-  wide-bytes j = by-order 8 j (λ l. rw (List·getD-eq-default (wideBytes y) 0 l) (omega arith)) (λ l. rw (wide-byte j l) (omega arith))
-
--- the bit q behind the first of byte i, where the bytes from i are those of the number x
-byte-bit : (s : List ℕ) (i q x : ℕ) → q < 64 → getD s (i + q / 8) 0 ≡ x / 2 ^ (8 * (7 - q / 8)) % 256 → bit s (8 * i + q) ≡ x / 2 ^ (63 - q) % 2
-unfolding bit
-byte-bit s i q x h b =
-    let j = q / 8 in
-    let m = q % 8 in
-    let e : (8 * i + q) / 8 ≡ i + j = omega arith in
-    let f : (8 * i + q) % 8 ≡ m = omega arith in
-    let g : 8 * (7 - j) + (7 - m) ≡ 63 - q = omega arith in
-    ap (λ (k : ℕ). getD s k 0 / 2 ^ (7 - (8 * i + q) % 8) % 2) e
-    ∙ ap (λ (k : ℕ). getD s (i + j) 0 / 2 ^ (7 - k) % 2) f
-    ∙ ap (λ (n : ℕ). n / 2 ^ (7 - m) % 2) b
-    ∙ low-bit (x / 2 ^ (8 * (7 - j))) 8 (7 - m) (omega arith)
-    ∙ ap (λ (n : ℕ). n % 2) (shr-shr x (8 * (7 - j)) (7 - m))
-    ∙ ap (λ (k : ℕ). x / 2 ^ k % 2) g
-
-module _ (s : List ℕ) (bytes : Bytes s) (p w v : ℕ) (h1 : 1 ≤ w) (hw : w ≤ widestPut) where
-  abbrev i : ℕ
-  i = p / 8
-
-  abbrev o : ℕ
-  o = p % 8
-
-  abbrev z : ℕ
-  z = joined (getD s i 0) o w v
-
-  abbrev t : List ℕ
-  t = setBytes s i (wideBytes z)
-
-  z-lt : z < 2 ^ 64
-  z-lt = joined-lt (getD s i 0) o w v (omega arith) h1 hw (bytes i)
-
-  near : (q : ℕ) → q < 64 → 8 * i + q < 8 * length s → bit t (8 * i + q) ≡ z / 2 ^ (63 - q) % 2
-  near q h l = byte-bit t i q z h (bytes-inside s i (wideBytes z) (q / 8) (omega arith) (omega arith) ∙ wide-byte z z-lt (q / 8) (omega arith))
-
-  -- a byte past the end is 0 before and after
-  past : (k : ℕ) → length s ≤ k → getD t k 0 ≡ getD s k 0
-  past k l = List·getD-eq-default t 0 (omega (arith, length-bytes s i (wideBytes z))) ∙ sym (List·getD-eq-default s 0 l)
-
-  stays : (q : ℕ) → q < p → bit t q ≡ bit s q
-  unfolding bit
-  stays q h = by-order i (q / 8)
-      (λ l.
-      let e : 8 * i + q % 8 ≡ q = omega arith in
-      let d : q / 8 ≡ i = omega arith in
-      by-order (length s) i (λ m. ap (λ (x : ℕ). x / 2 ^ (7 - q % 8) % 2) (past (q / 8) (omega arith)))
-      (λ m. ap (bit t) (sym e) ∙ near (q % 8) (omega arith) (omega arith) ∙ bit-high (getD s i 0) o w v (omega arith) h1 hw (q % 8) (omega arith) ∙ rw d))
-      (λ l. ap (λ (x : ℕ). x / 2 ^ (7 - q % 8) % 2) (bytes-before s i (wideBytes z) (q / 8) l))
-
-  laid : Laid w s t p (p + w) (toBits w v)
-  laid = record {
-    kept = length-bytes s i (wideBytes z);
-    bytes = bytes-all s i (wideBytes z) (wide-bytes z z-lt);
-    before = stays;
-    inside = λ j h l.
-        let n = length-toBits w v in
-        let e : 8 * i + (o + j) ≡ p + j = omega arith in
-        ap (bit t) (sym e) ∙ near (o + j) (omega arith) (omega arith) ∙ bit-mid (getD s i 0) o w v (omega arith) h1 hw j (omega arith) ∙ sym (getD-toBits w v j (omega arith));
+  laid-held : length s < i + 8 → Laid w s s p (longer p n v) (toBits w v)
+  laid-held near = record {
+    kept = refl;
     next = omega (arith, length-toBits w v);
-    most = omega arith;
-    binary = binary-toBits w v;
+    most = omega (arith, place-reach s p, reach-near s (longer p n v) near);
+    holds = λ e b h. holds-longer b h (omega arith);
   }
 
--- the same for a position that is handed out, the next one that is made, and the byte and the number that are found on the way
-pub put-at : (s : List ℕ) (bytes : Bytes s) (at p w v r b y : ℕ) (u : List ℕ) → 1 ≤ w → w ≤ widestPut → p ≡ at → r ≡ p + w
-    → b ≡ getD s (p / 8) 0 → y ≡ joined b (p % 8) w v → u ≡ setWide s (p / 8) y → Put w s u at r v
-put-at s bytes at p w v r b y u h1 hw a n e f g =
-    let found : y ≡ joined (getD s (p / 8) 0) (p % 8) w v = f ∙ ap (λ (x : ℕ). joined x (p % 8) w v) e in
-    let same : u ≡ setWide s (p / 8) (joined (getD s (p / 8) 0) (p % 8) w v) = g ∙ ap (setWide s (p / 8)) found in
-    rw (n, ← a) (record { same = same; laid = rw (same, wide-is) (laid s bytes p w v h1 hw) })
+  -- eight bytes have room
+  pub put-stored : (t : List ℕ) (r : Pen) → i + 8 ≤ length s → t ≡ setWide s i y → r .word ≡ y * 2 ^ (n / 8 * 8) % 2 ^ 64 → r .held .0 ≡ n % 8
+      → r .stored .0 ≡ i + n / 8 → Put w s t p r v
+  put-stored t r room same word held stored =
+      let pen : r ≡ advanced p n y = pen-is word held stored in
+      let on = le-leb (i + 8) (length s) room in
+      record { same = same ∙ picked (setWide s i y) s on; pen = pen ∙ picked (advanced p n y) (longer p n v) on; laid = rw (same, pen) (laid-stored room) }
+
+  -- they have not
+  put-near : (r : Pen) → length s < i + 8 → r ≡ longer p n v → Put w s s p r v
+  put-near r near pen =
+      let off = lt-leb (i + 8) (length s) near in
+      record { same = picked (setWide s i y) s off; pen = pen ∙ picked (advanced p n y) (longer p n v) off; laid = rw pen (laid-held near) }
+
+  pub put-held : (r : Pen) → length s < i + 8 → n ≤ 63 → r .word ≡ y → r .held .0 ≡ n → r .stored .0 ≡ i → Put w s s p r v
+  put-held r near few word held stored = put-near r near (pen-is (word ∙ picked y (p .word) (le-leb n 63 few)) held stored)
+
+  pub put-past : (r : Pen) → length s < i + 8 → 63 < n → r .word ≡ p .word → r .held .0 ≡ n → r .stored .0 ≡ i → Put w s s p r v
+  put-past r near more word held stored = put-near r near (pen-is (word ∙ picked y (p .word) (lt-leb n 63 more)) held stored)

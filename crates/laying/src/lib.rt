@@ -1,5 +1,16 @@
-// Bits laid into a lent buffer: a field of up to 56 bits at a position. What `put` hands out is the position behind the field; what it says (specs/Laying.antt) is what bytes the buffer then holds,
-// and of them what a part of a form has to know. The only premises are a field's width and that it ends no further than mostPosition.
+// Bits laid into a lent buffer, from its first bit on.
+use units::BitCount;
+use units::ByteCount;
+
 mod putting; // putting.rt: a field
 
+pub use putting::finish;
 pub use putting::put;
+pub use putting::start;
+
+// Where laying stands: so many bytes are stored for good; behind them so many bits are held, the first of `word`, whose others are 0.
+pub struct Pen {
+    pub word: u64,
+    pub held: BitCount,
+    pub stored: ByteCount,
+}

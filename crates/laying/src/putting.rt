@@ -1,10 +1,11 @@
-// The one function that writes a field: the bits before it stay, and behind it, up to eight bytes from its first one, there are zeros.
+// The pen: fields laid one behind the other. The bits behind the last byte that is stored for good stay in a number, so that nothing is ever read back from the buffer.
 ghost use mathlib.Core.Path.{_≡_};
-ghost use Prim.Native.Nat.{_+_, _/_, _≤_, _<_};
-ghost use lib.ListN.{length, getD, set};
-ghost use Rattle.laying.specs.Laying.{Put, widestPut, mostPosition, joined, setWide, setHigh, setLow};
+ghost use Prim.Native.Nat.{_+_, _^_, _≤_, _<_};
+ghost use lib.ListN.{length, set};
+ghost use Rattle.laying.specs.Laying.{Put, place, reach, blank, joined, widestPut, mostPosition, setWide, setHigh, setLow};
+use crate::Pen;
 use units::BitCount;
-use units::BitPos;
+use units::ByteCount;
 
 // The eight bytes of y from i on.
 fn store_whole(out: &mut [u8], i: usize, y: u64)
@@ -62,56 +63,66 @@ fn store_end(out: &mut [u8], i: usize, y: u64)
     store_low(out, i, y);
 }
 
-// A byte, 0 past the end.
-fn byte(s: &[u8], i: usize) -> u8
-    ensures { λ r. ⌜ r ≡ getD (now (s .entry)) i 0 ⌝ }
+// Nothing is laid yet.
+pub fn start() -> Pen
+    ensures { λ r. ⌜ r ≡ blank ⌝ }
 {
-    if i < s.len() { s[i] } else { 0 }
-}
-
-// The first o bits of a byte, behind them the low w bits of v, and zeros. Shifted all together, so that the eight bytes are stored as one.
-fn join(b: u8, o: u32, w: u32, v: u64) -> u64
-    requires { ⌜ (o < 8) × (1 ≤ w) × (w ≤ widestPut) ⌝ }
-    ensures { λ r. ⌜ r ≡ joined b o w v ⌝ }
-{
-    let front = (b as u64 >> (8 - o)) << w;
-    let low = (v << (64 - w)) >> (64 - w);
-    (front + low) << (64 - o - w)
-}
-
-// Where eight bytes have room.
-fn put_whole(out: &mut [u8], at: BitPos, w: u32, v: u64) -> BitPos
-    requires { ⌜ (1 ≤ w) × (w ≤ widestPut) × (at .0 + w ≤ mostPosition) ⌝ }
-    requires { ⌜ at .0 / 8 + 8 ≤ length (now out) ⌝ }
-    ensures { λ r. ⌜ Put w (now (out .entry)) (now (out .exit)) (at .0) (r .0) v ⌝ }
-{
-    let p = at.raw();
-    let y = join(out[(p / 8) as usize], p % 8, w, v);
-    store_whole(out, (p / 8) as usize, y);
-    at.after(BitCount::new(w))
-}
-
-// Near the end of the buffer, or past it.
-fn put_end(out: &mut [u8], at: BitPos, w: u32, v: u64) -> BitPos
-    requires { ⌜ (1 ≤ w) × (w ≤ widestPut) × (at .0 + w ≤ mostPosition) ⌝ }
-    ensures { λ r. ⌜ Put w (now (out .entry)) (now (out .exit)) (at .0) (r .0) v ⌝ }
-{
-    let p = at.raw();
-    let b = byte(out, (p / 8) as usize);
-    let y = join(b, p % 8, w, v);
-    store_end(out, (p / 8) as usize, y);
-    at.after(BitCount::new(w))
-}
-
-// Writes a field of w bits, the low bits of v, at any position; past the end of the buffer nothing is stored. Of the bytes that it touches only the first is looked at.
-pub fn put(out: &mut [u8], at: BitPos, w: u32, v: u64) -> BitPos
-    requires { ⌜ (1 ≤ w) × (w ≤ widestPut) ⌝ }
-    requires { ⌜ at .0 + w ≤ mostPosition ⌝ }
-    ensures { λ r. ⌜ Put w (now (out .entry)) (now (out .exit)) (at .0) (r .0) v ⌝ }
-{
-    let p = at.raw();
-    if (p / 8) as usize + 8 <= out.len() {
-        return put_whole(out, at, w, v);
+    Pen {
+        word: 0,
+        held: BitCount::new(0),
+        stored: ByteCount::new(0),
     }
-    put_end(out, at, w, v)
+}
+
+// Open bits and v behind them, n bits together.
+fn join(word: u64, n: u32, v: u64) -> u64
+    requires { ⌜ (1 ≤ n) × (n ≤ 64) ⌝ }
+    ensures { λ r. ⌜ r ≡ joined word n v ⌝ }
+{
+    std::num::wrapping_add_u64(word, v << (64 - n))
+}
+
+// Lays a field of w bits, which hold all of v, behind what the pen has laid. Where eight bytes have room, the bits that are held are stored with it, and those that fill a byte are
+// held no longer. Near the end of the buffer they are held, and not stored before `finish`. Past the end they are counted alone.
+pub fn put(out: &mut [u8], pen: Pen, w: u32, v: u64) -> Pen
+    requires { ⌜ (1 ≤ w) × (w ≤ widestPut) × (v < 2 ^ w) ⌝ }
+    requires { ⌜ reach (now out) pen + w ≤ mostPosition ⌝ }
+    ensures { λ r. ⌜ Put w (now (out .entry)) (now (out .exit)) pen r v ⌝ }
+{
+    let stored = pen.stored;
+    let held = pen.held;
+    let bytes = stored.raw();
+    let n = held.raw() + w;
+    if bytes as usize + 8 <= out.len() {
+        let y = join(pen.word, n, v);
+        store_whole(out, bytes as usize, y);
+        return Pen {
+            word: y << (n / 8 * 8),
+            held: BitCount::new(n % 8),
+            stored: ByteCount::new(bytes + n / 8),
+        };
+    }
+    if 63 < n {
+        return Pen {
+            word: pen.word,
+            held: BitCount::new(n),
+            stored,
+        };
+    }
+    let y = join(pen.word, n, v);
+    Pen {
+        word: y,
+        held: BitCount::new(n),
+        stored,
+    }
+}
+
+// Stores what is held, up to the end of the buffer.
+pub fn finish(out: &mut [u8], pen: Pen)
+    requires { ⌜ place pen ≤ mostPosition ⌝ }
+    ensures { λ _. ⌜ now (out .exit) ≡ setWide (now (out .entry)) (pen .stored .0) (pen .word) ⌝ }
+{
+    let stored = pen.stored;
+    let bytes = stored.raw();
+    store_end(out, bytes as usize, pen.word);
 }

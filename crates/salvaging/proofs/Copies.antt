@@ -1,19 +1,21 @@
 -- Bits that are copied, and an element count: what is laid, and how many bits it takes. Assumes nothing.
-use mathlib.Core.Path.{_≡_, refl, sym, ap, ap₂, _∙_, subst}
-use mathlib.Core.List.{List, [], _∷_, _++_}
-use Prim.Native.Nat.{ℕ, zero, suc, _+_, _-_, _*_, _/_, _%_, _^_, _≤_, _<_}
-use native.Mathlib.Nat.{zero-div}
+use mathlib.Core.Path.{_≡_, refl, sym, ap, _∙_, subst}
+use mathlib.Core.Bool.{Bool}
+use mathlib.Core.List.{List, [], _++_}
+use Prim.Native.Nat.{ℕ, _+_, _-_, _*_, _/_, _%_, _≤_, _<_}
 use native.Mathlib.Omega.{arith}
 use borrow.Author.Tests.{lt-ltb, le-ltb}
-use lib.ListN.{length, replicate, List·getD-eq-default, length-append}
-use Rattle.bits.specs.Language.{Bits, slice, number, bit}
+use lib.ListN.{length}
+use Rattle.bits.specs.Language.{Bits, slice, number, bit, pick}
 use Rattle.bits.specs.Steps.{length-slice}
 use Rattle.bits.specs.View.{Sees, looked}
 use Rattle.bits.specs.Writes.{toBits}
-use Rattle.bits.specs.Lists.{slice-append, binary-slice, bits-number, length-toBits}
+use Rattle.bits.specs.Lists.{slice-append, binary-slice, bits-number}
 use Rattle.bits.specs.Bytes.{bit-lt}
+use Rattle.laying.specs.declared.Pen.{Pen}
 use Rattle.laying.specs.Laying.{Laid}
 use Rattle.demands.specs.Assembly.{countBits}
+use Rattle.salvaging.specs.Lemmas.Keeping.{count-length}
 
 -- ---- bits
 
@@ -38,17 +40,8 @@ unfolding slice
 slice-none b at n e = ap (slice b at) e
 
 -- the same run, under another name for its length
-pub run-is : {n m : ℕ} {t u : List ℕ} {at r : ℕ} (b : Bits) (from : ℕ) → n ≡ m → Laid n t u at r (slice b from n) → Laid m t u at r (slice b from m)
-run-is {t = t} {u} {at} {r} b from e h = subst (λ (k : ℕ). Laid k t u at r (slice b from k)) e h
-
--- behind a payload's end there are zeros
-pub slice-past : (s : List ℕ) (at n : ℕ) → 8 * length s ≤ at → slice (bit s) at n ≡ replicate n 0
-unfolding slice bit
-slice-past s at zero h = refl
-slice-past s at (suc n) h =
-    ap₂ (λ (x : ℕ) (xs : List ℕ). x ∷ xs)
-    (ap (λ (x : ℕ). x / 2 ^ (7 - at % 8) % 2) (List·getD-eq-default s 0 (omega arith)) ∙ ap (λ (x : ℕ). x % 2) (zero-div (2 ^ (7 - at % 8))))
-    (slice-past s (suc at) n (omega arith))
+pub run-is : {n m : ℕ} {t u : List ℕ} {p r : Pen} (b : Bits) (from : ℕ) → n ≡ m → Laid n t u p r (slice b from n) → Laid m t u p r (slice b from m)
+run-is {t = t} {u} {p} {r} b from e h = subst (λ (k : ℕ). Laid k t u p r (slice b from k)) e h
 
 -- ---- an element count
 
@@ -61,10 +54,7 @@ unfolding countBits
 count-long n h = sym (rw (le-ltb n 15 h) refl)
 
 pub short-width : (n : ℕ) → n < 15 → length (countBits n) ≡ 4
-short-width n h = ap length (sym (count-short n h)) ∙ length-toBits 4 n
+short-width n h = count-length n ∙ ap (λ (t : Bool). pick t 4 9) (lt-ltb n 15 h)
 
 pub long-width : (n : ℕ) → 15 ≤ n → length (countBits n) ≡ 9
-long-width n h =
-    let a = length-toBits 4 15 in
-    let b = length-toBits 5 (n - 15) in
-    ap length (sym (count-long n h)) ∙ length-append (toBits 4 15) (toBits 5 (n - 15)) ∙ omega arith
+long-width n h = count-length n ∙ ap (λ (t : Bool). pick t 4 9) (le-ltb n 15 h)

@@ -6,7 +6,8 @@ use native.Mathlib.Omega.{arith}
 use lib.ListN.{length, length-append}
 use Rattle.bits.specs.Language.{slice, bit}
 use Rattle.bits.specs.Steps.{by-order, length-slice}
-use Rattle.laying.specs.Laying.{Laid}
+use Rattle.laying.specs.declared.Pen.{Pen}
+use Rattle.laying.specs.Laying.{Laid, blank}
 use Rattle.laying.proofs.Laws.{laid-bind, laid-is, laid-within}
 use Rattle.demands.specs.Assembly.{countBits}
 use Rattle.reader.specs.declared.Sifted.{Sifted}
@@ -40,10 +41,10 @@ module _ {s : List ℕ} {d : Sifted} (f : Fair s d) where
       omega (arith, a, b, g, h, same, left-length s d, head-most, count-most (d .count - d .drops), runs-few f)
 
   -- laid part by part
-  pub left-laid : {t u v w : List ℕ} {start n p q r kept : ℕ} → start ≡ 0 → n ≡ d .head .0 → kept ≡ d .count - d .drops
-      → Laid n t u start p (slice (bit s) start n) → Laid mostCount u v p q (countBits kept) → Laid mostBits v w q r (runsBy s d) → Laid mostLeft t w 0 r (leftBy s d)
+  pub left-laid : {t u v w : List ℕ} {first n kept : ℕ} {start p q r : Pen} → start ≡ blank → first ≡ 0 → n ≡ d .head .0 → kept ≡ d .count - d .drops
+      → Laid n t u start p (slice (bit s) first n) → Laid mostCount u v p q (countBits kept) → Laid mostBits v w q r (runsBy s d) → Laid mostLeft t w blank r (leftBy s d)
   unfolding leftBy
-  left-laid {t} {u} {start = start} {p = p} a n k head count runs =
-      let whole = run-is (bit s) start n head in
-      let zero = subst (λ (m : ℕ). Laid (d .head .0) t u m p (slice (bit s) m (d .head .0))) a whole in
+  left-laid {t} {u} {first = first} {p = p} b a n k head count runs =
+      let whole = laid-is (ap (λ (m : ℕ). slice (bit s) m (d .head .0)) a) (run-is (bit s) first n head) in
+      let zero = subst (λ (x : Pen). Laid (d .head .0) t u x p (slice (bit s) 0 (d .head .0))) b whole in
       laid-bind (laid-within head-most zero) (laid-bind (laid-is (ap countBits k) count) runs)

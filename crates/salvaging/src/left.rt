@@ -3,13 +3,14 @@ ghost use mathlib.Core.Path.{_≡_};
 ghost use Prim.Native.Nat.{_+_, _-_, _/_, _≤_};
 ghost use lib.ListN.{length};
 ghost use Rattle.bits.specs.Writes.{toBytes};
+ghost use Rattle.oamd.specs.Tables.{mostElements};
 ghost use Rattle.demands.specs.Assembly.{countBits};
-ghost use Rattle.laying.specs.Laying.{Laid, mostPosition};
+ghost use Rattle.laying.specs.Laying.{Laid, blank, mostPosition, reach};
 ghost use Rattle.salvaging.specs.Parts.{mostCount, mostLeft, leftBy, Fair};
 use crate::copying::copy_run;
-use crate::runs::end_of;
 use crate::runs::put_runs;
 use crate::runs::runs_width;
+use laying::Pen;
 use reader::Sifted;
 use units::BitCount;
 use units::BitPos;
@@ -28,14 +29,15 @@ fn count_width(n: u32) -> BitCount
 }
 
 // An element count.
-fn put_count(out: &mut [u8], at: BitPos, n: u32) -> BitPos
-    requires { ⌜ at .0 + mostCount ≤ mostPosition ⌝ }
-    ensures { λ r. ⌜ Laid mostCount (now (out .entry)) (now (out .exit)) (at .0) (r .0) (countBits n) ⌝ }
+fn put_count(out: &mut [u8], pen: Pen, n: u32) -> Pen
+    requires { ⌜ n ≤ mostElements ⌝ }
+    requires { ⌜ reach (now out) pen + mostCount ≤ mostPosition ⌝ }
+    ensures { λ r. ⌜ Laid mostCount (now (out .entry)) (now (out .exit)) pen r (countBits n) ⌝ }
 {
     if n < LONG_COUNT {
-        return laying::put(out, at, 4, n as u64);
+        return laying::put(out, pen, 4, n as u64);
     }
-    let next = laying::put(out, at, 4, LONG_COUNT as u64);
+    let next = laying::put(out, pen, 4, LONG_COUNT as u64);
     laying::put(out, next, 5, (n - LONG_COUNT) as u64)
 }
 
@@ -60,26 +62,24 @@ pub fn left_width(payload: &[u8], found: Sifted) -> BitCount
 }
 
 // Lays them from the buffer's first bit on.
-fn put_left(out: &mut [u8], payload: &[u8], found: Sifted) -> BitPos
+fn put_left(out: &mut [u8], payload: &[u8], found: Sifted) -> Pen
     requires { ⌜ Fair (now payload) found ⌝ }
-    ensures { λ r. ⌜ Laid mostLeft (now (out .entry)) (now (out .exit)) 0 (r .0) (leftBy (now (payload .entry)) found) ⌝ }
+    ensures { λ r. ⌜ Laid mostLeft (now (out .entry)) (now (out .exit)) blank r (leftBy (now (payload .entry)) found) ⌝ }
 {
-    let start = BitPos::new(0);
+    let first = BitPos::new(0);
     let head = found.head;
-    let next = copy_run(payload, start, head.since(start), out, start);
+    let start = laying::start();
+    let next = copy_run(payload, first, head.since(first), out, start);
     let next = put_count(out, next, kept(found));
     put_runs(out, next, payload, found)
 }
 
-// Lays them into a buffer that has room for them and no more; the bits behind them, up to the end of its last byte, are 0, as those behind the payload's end are.
-pub fn fill(out: &mut [u8], payload: &[u8], found: Sifted, whole: BitCount)
+// Lays them into a buffer that has room for them and no more; the bits behind them, up to the end of its last byte, are 0.
+pub fn fill(out: &mut [u8], payload: &[u8], found: Sifted)
     requires { ⌜ Fair (now payload) found ⌝ }
-    requires { ⌜ whole .0 ≡ length (leftBy (now payload) found) ⌝ }
-    requires { ⌜ length (now out) ≡ (whole .0 + 7) / 8 ⌝ }
+    requires { ⌜ length (now out) ≡ (length (leftBy (now payload) found) + 7) / 8 ⌝ }
     ensures { λ _. ⌜ now (out .exit) ≡ toBytes (leftBy (now (payload .entry)) found) ⌝ }
 {
-    let next = put_left(out, payload, found);
-    let pad = whole.bytes().bit_count().minus(whole);
-    let end = end_of(payload);
-    copy_run(payload, end, pad, out, next);
+    let end = put_left(out, payload, found);
+    laying::finish(out, end);
 }

@@ -47,7 +47,7 @@ fn finish(payload: &[u8], found: Sifted, out: &mut [u8]) -> SalvageAnswer
         return answer::refused(bits::number(Refusal::NoFit), bytes as u64, 0);
     }
     let n = bytes as usize;
-    left::fill(&mut out[..n], payload, found, whole);
+    left::fill(&mut out[..n], payload, found);
     answer::accepted(length, found)
 }
 

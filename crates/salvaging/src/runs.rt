@@ -3,9 +3,10 @@ ghost use mathlib.Core.Path.{_≡_};
 ghost use Prim.Native.Nat.{_+_, _*_, _≤_};
 ghost use lib.ListN.{length};
 ghost use Rattle.oamd.specs.Tables.{mostBytes};
-ghost use Rattle.laying.specs.Laying.{Laid, mostPosition};
+ghost use Rattle.laying.specs.Laying.{Laid, mostPosition, reach};
 ghost use Rattle.salvaging.specs.Parts.{mostBits, runsBy, Fair};
 use crate::copying::copy_run;
+use laying::Pen;
 use reader::Sifted;
 use units::BitCount;
 use units::BitPos;
@@ -41,15 +42,15 @@ pub fn runs_width(payload: &[u8], found: Sifted) -> BitCount
 }
 
 // Lays them.
-pub fn put_runs(out: &mut [u8], at: BitPos, payload: &[u8], found: Sifted) -> BitPos
+pub fn put_runs(out: &mut [u8], pen: Pen, payload: &[u8], found: Sifted) -> Pen
     requires { ⌜ Fair (now payload) found ⌝ }
-    requires { ⌜ at .0 + mostBits ≤ mostPosition ⌝ }
-    ensures { λ r. ⌜ Laid mostBits (now (out .entry)) (now (out .exit)) (at .0) (r .0) (runsBy (now (payload .entry)) found) ⌝ }
+    requires { ⌜ reach (now out) pen + mostBits ≤ mostPosition ⌝ }
+    ensures { λ r. ⌜ Laid mostBits (now (out .entry)) (now (out .exit)) pen r (runsBy (now (payload .entry)) found) ⌝ }
 {
     let gone = found.gone;
     let end = end_of(payload);
     let mut from = found.body;
-    let mut next = at;
+    let mut next = pen;
     let mut i: usize = 0;
     while i < found.drops {
         let g = gone[i];

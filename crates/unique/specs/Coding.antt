@@ -9,6 +9,7 @@ use Rattle.coding.proofs.fore as fore
 use Rattle.coding.proofs.bed as bed
 use Rattle.coding.proofs.config as config
 use Rattle.coding.proofs.divergence as divergence
+use Rattle.coding.proofs.field as field
 use Rattle.coding.proofs.front as front
 use Rattle.coding.proofs.head as head
 use Rattle.coding.proofs.lead as lead
@@ -55,6 +56,11 @@ one-bed =
 pub one-tail : OneAnswer tail.ended (λ M. tail.clauses) (λ M. tail.spec) (λ κs a. a) (λ κs a r z. r)
 one-tail =
     by-relation (result-set tail.ended) (λ w. refl) (λ a r. Packs r (tailBits (a .0))) (packed-once _)
+    (λ w κs a r z p. said (λ h. h .packs) (p .holds))
+
+pub one-field : OneAnswer field.ended (λ M. field.clauses) (λ M. field.spec) (λ κs a. a) (λ κs a r z. r)
+one-field =
+    by-relation (result-set field.ended) (λ w. refl) (λ a r. Packs r (toBits (a .0) (a .1 .0))) (packed-once _)
     (λ w κs a r z p. said (λ h. h .packs) (p .holds))
 
 pub one-lead : OneAnswer lead.ended (λ M. lead.clauses) (λ M. lead.spec) (λ κs a. a) (λ κs a r z. r)

@@ -1,9 +1,8 @@
 -- The public functions of record.
 use mathlib.Core.Path.{_≡_, refl, ap}
 use mathlib.Core.Bool.{Bool, true, false}
-use mathlib.Core.List.{List}
 use Prim.Native.Nat.{ℕ, _+_, _*_, _<_, _≤_}
-use base.Stored.{coded-set, codedℕ, codedList}
+use Rattle.unique.specs.Sets.{bytes-set}
 use lib.Dec.{leb}
 use lib.ListN.{length}
 use denote.Ref.{now}
@@ -89,9 +88,6 @@ pub one-eight-at : OneAnswer eight-at.ended (λ M. eight-at.clauses) (λ M. eigh
 one-eight-at = by-equation (result-set eight-at.ended) (λ w. refl) (λ i. leastAt 8 (i .0) (i .1 .0)) (λ w κs a r z p. said (λ h. h .is) (p .holds))
 
 -- ---- what is stored: the bytes that are left in the lent buffer
-
-bytes-set : IsSet (List ℕ)
-bytes-set = coded-set (codedList codedℕ)
 
 pub one-store-scene : OneAnswer store-scene.ended (λ M. store-scene.clauses) (λ M. store-scene.spec) (λ κs a. now (a .0) beside a .1)
     (λ κs a r z. z .0)

@@ -1,4 +1,6 @@
 -- What the definitions give, an answer with the lent buffers, are sets, since each part of it is.
+use mathlib.Core.List.{List}
+use Prim.Native.Nat.{ℕ}
 use base.Stored.{coded-set, codedVia, codedℕ, coded×, codedList}
 use Rattle.oamd.proofs.BatchAnswer as batch-answer
 use Rattle.oamd.proofs.ReadAnswer as read-answer
@@ -7,6 +9,9 @@ use Rattle.oamd.specs.Answer.{Outcome}
 use Rattle.oamd.specs.Batch.{Batched}
 use Rattle.form.specs.Answer.{Written}
 use Rattle.unique.specs.OneAnswer.{_beside_}
+
+pub bytes-set : IsSet (List ℕ)
+bytes-set = coded-set (codedList codedℕ)
 
 pub outcome-set : IsSet Outcome
 outcome-set =

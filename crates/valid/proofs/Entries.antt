@@ -6,10 +6,10 @@ use Prim.Native.Nat.{ℕ, suc, _+_, _-_, _<_, _≤_}
 use native.Mathlib.Nat.{sub-zero}
 use native.Mathlib.Numerals.{add-one}
 use native.Mathlib.Omega.{arith}
-use lib.Dec.{leb, ltb}
+use lib.Dec.{leb, ltb, eqb}
 use lib.ListN.{length, getD, drop, drop-of-length-le}
 use lib.Seq.{drop-cons}
-use borrow.Author.Tests.{lt-ltb, le-ltb, le-leb, lt-leb}
+use borrow.Author.Tests.{eq-eqb, lt-ltb, le-ltb, le-leb, lt-leb}
 use Rattle.bits.specs.Language.{both}
 use Rattle.bits.specs.Steps.{by-order}
 use Rattle.form.specs.Valid.{entriesValid}
@@ -49,3 +49,7 @@ module _ {A : Type 0} {f : Bool → A → Bool} {n : ℕ} {xs : List A} where
   pub whole : {valid : Bool} {i : ℕ} → SoFar f n xs valid i → length xs ≤ i → valid ≡ entriesValid f n xs
   unfolding entriesValid
   whole {valid} {i} before h = sym (both-true valid) ∙ rw (drop-of-length-le xs h) at (before .all)
+
+  -- of an array of m entries
+  pub whole-array : {valid : Bool} {i m : ℕ} → length xs ≡ m → SoFar f n xs valid i → m ≤ i → valid ≡ both (eqb (length xs) m) (entriesValid f n xs)
+  whole-array {m = m} l before h = rw (eq-eqb (length xs) m l) (whole before (omega arith))

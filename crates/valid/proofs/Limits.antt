@@ -1,7 +1,7 @@
 -- A record whose render info is sent: the limits of its bytes, held all at once, and what they do not tell are together the whole test. Assumes nothing.
 use mathlib.Core.Path.{_≡_, refl, sym, _∙_}
 use mathlib.Core.Bool.{Bool, true, false, true≢false}
-use Prim.Native.Nat.{ℕ, _-_}
+use Prim.Native.Nat.{ℕ, _-_, _<_}
 use native.Mathlib.Omega.{arith}
 use lib.Bits.{bitOr, or-zero-l, or-add-and, and-le-r}
 use lib.Dec.{leb, eqb, leb·zero}
@@ -18,11 +18,13 @@ use Rattle.valid.proofs.Entries.{both-assoc, both-true}
 
 -- ---- what `|` and a difference tell
 
+-- a number is 0, or is told from 0
+pub by-zero : {P : Type 0} (v : ℕ) → (v ≡ 0 → P) → (0 < v → eqb v 0 ≡ false → P) → P
+by-zero v f g = by-order v 0 (λ h. f (omega arith)) (λ h. g h (ne-eqb v 0 (λ e. omega arith)))
+
 -- no bit of either is set
 pub or-zero : (a b : ℕ) → eqb (bitOr a b) 0 ≡ both (eqb a 0) (eqb b 0)
-or-zero a b = by-order a 0
-    (λ h. let e : a ≡ 0 = omega arith in rw (e, or-zero-l b))
-    (λ h. rw (ne-eqb (bitOr a b) 0 (λ e. omega (arith, or-add-and a b, and-le-r a b)), ne-eqb a 0 (λ e. omega arith)))
+or-zero a b = by-zero a (λ e. rw (e, or-zero-l b)) (λ h e. rw (e, ne-eqb (bitOr a b) 0 (λ z. omega (arith, or-add-and a b, and-le-r a b))))
 
 -- nothing too much
 pub under : (v most : ℕ) → eqb (v - most) 0 ≡ leb v most
@@ -34,19 +36,23 @@ under v most = by-order v most
 pub or-zeros : (a b c : ℕ) → eqb (bitOr (bitOr a b) c) 0 ≡ both (eqb a 0) (both (eqb b 0) (eqb c 0))
 or-zeros a b c = rw (or-zero (bitOr a b) c, or-zero a b) (both-assoc (eqb a 0) (eqb b 0) (eqb c 0))
 
+-- beside the test that m is 0, nothing else is asked of m
+pub at-zero : (f : ℕ → Bool) (m : ℕ) → both (eqb m 0) (f m) ≡ both (eqb m 0) (f 0)
+at-zero f m = by-zero m (λ e. rw e) (λ h e. rw e)
+
 -- a screen that is not sent
 pub screen-unsent : (n : Screen) → eqb (bitOr (bitOr (n .used) (n .factor)) (n .depth)) 0 ≡ screenValid false n
 unfolding screenValid betweenIf
-screen-unsent n = by-order (n .used) 0
-    (λ h. let e : n .used ≡ 0 = omega arith in rw (or-zeros (n .used) (n .factor) (n .depth), e))
-    (λ h. rw (or-zeros (n .used) (n .factor) (n .depth), ne-eqb (n .used) 0 (λ e. omega arith)))
+screen-unsent n =
+    or-zeros (n .used) (n .factor) (n .depth)
+    ∙ sym (at-zero (λ used. both (betweenIf (set? used) 0 7 (n .factor)) (betweenIf (set? used) 0 3 (n .depth))) (n .used))
 
 -- ---- a test is a limit, and what hangs beside it
 
 record Split (test limit rest : Bool) : Type 0 where
   same : test ≡ both limit rest
 
-both-false : (b : Bool) → both b false ≡ false
+pub both-false : (b : Bool) → both b false ≡ false
 both-false true = refl
 both-false false = refl
 
@@ -74,11 +80,7 @@ limited high v = record { same = rw (leb·zero v) (sym (both-true (leb v high)))
 hung : (on : Bool) (high v : ℕ) → Split (betweenIf on 0 high v) (leb v high) (pick on true (eqb v 0))
 unfolding betweenIf
 hung true high v = limited high v
-hung false high v = record {
-  same = by-order v 0
-      (λ h. let e : v ≡ 0 = omega arith in rw (e, leb·zero high))
-      (λ h. rw (ne-eqb v 0 (λ e. omega arith)) (sym (both-false (leb v high))));
-}
+hung false high v = record { same = by-zero v (λ e. rw (e, leb·zero high)) (λ h e. rw e (sym (both-false (leb v high)))) }
 
 -- two of them
 both-hung : (on : Bool) (a b : ℕ) → both (pick on true (eqb a 0)) (pick on true (eqb b 0)) ≡ pick on true (eqb (bitOr a b) 0)

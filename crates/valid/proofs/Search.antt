@@ -6,6 +6,7 @@ use Prim.Native.Nat.{ℕ, zero, suc, _+_, _-_, _*_, _/_, _%_, _<_, _≤_, min}
 use native.Mathlib.Nat.{sub-zero, mul-add-div-right, div-eq-of-lt, mul-add-mod-self-right, mod-eq-of-lt}
 use native.Mathlib.Numerals.{add-one}
 use native.Mathlib.Omega.{arith}
+use borrow.Author.Needs.{needs}
 use borrow.Author.Tests.{ltb-true, ltb-false}
 use lib.Dec.{ltb}
 use lib.ListN.{getD}
@@ -53,7 +54,7 @@ next-turn blocks t {r} h g = go (ltb (t .block + 1) blocks) refl
 
 module _ {first : ℕ → ℕ → ℕ → ℕ} {blocks n : ℕ} where
   pub none : SoFar first blocks n 0 0 0 0
-  none = record { within = omega arith; place = omega arith; objects = omega arith; turn = omega arith; below = omega arith; rest = rw (sub-zero n) }
+  none = search (sub-zero, needs)
 
   module _ {good : ℕ → ℕ → Bool} (search-is : Search good first) {object block from i : ℕ} (before : SoFar first blocks n object block from i) where
     module _ (h : i < n) {valid : Bool} (e : valid ≡ good i from) where
@@ -63,14 +64,7 @@ module _ {first : ℕ → ℕ → ℕ → ℕ} {blocks n : ℕ} where
           rw (m, search-is .step i (n - (i + 1)) from, e, add-one i)
 
       pub more : {o b : ℕ} → valid ≡ true → NextTurn blocks object block o b → SoFar first blocks n o b (from + recordStride) (i + 1)
-      more {o} {b} v t = record {
-        within = omega arith;
-        place = omega arith;
-        objects = omega arith;
-        turn = omega arith;
-        below = omega arith;
-        rest = sym (next ∙ rw v) ∙ before .rest;
-      }
+      more {o} {b} v t = let left : first (i + 1) (n - (i + 1)) (from + recordStride) ≡ first 0 n 0 = sym (next ∙ rw v) ∙ before .rest in search needs
 
       pub stop : valid ≡ false → i ≡ first 0 n 0
       stop v = sym (next ∙ rw v) ∙ before .rest

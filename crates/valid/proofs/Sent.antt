@@ -2,7 +2,7 @@
 use mathlib.Core.Path.{_≡_, refl, ap, _∙_}
 use mathlib.Core.Bool.{Bool, true, false}
 use mathlib.Core.List.{List}
-use Prim.Native.Nat.{ℕ, _+_, _*_, _<_, _≤_}
+use Prim.Native.Nat.{ℕ, _+_, _*_, _<_}
 use native.Mathlib.Omega.{arith}
 use lib.Dec.{ltb}
 use lib.ListN.{length, getD}
@@ -11,10 +11,9 @@ use Rattle.bits.specs.Language.{pick, both}
 use Rattle.oamd.specs.declared.TrimConfig.{TrimConfig}
 use Rattle.oamd.specs.Tables.{configBytes}
 use Rattle.record.specs.Entries.{count, entry}
-use Rattle.form.specs.Valid.{entriesValid}
 use Rattle.record.specs.Bytes.{bytesAt}
 use Rattle.form.specs.Answer.{configAt, configsAt}
-use Rattle.valid.proofs.Entries.{SoFar, none, turn, whole}
+use Rattle.valid.proofs.Entries.{SoFar, turn}
 
 pub configs-length : (s : List ℕ) (n at : ℕ) → length (configsAt s n at) ≡ n
 unfolding configsAt
@@ -39,19 +38,7 @@ sent : (on : Bool) (i n : ℕ) → i < n → ltb i (pick on n 0) ≡ on
 sent true i n h = lt-ltb i n h
 sent false i n h = le-ltb i 0 (omega arith)
 
--- the entries before place i make the test `valid`
-pub record AllOrNone {A : Type 0} (f : Bool → A → Bool) (on : Bool) (n : ℕ) (xs : List A) (valid : Bool) (i : ℕ) : Type 0 where
-  pub size : length xs ≡ n
-  pub tested : SoFar f (pick on n 0) xs valid i
-
-module _ {A : Type 0} {f : Bool → A → Bool} {on : Bool} {n : ℕ} {xs : List A} where
-  pub untested : length xs ≡ n → AllOrNone f on n xs true 0
-  untested l = record { size = l; tested = none }
-
-  pub one-more : {valid next t : Bool} {i : ℕ} (d x : A) → AllOrNone f on n xs valid i → i < n → getD xs i d ≡ x → t ≡ f on x → next ≡ both valid t
-      → AllOrNone f on n xs next (i + 1)
-  one-more {i = i} d x before h g q e =
-      record { size = before .size; tested = turn d (before .tested) (omega (arith, before .size)) (rw (sent on i n h, g) q) e }
-
-  pub all-of-them : {valid : Bool} {i : ℕ} → AllOrNone f on n xs valid i → n ≤ i → valid ≡ entriesValid f (pick on n 0) xs
-  all-of-them before h = whole (before .tested) (omega (arith, before .size))
+-- one entry more of n, sent or not
+pub one-more : {A : Type 0} {f : Bool → A → Bool} {on : Bool} {n : ℕ} {xs : List A} {valid next t : Bool} {i : ℕ} (d x : A) → length xs ≡ n
+    → SoFar f (pick on n 0) xs valid i → i < n → getD xs i d ≡ x → t ≡ f on x → next ≡ both valid t → SoFar f (pick on n 0) xs next (i + 1)
+one-more {on = on} {n} {i = i} d x l before h g q e = turn d before (omega arith) (rw (sent on i n h, g) q) e

@@ -1,6 +1,6 @@
 // The trim table, out of its bytes: each field by what announces it (5.5.12, Tables 32 to 37).
 ghost use mathlib.Core.Path.{_≡_};
-ghost use Prim.Native.Nat.{_+_, _≤_, _<_};
+ghost use Prim.Native.Nat.{_+_, _*_, _≤_, _<_};
 ghost use lib.Dec.{leb, eqb};
 ghost use lib.ListN.{length};
 ghost use Rattle.bits.specs.Language.{pick};
@@ -118,8 +118,8 @@ fn config_valid(sent: bool, c: TrimConfig) -> bool
     both(bydefault, both(disabled, both(presence, trims)))
 }
 
-// Whether n bytes are 0. They are summed up: most trim tables are absent, and that is told by one test.
-fn zeros(bytes: &[u8], from: usize, n: usize) -> bool
+// Whether n bytes are 0, one by one.
+fn zero_bytes(bytes: &[u8], from: usize, n: usize) -> bool
     requires { ⌜ (from + n ≤ length (now bytes)) × (n ≤ mostTrim) ⌝ }
     ensures { λ r. ⌜ r ≡ eqb (total (now (bytes .entry)) n from) 0 ⌝ }
 {
@@ -130,6 +130,33 @@ fn zeros(bytes: &[u8], from: usize, n: usize) -> bool
         i = i + 1;
     }
     sum == 0
+}
+
+// Whether n times eight bytes are 0, eight at once.
+fn zero_words(bytes: &[u8], from: usize, n: usize) -> bool
+    requires { ⌜ from + 8 * n ≤ length (now bytes) ⌝ }
+    ensures { λ r. ⌜ r ≡ eqb (total (now (bytes .entry)) (8 * n) from) 0 ⌝ }
+{
+    let mut seen: u64 = 0;
+    let mut at = from;
+    let mut i: usize = 0;
+    while i < n {
+        seen = seen | record::eight_at(bytes, at);
+        at = at + 8;
+        i = i + 1;
+    }
+    seen == 0
+}
+
+// Whether n bytes are 0: most trim tables are absent, so that this is what is asked of most.
+fn zeros(bytes: &[u8], from: usize, n: usize) -> bool
+    requires { ⌜ from + n ≤ length (now bytes) ⌝ }
+    ensures { λ r. ⌜ r ≡ eqb (total (now (bytes .entry)) n from) 0 ⌝ }
+{
+    let words = n / 8;
+    let front = zero_words(bytes, from, words);
+    let back = zero_bytes(bytes, from + 8 * words, n % 8);
+    both(front, back)
 }
 
 // The configurations, all sent or none.
@@ -188,8 +215,12 @@ fn table_valid(objects: u8, trim: &[u8]) -> bool
 pub fn trim_valid(objects: u8, trim: &[u8]) -> bool
     ensures { λ r. ⌜ r ≡ (leb (trimNeeded objects) (length (now (trim .entry))) and trimValid objects (trimAt objects (now (trim .entry)))) ⌝ }
 {
-    if trim.len() < TRIM_FIXED + objects as usize {
+    let needed = TRIM_FIXED + objects as usize;
+    if trim.len() < needed {
         return false;
+    }
+    if trim[PRESENT] == 0 {
+        return zeros(trim, PRESENT, needed);
     }
     table_valid(objects, trim)
 }

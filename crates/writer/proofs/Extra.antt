@@ -7,25 +7,25 @@ use native.Mathlib.Omega.{arith}
 use Rattle.bits.specs.Language.{pick, asFlag}
 use Rattle.bits.specs.Writes.{only, toBits, eachBits}
 use Rattle.writer.specs.declared.Groups.{Groups}
+use Rattle.laying.specs.declared.Pen.{Pen}
 use Rattle.laying.specs.Laying.{Laid}
-use Rattle.writer.specs.Parts.{Needed, Inside}
-use Rattle.laying.proofs.Laws.{laid-bind, laid-is, laid-only, laid-value}
+use Rattle.writer.specs.Parts.{extraBits, Needed, Inside}
+use Rattle.laying.proofs.Laws.{laid-bind, laid-only, laid-value}
 use Rattle.oamd.specs.Tables.{recordStride}
 use Rattle.oamd.specs.declared.Scene.{Scene}
 use Rattle.oamd.specs.declared.Divergence.{Divergence}
 use Rattle.oamd.specs.declared.Precise.{Precise}
 use Rattle.oamd.specs.Record.{Record, carries}
-use Rattle.form.specs.Form.{divergenceBits, preciseBits, any, diverges, refines, extendedElementBits, hasExtended}
+use Rattle.form.specs.Form.{divergenceBits, preciseBits, any, extendedElementBits, hasExtended}
 use Rattle.record.specs.Bytes.{sceneAt, divergenceAt, preciseAt, recordAt, recordsAt}
 
-module _ {w : ℕ} {s t : List ℕ} {at r : ℕ} {scene : Scene} {sent : Bool} (bytes : List ℕ) (k : ℕ) where
-  pub divergence-at : {d : Divergence} → scene ≡ sceneAt bytes k → sent ≡ carries scene → d ≡ divergenceAt bytes k
-      → Laid w s t at r (divergenceBits sent d) → Laid w s t at r (divergenceBits (carries (sceneAt bytes k)) (divergenceAt bytes k))
-  divergence-at e f g h = laid-is (ap₂ divergenceBits (f ∙ ap (λ (x : Scene). carries x) e) g) h
+-- one of the two groups' bits, from what was read of the record
+module _ {scene : Scene} {sent first : Bool} (s : List ℕ) (k : ℕ) (e : scene ≡ sceneAt s k) (f : sent ≡ carries scene) where
+  pub divergence-of : {d : Divergence} → first ≡ true → d ≡ divergenceAt s k → divergenceBits sent d ≡ extraBits first (recordAt s k)
+  divergence-of t g = rw (t, f, e, g) refl
 
-  pub precise-at : {d : Precise} → scene ≡ sceneAt bytes k → sent ≡ carries scene → d ≡ preciseAt bytes k
-      → Laid w s t at r (preciseBits sent d) → Laid w s t at r (preciseBits (carries (sceneAt bytes k)) (preciseAt bytes k))
-  precise-at e f g h = laid-is (ap₂ preciseBits (f ∙ ap (λ (x : Scene). carries x) e) g) h
+  pub precise-of : {d : Precise} → first ≡ false → d ≡ preciseAt s k → preciseBits sent d ≡ extraBits first (recordAt s k)
+  precise-of t g = rw (t, f, e, g) refl
 
 -- a flag that is set once some record passed the test, and the records still to come
 module _ (test : Record → Bool) (s : List ℕ) (n i k : ℕ) (seen : Bool) where
@@ -61,7 +61,7 @@ unfolding hasExtended
 extended-there h e = e ∙ ap₂ (λ (x y : Bool). pick x true y) (h .diverges) (h .refines)
 
 -- the two groups, each behind its flag
-pub extended-laid : {w m n o : ℕ} {s t u v z : List ℕ} {at a b c r : ℕ} {rs : List Record} {g : Groups} {one two : ℕ} → Needed rs g
+pub extended-laid : {w m n o : ℕ} {s t u v z : List ℕ} {at a b c r : Pen} {rs : List Record} {g : Groups} {one two : ℕ} → Needed rs g
     → one ≡ asFlag (g .diverges) → two ≡ asFlag (g .refines) → Laid w s t at a (toBits 1 one)
     → Laid m t u a b (only (g .diverges) (eachBits (λ i r. divergenceBits (carries (r .scene)) (r .divergence)) 0 rs)) → Laid n u v b c (toBits 1 two)
     → Laid o v z c r (only (g .refines) (eachBits (λ i r. preciseBits (carries (r .scene)) (r .precise)) 0 rs))

@@ -1,6 +1,6 @@
 -- What stands before the elements, and the timing, are their parts, one behind the other. Assumes nothing.
-use mathlib.Core.Path.{_≡_, ap, _∙_}
-use mathlib.Core.List.{List, _++_, append-assoc}
+use mathlib.Core.Path.{_≡_}
+use mathlib.Core.List.{_++_, append-assoc}
 use Prim.Native.Nat.{ℕ, _-_, _%_}
 use lib.ListN.{take}
 use Rattle.bits.specs.Writes.{toBits, eachBits}

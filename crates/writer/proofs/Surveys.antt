@@ -1,12 +1,13 @@
 -- One pass over the records: each is tested by two tests at once, and what was seen and what is still to come answer for all. Assumes nothing.
 use mathlib.Core.Path.{_≡_, refl, ap, ap₂, sym, subst, _∙_}
-use mathlib.Core.Bool.{Bool, true, false}
+use mathlib.Core.Bool.{Bool, true}
 use mathlib.Core.List.{List, [], _∷_, _++_, append-assoc}
-use Prim.Native.Nat.{ℕ, zero, suc, _+_, _-_, _*_, _%_, _≤_, _<_, min}
+use Prim.Native.Nat.{ℕ, zero, suc, _+_, _-_, _*_, _%_, _≤_, min}
 use native.Mathlib.Nat.{mul-add-mod-self-right, mod-eq-of-lt, mul-le-mul-left}
 use native.Mathlib.Omega.{arith}
 use lib.Dec.{eqb}
 use lib.ListN.{length, take, drop}
+use lib.Seq.{take-append-seam, drop-append-seam}
 use Rattle.bits.specs.Language.{pick}
 use Rattle.bits.specs.Writes.{eachBits}
 use Rattle.oamd.specs.declared.Shares.{Shares}
@@ -16,14 +17,14 @@ use Rattle.oamd.specs.Tables.{recordStride, mostBlocks}
 use Rattle.oamd.specs.Record.{Record}
 use Rattle.form.specs.Valid.{recordCount}
 use Rattle.form.specs.Form.{any, diverges, refines, blockBits, objectDataBits, byObject}
-use Rattle.record.specs.Bytes.{recordAt, recordsAt}
+use Rattle.record.specs.Bytes.{recordsAt}
 use Rattle.record.specs.Laws.{records-count}
 use Rattle.valid.proofs.Search.{SoFar, badFrom, mistimedFrom}
 use Rattle.writer.specs.Most.{mostBlock}
 use Rattle.writer.specs.declared.Found.{Found}
 use Rattle.writer.specs.Parts.{Needed, objectsBits}
 use Rattle.writer.specs.Survey.{blocksBits, Surveyed, Gathered}
-use Rattle.writer.proofs.Records.{take-records, drop-records, records-append}
+use Rattle.writer.proofs.Records.{records-append}
 use Rattle.writer.proofs.Widths.{Counted, wide-is, wide-within}
 
 abbrev pub wrongFrom : Shares → ℕ → Timing → List ℕ → ℕ → ℕ → ℕ → ℕ
@@ -66,28 +67,29 @@ by-object s m zero j k = ap (λ (i : ℕ). blocksBits m (j * m) (recordsAt s i k
 by-object s m (suc n) j k =
     let mine : List Record = recordsAt s m k in
     let theirs : List Record = recordsAt s (n * m) (k + recordStride * m) in
-    let count : suc n * m ≡ m + n * m = omega arith in
-    let first : m + 0 ≡ m = omega arith in
+    let whole : recordsAt s (suc n * m) k ≡ mine ++ theirs =
+    ap (λ (i : ℕ). recordsAt s i k) (let e : suc n * m ≡ m + n * m = omega arith in e) ∙ records-append s m (n * m) k in
+    let long : length mine ≡ m = records-count s m k in
     let next : j * m + m ≡ suc j * m = omega arith in
-    ap (λ (i : ℕ). blocksBits m (j * m) (recordsAt s i k)) count
-    ∙ ap (λ (rs : List Record). blocksBits m (j * m) rs) (records-append s m (n * m) k)
+    ap (λ (rs : List Record). blocksBits m (j * m) rs) whole
     ∙ each-append _ (j * m) mine theirs
     ∙ ap₂ (λ (l : List ℕ) (i : ℕ). l ++ blocksBits m i theirs)
-    (ap (λ (i : ℕ). blocksBits m i mine) (let e : j * m ≡ j * m + 0 = omega arith in e) ∙ within-object m j 0 mine (rw (records-count s m k) (omega arith)))
-    (ap (λ (i : ℕ). j * m + i) (records-count s m k) ∙ next)
+    (ap (λ (i : ℕ). blocksBits m i mine) (let e : j * m ≡ j * m + 0 = omega arith in e) ∙ within-object m j 0 mine (omega arith)) (ap (λ (i : ℕ). j * m + i) long ∙ next)
     ∙ ap (λ (l : List ℕ). objectDataBits mine ++ l) (by-object s m n (suc j) (k + recordStride * m))
     ∙ sym (ap₂ (λ (x y : List Record). objectDataBits x ++ eachBits (λ j rs. objectDataBits rs) (suc j) (byObject m n y))
-    (ap (λ (i : ℕ). take m (recordsAt s i k)) count ∙ take-records s m (n * m) k) (ap (λ (i : ℕ). drop m (recordsAt s i k)) count ∙ drop-records s m (n * m) k))
+    (ap₂ take (sym long) whole ∙ take-append-seam mine theirs) (ap₂ drop (sym long) whole ∙ drop-append-seam mine theirs))
+
+-- and of all of them
+pub as-objects : (s : List ℕ) {n : ℕ} (objects blocks : ℕ) → n ≡ objects * blocks → blocksBits blocks 0 (recordsAt s n 0) ≡ objectsBits s objects blocks
+as-objects s objects blocks e =
+    ap₂ (λ (k i : ℕ). blocksBits blocks k (recordsAt s i 0)) (let z : 0 ≡ 0 * blocks = omega arith in z) e ∙ by-object s blocks objects 0 0
 
 -- of all records: as the form takes them
 module _ (shares : Shares) (frame : ℕ) (p : Programme) (t : Timing) (s : List ℕ) {n : ℕ} {r : Found} where
   pub gathered : Surveyed shares frame t s n r → n ≡ recordCount p t → n ≤ r .seen → t .blocks ≤ mostBlocks → Gathered p t s r
   gathered found e all few =
-      let wide = found .wide all in
-      let is : blocksBits (t .blocks) 0 (recordsAt s n 0) ≡ objectsBits s (p .objects) (t .blocks) =
-      ap₂ (λ (k i : ℕ). blocksBits (t .blocks) k (recordsAt s i 0)) (let z : 0 ≡ 0 * t .blocks = omega arith in z) e ∙ by-object s (t .blocks) (p .objects) 0 0 in
       let most : p .objects * t .blocks ≤ p .objects * mostBlocks = mul-le-mul-left (p .objects) few in
       record {
         needed = subst (λ (i : ℕ). Needed (recordsAt s i 0) (r .groups)) e (found .needed all);
-        wide = wide-is is (wide-within (omega (arith, e, most)) wide);
+        wide = wide-is (as-objects s (p .objects) (t .blocks) e) (wide-within (omega (arith, e, most)) (found .wide all));
       }

@@ -1,10 +1,10 @@
 -- The trim element's fields, from the bytes of the trim table. Assumes nothing.
-use mathlib.Core.Path.{_≡_, refl}
+use mathlib.Core.Path.{_≡_, refl, ap}
 use mathlib.Core.List.{List, [], _++_}
-use Prim.Native.Nat.{ℕ, _+_, _-_, _≤_, _<_}
+use Prim.Native.Nat.{ℕ, zero, suc, _+_, _-_, _≤_, _<_}
 use lib.Dec.{eqb}
-use lib.ListN.{getD}
-use Rattle.bits.specs.Writes.{eachBits}
+use lib.ListN.{length, getD}
+use Rattle.bits.specs.Writes.{toBits, eachBits}
 use Rattle.oamd.specs.declared.TrimConfig.{TrimConfig}
 use Rattle.oamd.specs.Tables.{configBytes}
 use Rattle.form.specs.Form.{hasTrim}
@@ -29,6 +29,12 @@ module _ (f : ℕ → ℕ → List ℕ) (s : List ℕ) (n i k : ℕ) where
   pub bytes-none : n ≤ i → eachBits f i (bytesAt s (n - i) k) ≡ []
   unfolding bytesAt
   bytes-none = steps-none f (bytesAt s) (λ j. refl) n i k
+
+-- one bit for each byte
+pub bits-count : (s : List ℕ) (n i k : ℕ) → length (eachBits (λ obj x. toBits 1 x) i (bytesAt s n k)) ≡ n
+unfolding eachBits bytesAt toBits
+bits-count s zero i k = refl
+bits-count s (suc n) i k = ap suc (bits-count s n (suc i) (k + 1))
 
 pub trim-there : (objects : ℕ) (s : List ℕ) → eqb (getD s 0 0) 1 ≡ hasTrim (trimAt objects s)
 unfolding trimAt

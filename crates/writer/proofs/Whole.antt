@@ -22,14 +22,19 @@ use Rattle.oamd.specs.Trim.{trimNeeded}
 use Rattle.oamd.specs.Payload.{Tables}
 use Rattle.form.specs.Form.{headerBits, objectElementBits, extendedElementBits, trimElementBits, sizeBits, sizeFor, framedBits, elementBits, hasObject, hasExtended, hasTrim, formBits, form}
 use Rattle.form.specs.Valid.{_and_, programmeValid, timingValid, trimValid, recordCount}
-use Rattle.form.specs.Answer.{Written, trimAt, tablesOf, refusedTo, fitted, trimmed, firstRefused, judged, writing}
-use Rattle.laying.specs.Laying.{Laid, Bytes}
-use Rattle.writer.specs.Parts.{objectBits, Inside, Framed, Wide, framed}
+use Rattle.form.specs.Answer.{Written, trimAt, tablesOf, refusedWrite, refusedTo, fitted, trimmed, firstRefused, judged, writing}
+use Rattle.laying.specs.declared.Pen.{Pen}
+use Rattle.laying.specs.Laying.{Laid, blank}
+use Rattle.writer.specs.Parts.{Inside, Framed, Wide, framed}
 use Rattle.writer.specs.Most.{mostHeader, mostForm, mostCounted, mostRecords, mostObjectElement, mostExtendedElement, mostTrimElement}
 use Rattle.laying.proofs.Laws.{laid-bind, laid-is, laid-only}
 
 abbrev pub gives : WriteAnswer → List ℕ → Written
 gives a out = record { answer = a; out = out }
+
+-- a refusal is answered, and the buffer is as it was
+told : {r : WriteAnswer} {n place : ℕ} {w : Written} (out : List ℕ) → r ≡ refusedWrite n place → refusedTo out n place ≡ w → gives r out ≡ w
+told out e h = ap (λ (r : WriteAnswer). gives r out) e ∙ h
 
 element-length : (id n : ℕ) (fields : List ℕ) (on : Bool) → n ≡ 1 + length fields → pick on (framed n) 0 ≡ length (only on (elementBits id fields))
 unfolding elementBits framedBits sizeFor
@@ -62,21 +67,6 @@ all-bits header four first second third a b c whole d e f g h i j k l =
     let x = added c third whole _ _ h (w .1) l (omega arith) in
     (omega (arith, u .0, v .0, w .0, x .0), omega (arith, x .1))
 
--- the object element's fields look at no trim table
-pub object-any : (q : Programme) (t : Timing) (s x : List ℕ) → objectBits q t s ≡ objectElementBits (tablesOf q t s x)
-unfolding objectElementBits
-object-any q t s x = refl
-
-pub object-only : {k : ℕ} {s t : List ℕ} {at r : ℕ} (on : Bool) (p : Programme) (time : Timing) (records x : List ℕ)
-    → Laid k s t at r (only on (elementBits 1 (objectBits p time records))) → Laid k s t at r (only on (elementBits 1 (objectElementBits (tablesOf p time records x))))
-object-only on p time records x h = laid-is (ap (λ (l : List ℕ). only on (elementBits 1 l)) (object-any p time records x)) h
-
-pub inside-object : {k n : ℕ} (p : Programme) (t : Timing) (s x : List ℕ) → Inside k n (objectElementBits (tablesOf p t s x)) → Inside k n (objectBits p t s)
-inside-object {k} {n} p t s x h = subst (λ (l : List ℕ). Inside k n l) (sym (object-any p t s x)) h
-
-pub object-inside : {k n : ℕ} (p : Programme) (t : Timing) (s x : List ℕ) → Inside k n (objectBits p t s) → Inside k n (objectElementBits (tablesOf p t s x))
-object-inside {k} {n} p t s x h = subst (λ (l : List ℕ). Inside k n l) (object-any p t s x) h
-
 module _ (t : Tables) (some there : Bool) (e : some ≡ hasExtended (t .records)) (z : there ≡ hasTrim (t .trim)) where
   pub form-length : {i j k l header object extended trim first second third : ℕ} → Wide l header (headerBits (t .programme)) → Inside i object (objectElementBits t)
       → Inside j extended (extendedElementBits (t .records)) → Inside k trim (trimElementBits (t .trim)) → Framed (hasObject t) object first
@@ -99,15 +89,15 @@ module _ (t : Tables) (some there : Bool) (e : some ≡ hasExtended (t .records)
       let p = length-toBits 4 (asFlag (hasObject t) + asFlag (hasExtended (t .records)) + asFlag (hasTrim (t .trim))) in
       omega (arith, a .same)
 
-  pub form-laid : {h i j k l : ℕ} {s u v w x y : List ℕ} {at p q o n r one two three : ℕ} → at ≡ 0
+  pub form-laid : {h i j k l : ℕ} {s u v w x y : List ℕ} {at p q o n r : Pen} {one two three : ℕ} → at ≡ blank
       → one ≡ asFlag (hasObject t) → two ≡ asFlag some → three ≡ asFlag there
       → Laid h s u at p (headerBits (t .programme)) → Laid i u v p q (toBits 4 (one + two + three))
       → Laid j v w q o (only (hasObject t) (elementBits 1 (objectElementBits t))) → Laid k w x o n (only some (elementBits 5 (extendedElementBits (t .records))))
-      → Laid l x y n r (only there (elementBits 2 (trimElementBits (t .trim)))) → Laid (h + (i + (j + (k + l)))) s y 0 r (formBits t)
+      → Laid l x y n r (only there (elementBits 2 (trimElementBits (t .trim)))) → Laid (h + (i + (j + (k + l)))) s y blank r (formBits t)
   unfolding formBits
   form-laid {h} {i} {j} {k} {l} {s = s} {y = y} {r = r} start f g d header count object extended trim =
       let m = ap₂ (λ (x y : Bool). asFlag (hasObject t) + asFlag x + asFlag y) e z in
-      subst (λ (at : ℕ). Laid (h + (i + (j + (k + l)))) s y at r (formBits t)) start
+      subst (λ (at : Pen). Laid (h + (i + (j + (k + l)))) s y at r (formBits t)) start
       (laid-bind header
       (laid-bind (laid-is (ap (toBits 4) (omega (arith, f, g, d, m))) count)
       (laid-bind object
@@ -119,18 +109,15 @@ module _ (out : List ℕ) (t : Tables) (bytes : ℕ) (e : bytes ≡ (length (for
   unfolding form
   form-bytes = e ∙ sym (length-toBytes (formBits t))
 
-  no-fit : (leb (length (form t)) (length out) ≡ false) → refusedTo out (numberOf NoFit) bytes ≡ fitted out (form t)
+  pub no-room : {r : WriteAnswer} → r ≡ refusedWrite (numberOf NoFit) bytes → length out < bytes → gives r out ≡ fitted out (form t)
   unfolding fitted
-  no-fit h = ap (refusedTo out (numberOf NoFit)) form-bytes ∙ sym (rw h refl)
+  no-room d h = told out (d ∙ ap (refusedWrite (numberOf NoFit)) form-bytes) (sym (rw (lt-leb (length (form t)) (length out) (let f = form-bytes in omega arith)) refl))
 
-  pub no-room : length out < bytes → refusedTo out (numberOf NoFit) bytes ≡ fitted out (form t)
-  no-room h = no-fit (lt-leb (length (form t)) (length out) (let f = form-bytes in omega arith))
-
-  pub too-long : bytes ≤ length out → mostBytes < bytes → refusedTo out (numberOf NoFit) bytes ≡ fitted out (form t)
+  pub too-long : {r : WriteAnswer} → r ≡ refusedWrite (numberOf NoFit) bytes → bytes ≤ length out → mostBytes < bytes → gives r out ≡ fitted out (form t)
   unfolding fitted
-  too-long g h =
-      ap (refusedTo out (numberOf NoFit)) form-bytes
-      ∙ sym (rw (le-leb (length (form t)) (length out) (let f = form-bytes in omega arith), lt-leb (length (form t)) mostBytes (let f = form-bytes in omega arith)) refl)
+  too-long d g h =
+      told out (d ∙ ap (refusedWrite (numberOf NoFit)) form-bytes)
+      (sym (rw (le-leb (length (form t)) (length out) (let f = form-bytes in omega arith), lt-leb (length (form t)) mostBytes (let f = form-bytes in omega arith)) refl))
 
   pub same-size : (u : List ℕ) → bytes ≤ length out → u ≡ form t ++ drop bytes out → length u ≡ length out
   same-size u g l =
@@ -153,36 +140,37 @@ pub record Accepted (p : Programme) (t : Timing) (s : List ℕ) : Type 0 where
   pub whole : recordStride * recordCount p t ≤ length s
 
 module _ (frame : ℕ) (p : Programme) (t : Timing) (s x out : List ℕ) where
-  pub bad-programme : programmeValid p ≡ false → refusedTo out (numberOf NotValid) 0 ≡ writing frame p t s x out
+  pub bad-programme : {r : WriteAnswer} → r ≡ refusedWrite (numberOf NotValid) 0 → programmeValid p ≡ false → gives r out ≡ writing frame p t s x out
   unfolding writing
-  bad-programme a = sym (rw a refl)
+  bad-programme e a = told out e (sym (rw a refl))
 
-  pub bad-timing : programmeValid p ≡ true → timingValid t ≡ false → refusedTo out (numberOf NotValid) 0 ≡ writing frame p t s x out
+  pub bad-timing : {r : WriteAnswer} → r ≡ refusedWrite (numberOf NotValid) 0 → programmeValid p ≡ true → timingValid t ≡ false → gives r out ≡ writing frame p t s x out
   unfolding writing
-  bad-timing a b = sym (rw (a, b) refl)
+  bad-timing e a b = told out e (sym (rw (a, b) refl))
 
-  pub few-bytes : programmeValid p ≡ true → timingValid t ≡ true → length s < recordStride * recordCount p t → refusedTo out (numberOf NotValid) 0 ≡ writing frame p t s x out
+  pub few-bytes : {r : WriteAnswer} → r ≡ refusedWrite (numberOf NotValid) 0 → programmeValid p ≡ true → timingValid t ≡ true → length s < recordStride * recordCount p t
+      → gives r out ≡ writing frame p t s x out
   unfolding writing
-  few-bytes a b c = sym (rw (a, b, lt-leb (recordStride * recordCount p t) (length s) c) refl)
+  few-bytes e a b c = told out e (sym (rw (a, b, lt-leb (recordStride * recordCount p t) (length s) c) refl))
 
   module _ (a : Accepted p t s) {bad : ℕ} (d : bad ≡ firstRefused frame p t s) where
     judging : judged out (tablesOf p t s x) bad (leb (trimNeeded (p .objects)) (length x)) ≡ writing frame p t s x out
     unfolding writing
     judging = sym (rw (a .programme, a .timing, le-leb (recordStride * recordCount p t) (length s) (a .whole), ← d) refl)
 
-    pub bad-record : bad < recordCount p t → refusedTo out (numberOf NotValid) (1 + bad) ≡ writing frame p t s x out
+    pub bad-record : {r : WriteAnswer} → r ≡ refusedWrite (numberOf NotValid) (1 + bad) → bad < recordCount p t → gives r out ≡ writing frame p t s x out
     unfolding judged
-    bad-record h = sym (rw (lt-ltb bad (recordCount p t) h) refl) ∙ judging
+    bad-record e h = told out e (sym (rw (lt-ltb bad (recordCount p t) h) refl) ∙ judging)
 
     module _ (h : recordCount p t ≤ bad) where
       good-records : trimmed out (tablesOf p t s x) (leb (trimNeeded (p .objects)) (length x)) ≡ writing frame p t s x out
       unfolding judged
       good-records = sym (rw (le-ltb bad (recordCount p t) h) refl) ∙ judging
 
-      pub bad-trim : (leb (trimNeeded (p .objects)) (length x) and trimValid (p .objects) (trimAt (p .objects) x)) ≡ false
-          → refusedTo out (numberOf NotValid) (1 + recordCount p t) ≡ writing frame p t s x out
+      pub bad-trim : {r : WriteAnswer} → r ≡ refusedWrite (numberOf NotValid) (1 + recordCount p t)
+          → (leb (trimNeeded (p .objects)) (length x) and trimValid (p .objects) (trimAt (p .objects) x)) ≡ false → gives r out ≡ writing frame p t s x out
       unfolding trimmed
-      bad-trim e = sym (rw e refl) ∙ good-records
+      bad-trim g e = told out g (sym (rw e refl) ∙ good-records)
 
       pub good-trim : (leb (trimNeeded (p .objects)) (length x) and trimValid (p .objects) (trimAt (p .objects) x)) ≡ true
           → fitted out (form (tablesOf p t s x)) ≡ writing frame p t s x out

@@ -4,31 +4,31 @@ ghost use lib.ListN.{take};
 ghost use Rattle.bits.specs.Writes.{eachBits};
 ghost use Rattle.oamd.specs.Tables.{mostBeds};
 ghost use Rattle.form.specs.Form.{bedBits, headerBits};
-ghost use Rattle.laying.specs.Laying.{Laid, mostPosition};
+ghost use Rattle.laying.specs.Laying.{Laid, mostPosition, reach};
 ghost use Rattle.writer.specs.Most.{mostBed, mostBedList, mostHeader};
 ghost use Rattle.writer.specs.Parts.{Wide};
 use crate::putting::put_packed;
+use laying::Pen;
 use oamd::Bed;
 use oamd::Programme;
 use units::BitCount;
-use units::BitPos;
 
-fn put_bed(out: &mut [u8], at: BitPos, bed: Bed) -> BitPos
-    requires { ⌜ at .0 + mostBed ≤ mostPosition ⌝ }
-    ensures { λ r. ⌜ Laid mostBed (now (out .entry)) (now (out .exit)) (at .0) (r .0) (bedBits bed) ⌝ }
+fn put_bed(out: &mut [u8], pen: Pen, bed: Bed) -> Pen
+    requires { ⌜ reach (now out) pen + mostBed ≤ mostPosition ⌝ }
+    ensures { λ r. ⌜ Laid mostBed (now (out .entry)) (now (out .exit)) pen r (bedBits bed) ⌝ }
 {
     let all = coding::bed(bed);
-    put_packed(out, at, all)
+    put_packed(out, pen, all)
 }
 
 // The first n beds.
-fn put_bed_list(out: &mut [u8], at: BitPos, n: u8, beds: [Bed; oamd::MOST_BEDS]) -> BitPos
-    requires { ⌜ at .0 + mostBedList ≤ mostPosition ⌝ }
+fn put_bed_list(out: &mut [u8], pen: Pen, n: u8, beds: [Bed; oamd::MOST_BEDS]) -> Pen
+    requires { ⌜ reach (now out) pen + mostBedList ≤ mostPosition ⌝ }
     requires { ⌜ n ≤ mostBeds ⌝ }
-    ensures { λ r. ⌜ Laid mostBedList (now (out .entry)) (now (out .exit)) (at .0) (r .0) (eachBits (λ i b. bedBits b) 0 (take n beds)) ⌝ }
+    ensures { λ r. ⌜ Laid mostBedList (now (out .entry)) (now (out .exit)) pen r (eachBits (λ i b. bedBits b) 0 (take n beds)) ⌝ }
 {
     let count = n as usize;
-    let mut next = at;
+    let mut next = pen;
     let mut i: usize = 0;
     while i < count {
         let bed = beds[i];
@@ -38,15 +38,15 @@ fn put_bed_list(out: &mut [u8], at: BitPos, n: u8, beds: [Bed; oamd::MOST_BEDS])
     next
 }
 
-pub fn put_header(out: &mut [u8], at: BitPos, programme: Programme) -> BitPos
-    requires { ⌜ at .0 + mostHeader ≤ mostPosition ⌝ }
+pub fn put_header(out: &mut [u8], pen: Pen, programme: Programme) -> Pen
+    requires { ⌜ reach (now out) pen + mostHeader ≤ mostPosition ⌝ }
     requires { ⌜ programme .bedcount ≤ mostBeds ⌝ }
-    ensures { λ r. ⌜ Laid mostHeader (now (out .entry)) (now (out .exit)) (at .0) (r .0) (headerBits programme) ⌝ }
+    ensures { λ r. ⌜ Laid mostHeader (now (out .entry)) (now (out .exit)) pen r (headerBits programme) ⌝ }
 {
     let head = coding::head(programme);
     let tail = coding::tail(programme);
     let beds = programme.beds;
-    let next = put_packed(out, at, head);
+    let next = put_packed(out, pen, head);
     let next = put_bed_list(out, next, programme.bedcount, beds);
     put_packed(out, next, tail)
 }

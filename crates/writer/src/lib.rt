@@ -1,5 +1,5 @@
-// `write`: a programme, a timing, a frame number, record bytes and a trim table to a payload in a lent buffer, in the one form of documents 01 and 02. The parts lay their
-// fields clause by clause of the definition; what does not fit is not stored, so that a part laid over no room gives its length.
+// `write`: a programme, a timing, a frame number, record bytes and a trim table to a payload in a lent buffer, in the one form of documents 01 and 02. How long
+// the form is, is found out first; then its parts are laid, clause by clause of the definition.
 ghost use mathlib.Core.Path.{_≡_};
 ghost use Rattle.bits.specs.Refusals.{numberOf};
 ghost use Rattle.form.specs.Form.{form};

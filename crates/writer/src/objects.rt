@@ -2,50 +2,38 @@
 ghost use Prim.Native.Nat.{_+_, _*_, _≤_};
 ghost use lib.ListN.{length};
 ghost use Rattle.oamd.specs.Tables.{mostBlocks, recordStride};
-ghost use Rattle.form.specs.Form.{objectDataBits};
 ghost use Rattle.record.specs.Bytes.{recordsAt};
-ghost use Rattle.laying.specs.Laying.{Laid, mostPosition};
-ghost use Rattle.writer.specs.Most.{mostObject, mostObjectFields, mostCounted};
-ghost use Rattle.writer.specs.Parts.{objectsBits, objectBits, Blocks};
+ghost use Rattle.laying.specs.Laying.{Laid, mostPosition, reach};
+ghost use Rattle.writer.specs.Most.{mostBlock, mostObjectFields};
+ghost use Rattle.writer.specs.Parts.{objectBits, Blocks};
+ghost use Rattle.writer.specs.Survey.{blocksBits};
 use crate::blocks::put_block;
 use crate::putting::put;
 use crate::timing::put_timing;
+use laying::Pen;
 use oamd::Programme;
 use oamd::Timing;
 use record::scene_at;
-use units::BitPos;
+use valid::record_count;
 
-// The blocks of one object, whose records begin at a byte.
-fn put_object_data(out: &mut [u8], at: BitPos, records: &[u8], from: usize, blocks: usize) -> BitPos
-    requires { ⌜ at .0 + mostObject ≤ mostPosition ⌝ }
-    requires { ⌜ (blocks ≤ mostBlocks) × (from + recordStride * blocks ≤ length (now records)) ⌝ }
-    ensures { λ r. ⌜ Laid mostObject (now (out .entry)) (now (out .exit)) (at .0) (r .0) (objectDataBits (recordsAt (now (records .entry)) blocks from)) ⌝ }
+// The blocks of all objects, one record behind the other.
+fn put_blocks(out: &mut [u8], pen: Pen, records: &[u8], count: usize, blocks: usize) -> Pen
+    requires { ⌜ reach (now out) pen + mostBlock * count ≤ mostPosition ⌝ }
+    requires { ⌜ (recordStride * count ≤ length (now records)) × (count ≤ 255 * blocks) × (blocks ≤ mostBlocks) ⌝ }
+    ensures { λ r. ⌜ Laid (mostBlock * count) (now (out .entry)) (now (out .exit)) pen r (blocksBits blocks 0 (recordsAt (now (records .entry)) count 0)) ⌝ }
 {
-    let mut next = at;
-    let mut k = from;
+    let mut next = pen;
+    let mut block: usize = 0;
+    let mut at: usize = 0;
     let mut i: usize = 0;
-    while i < blocks {
-        let s = scene_at(records, k);
-        next = put_block(i == 0, out, next, s);
-        k = k + oamd::RECORD_STRIDE;
-        i = i + 1;
-    }
-    next
-}
-
-// The objects, one after the other.
-fn put_objects(out: &mut [u8], at: BitPos, records: &[u8], objects: usize, blocks: usize) -> BitPos
-    requires { ⌜ at .0 + mostObject * objects ≤ mostPosition ⌝ }
-    requires { ⌜ (objects ≤ mostCounted) × Blocks objects blocks (now records) ⌝ }
-    ensures { λ r. ⌜ Laid (mostObject * objects) (now (out .entry)) (now (out .exit)) (at .0) (r .0) (objectsBits (now (records .entry)) objects blocks) ⌝ }
-{
-    let step = oamd::RECORD_STRIDE * blocks;
-    let mut next = at;
-    let mut k: usize = 0;
-    let mut i: usize = 0;
-    while i < objects {
-        next = put_object_data(out, next, records, k, blocks);
-        k = k + step;
+    while i < count {
+        let s = scene_at(records, at);
+        next = put_block(block == 0, out, next, s);
+        block = block + 1;
+        if block == blocks {
+            block = 0;
+        }
+        at = at + oamd::RECORD_STRIDE;
         i = i + 1;
     }
     next
@@ -54,22 +42,17 @@ fn put_objects(out: &mut [u8], at: BitPos, records: &[u8], objects: usize, block
 // The flag says that no reserved data is there.
 pub fn put_object_fields(
     out: &mut [u8],
-    at: BitPos,
+    pen: Pen,
     programme: Programme,
     timing: Timing,
     records: &[u8],
-) -> BitPos
-    requires { ⌜ at .0 + mostObjectFields (programme .objects) ≤ mostPosition ⌝ }
+) -> Pen
+    requires { ⌜ reach (now out) pen + mostObjectFields (programme .objects) ≤ mostPosition ⌝ }
     requires { ⌜ Blocks (programme .objects) (timing .blocks) (now records) ⌝ }
-    ensures { λ r. ⌜ Laid (mostObjectFields (programme .objects)) (now (out .entry)) (now (out .exit)) (at .0) (r .0) (objectBits programme timing (now (records .entry))) ⌝ }
+    ensures { λ r. ⌜ Laid (mostObjectFields (programme .objects)) (now (out .entry)) (now (out .exit)) pen r (objectBits programme timing (now (records .entry))) ⌝ }
 {
-    let next = put_timing(out, at, timing);
+    let next = put_timing(out, pen, timing);
     let next = put(out, next, 1, 1);
-    put_objects(
-        out,
-        next,
-        records,
-        programme.objects as usize,
-        timing.blocks as usize,
-    )
+    let count = record_count(programme.objects, timing.blocks);
+    put_blocks(out, next, records, count, timing.blocks as usize)
 }

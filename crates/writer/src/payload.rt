@@ -4,7 +4,7 @@ ghost use Prim.Native.Nat.{_+_, _/_, _≤_};
 ghost use lib.ListN.{length};
 ghost use Rattle.form.specs.Form.{formBits, form};
 ghost use Rattle.form.specs.Answer.{tablesOf};
-ghost use Rattle.laying.specs.Laying.{Laid, mostPosition};
+ghost use Rattle.laying.specs.Laying.{Laid, blank, mostPosition};
 ghost use Rattle.writer.specs.Most.{mostPadding, mostForm};
 ghost use Rattle.writer.specs.Parts.{Framed, Enough, Measured};
 ghost use Rattle.writer.specs.Survey.{Gathered};
@@ -18,16 +18,15 @@ use crate::element::trim_inside;
 use crate::header::header_width;
 use crate::header::put_header;
 use crate::putting::put;
-use crate::putting::put_zeros;
 use crate::sizes::room_of;
 use crate::sizes::size_for;
 use crate::timing::timing_width;
 use bits::as_flag;
 use bits::either;
+use laying::Pen;
 use oamd::Programme;
 use oamd::Timing;
 use units::BitCount;
-use units::BitPos;
 use valid::record_count;
 
 // The bits of an element with n bits inside: id, size, and the bytes that the size counts; 0 for one that is not there.
@@ -83,10 +82,10 @@ fn put_form(
     records: &[u8],
     trim: &[u8],
     m: Measures,
-) -> BitPos
+) -> Pen
     requires { ⌜ Enough programme timing (now records) (now trim) ⌝ }
     requires { ⌜ Measured (tablesOf programme timing (now records) (now trim)) m ⌝ }
-    ensures { λ r. ⌜ Laid mostForm (now (out .entry)) (now (out .exit)) 0 (r .0) (formBits (tablesOf programme timing (now (records .entry)) (now (trim .entry)))) ⌝ }
+    ensures { λ r. ⌜ Laid mostForm (now (out .entry)) (now (out .exit)) blank r (formBits (tablesOf programme timing (now (records .entry)) (now (trim .entry)))) ⌝ }
 {
     let groups = m.groups;
     let some = either(groups.diverges, groups.refines);
@@ -94,7 +93,8 @@ fn put_form(
     let one = as_flag(0 < timing.blocks);
     let two = as_flag(some);
     let three = as_flag(there);
-    let header = put_header(out, BitPos::new(0), programme);
+    let start = laying::start();
+    let header = put_header(out, start, programme);
     let count = put(out, header, 4, one as u32 + two as u32 + three as u32);
     let inside = m.object;
     let object = put_object_element(
@@ -126,8 +126,6 @@ pub fn fill(
     requires { ⌜ length (now out) ≡ (m .whole .0 + 7) / 8 ⌝ }
     ensures { λ _. ⌜ now (out .exit) ≡ form (tablesOf programme timing (now (records .entry)) (now (trim .entry))) ⌝ }
 {
-    let whole = m.whole;
-    let next = put_form(out, programme, timing, records, trim, m);
-    let pad = whole.bytes().bit_count().minus(whole);
-    put_zeros(out, next, pad);
+    let end = put_form(out, programme, timing, records, trim, m);
+    laying::finish(out, end);
 }

@@ -62,7 +62,7 @@ fill-requires c κs =
     let raw = room .before in
     let bytes = raw .before in (
       passed (taken raw) .fair,
-      (bytes .before .left-width .ensures, simp length-take (omega (arith, raw .raw .ensures, bytes .bytes .ensures, room .if2 .left))),
+      simp length-take (omega (arith, raw .raw .ensures, bytes .bytes .ensures, bytes .before .left-width .ensures, room .if2 .left)),
     )
 
 abbrev to-raw : tie.After-slice-known2 → tie.After-raw

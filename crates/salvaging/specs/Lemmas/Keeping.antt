@@ -62,9 +62,9 @@ without-fewer b {at} {e} (one g gs m n x) =
 
 -- ---- the bits of the payload that is left
 
-count-long : (n : ℕ) → length (countBits n) ≡ pick (ltb n 15) 4 9
+pub count-length : (n : ℕ) → length (countBits n) ≡ pick (ltb n 15) 4 9
 unfolding countBits
-count-long n = go (ltb n 15)
+count-length n = go (ltb n 15)
   where
     go : (t : Bool) → length (pick t (toBits 4 n) (toBits 4 15 ++ toBits 5 (n - 15))) ≡ pick t 4 9
     go true = length-toBits 4 n
@@ -72,7 +72,7 @@ count-long n = go (ltb n 15)
 
 -- a smaller count takes no more bits
 count-fewer : (m n : ℕ) → m ≤ n → length (countBits m) ≤ length (countBits n)
-count-fewer m n l = rw (count-long m, count-long n) (by-order 15 m
+count-fewer m n l = rw (count-length m, count-length n) (by-order 15 m
     (λ h. rw (le-ltb m 15 h, le-ltb n 15 (omega arith)) (omega arith))
     (λ h. rw (lt-ltb m 15 h) (go (ltb n 15))))
   where

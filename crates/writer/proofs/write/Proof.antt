@@ -8,19 +8,16 @@ use Prim.Native.Nat.{ℕ, _+_, _*_, _≤_, min}
 use native.Mathlib.Omega.{arith}
 use Rattle.bits.specs.declared.Refusal.the-variants.{NotValid}
 use Rattle.bits.specs.Refusals.{numberOf}
-use Rattle.oamd.specs.declared.WriteAnswer.{WriteAnswer}
-use Rattle.form.specs.Lemmas.Facts.{timing-facts}
-use Rattle.form.specs.Valid.{programmeValid, timingValid, recordCount}
+use Rattle.form.specs.Valid.{programmeValid, timingValid, recordCount, firstBad, firstMistimed}
 use Rattle.form.specs.Answer.{refusedWrite, firstRefused}
 use Rattle.form.specs.Lemmas.Tests.{halves}
 use Rattle.form.specs.Lemmas.Facts.{timing-facts, programme-facts, beds-le}
 use Rattle.oamd.specs.declared.Shares.{Shares}
 use Rattle.oamd.specs.Tables.{mostBlocks}
 use Rattle.oamd.specs.Time.{timeOf}
-use Rattle.form.specs.Valid.{firstBad, firstMistimed}
 use Rattle.record.specs.Bytes.{recordsAt, timesAt}
 use Rattle.writer.proofs.Surveys.{gathered}
-use Rattle.writer.proofs.Whole.{gives, Accepted, bad-programme, bad-timing, few-bytes, bad-record, bad-trim, good-trim}
+use Rattle.writer.proofs.Whole.{Accepted, bad-programme, bad-timing, few-bytes, bad-record, bad-trim, good-trim}
 use Rattle.writer.proofs.write.Statement.{statement}
 use Rattle.writer.proofs.write.Tie as tie
 
@@ -67,39 +64,27 @@ first c =
 returns : tie.Need-returns
 returns c =
     let test = c .before in
-    let a = from-programme (test .before) .args in
-    ap (λ (r : WriteAnswer). gives r (now (a .payload))) (c .refused .ensures)
-    ∙ bad-programme (a .frame) (a .programme) (a .timing) (now (a .records)) (now (a .trim)) (now (a .payload))
-    (sym (test .before .programme-valid .ensures) ∙ not-true _ (test .if1 .taken))
+    bad-programme _ _ _ _ _ _ (c .refused .ensures) (sym (test .before .programme-valid .ensures) ∙ not-true _ (test .if1 .taken))
 
 returns-2 : tie.Need-returns-2
 returns-2 c =
     let test = c .before in
     let timing = test .before in
-    let a = from-timing timing .args in
-    ap (λ (r : WriteAnswer). gives r (now (a .payload))) (c .refused2 .ensures)
-    ∙ bad-timing (a .frame) (a .programme) (a .timing) (now (a .records)) (now (a .trim)) (now (a .payload)) (good-programme (timing .before))
-    (sym (timing .timing-valid .ensures) ∙ not-true _ (test .if2 .taken))
+    bad-timing _ _ _ _ _ _ (c .refused2 .ensures) (good-programme (timing .before)) (sym (timing .timing-valid .ensures) ∙ not-true _ (test .if2 .taken))
 
 returns-3 : tie.Need-returns-3
 returns-3 c =
     let test = c .before in
     let timing = test .before in
     let programme = timing .before .before in
-    let a = from-timing (timing .before) .args in
-    ap (λ (r : WriteAnswer). gives r (now (a .payload))) (c .refused3 .ensures)
-    ∙ few-bytes (a .frame) (a .programme) (a .timing) (now (a .records)) (now (a .trim)) (now (a .payload)) (good-programme programme) (good-timing timing)
-    (omega (arith, counted (programme .before), test .if3 .taken))
+    few-bytes _ _ _ _ _ _ (c .refused3 .ensures) (good-programme programme) (good-timing timing) (omega (arith, counted (programme .before), test .if3 .taken))
 
 returns-4 : tie.Need-returns-4
 returns-4 c =
     let test = c .before in
     let found = test .before .before in
     let bytes = to-bytes found in
-    let a = from-count bytes .args in
-    ap (λ (r : WriteAnswer). gives r (now (a .payload))) (c .refused4 .ensures)
-    ∙ bad-record (a .frame) (a .programme) (a .timing) (now (a .records)) (now (a .trim)) (now (a .payload)) (accepted bytes) (first found)
-    (omega (arith, count-there bytes, test .if4 .taken))
+    bad-record _ _ _ _ _ _ (accepted bytes) (first found) (c .refused4 .ensures) (omega (arith, count-there bytes, test .if4 .taken))
 
 returns-5 : tie.Need-returns-5
 returns-5 c =
@@ -108,10 +93,8 @@ returns-5 c =
     let records = trim .before in
     let found = records .before .before in
     let bytes = to-bytes found in
-    let a = from-count bytes .args in
-    ap (λ (r : WriteAnswer). gives r (now (a .payload))) (c .refused5 .ensures ∙ ap (λ (k : ℕ). refusedWrite (numberOf NotValid) (1 + k)) (count-there bytes))
-    ∙ bad-trim (a .frame) (a .programme) (a .timing) (now (a .records)) (now (a .trim)) (now (a .payload)) (accepted bytes) (first found)
-    (omega (arith, count-there bytes, records .if4 .left)) (sym (trim .trim-valid .ensures) ∙ not-true _ (test .if5 .taken))
+    bad-trim _ _ _ _ _ _ (accepted bytes) (first found) (omega (arith, count-there bytes, records .if4 .left))
+    (c .refused5 .ensures ∙ ap (λ (k : ℕ). refusedWrite (numberOf NotValid) (1 + k)) (count-there bytes)) (sym (trim .trim-valid .ensures) ∙ not-true _ (test .if5 .taken))
 
 survey-requires : tie.Need-survey-requires
 survey-requires c κs =
@@ -158,10 +141,8 @@ returns-6 c =
     let records = trim .before in
     let found = records .before .before in
     let bytes = to-bytes found in
-    let a = from-count bytes .args in
     all .write-form .ensures
-    ∙ good-trim (a .frame) (a .programme) (a .timing) (now (a .records)) (now (a .trim)) (now (a .payload)) (accepted bytes) (first found)
-    (omega (arith, count-there bytes, records .if4 .left)) (sym (trim .trim-valid .ensures) ∙ not-false _ (test .if5 .left))
+    ∙ good-trim _ _ _ _ _ _ (accepted bytes) (first found) (omega (arith, count-there bytes, records .if4 .left)) (sym (trim .trim-valid .ensures) ∙ not-false _ (test .if5 .left))
 
 pub write-spec : {M : Type 1} → statement M
 write-spec =

@@ -6,10 +6,9 @@ use Prim.Native.Nat.{ℕ, _+_, _/_}
 use native.Mathlib.Omega.{arith}
 use mathlib.Core.List.{List, _++_}
 use lib.ListN.{length, drop, length-take}
-use Rattle.oamd.specs.declared.WriteAnswer.{WriteAnswer}
 use Rattle.form.specs.Answer.{tablesOf}
 use Rattle.form.specs.Form.{formBits, form}
-use Rattle.writer.proofs.Whole.{gives, no-room, too-long, same-size, fits}
+use Rattle.writer.proofs.Whole.{no-room, too-long, same-size, fits}
 use Rattle.writer.proofs.write_form.Statement.{statement}
 use Rattle.writer.proofs.write_form.Tie as tie
 
@@ -28,19 +27,13 @@ counted c =
 returns : tie.Need-returns
 returns c =
     let room = c .before in
-    let raw = room .before in
-    let a = from-bytes raw .args in
-    ap (λ (r : WriteAnswer). gives r (now (a .payload))) (c .refused .ensures)
-    ∙ no-room (now (a .payload)) (tablesOf (a .programme) (a .timing) (now (a .records)) (now (a .trim))) _ (counted raw) (room .if1 .taken)
+    no-room _ _ _ (counted (room .before)) (c .refused .ensures) (room .if1 .taken)
 
 returns-2 : tie.Need-returns-2
 returns-2 c =
     let most = c .before in
     let room = most .before in
-    let raw = room .before in
-    let a = from-bytes raw .args in
-    ap (λ (r : WriteAnswer). gives r (now (a .payload))) (c .refused2 .ensures)
-    ∙ too-long (now (a .payload)) (tablesOf (a .programme) (a .timing) (now (a .records)) (now (a .trim))) _ (counted raw) (room .if1 .left) (most .if2 .taken)
+    too-long _ _ _ (counted (room .before)) (c .refused2 .ensures) (room .if1 .left) (most .if2 .taken)
 
 lent : tie.Need-slice-aggregate-fill
 lent c = simp length-take (omega (arith, c .before .before .if1 .left))
@@ -64,18 +57,15 @@ filled c = ap (λ (x : List ℕ). x ++ drop (to-raw c .raw .result) (now (from-b
 
 same-length : tie.Need-same-length
 same-length c =
-    let raw = to-raw c in
     let room = c .before .before .before .before .before in
-    let a = from-bytes raw .args in
-    same-size (now (a .payload)) (tablesOf (a .programme) (a .timing) (now (a .records)) (now (a .trim))) _ (counted raw) _ (room .if1 .left) (filled c)
+    same-size _ _ _ (counted (to-raw c)) _ (room .if1 .left) (filled c)
 
 returns-3 : tie.Need-returns-3
 returns-3 c =
     let raw = to-raw c in
     let most = c .before .before .before .before in
     let room = most .before in
-    let a = from-bytes raw .args in
-    fits (now (a .payload)) (tablesOf (a .programme) (a .timing) (now (a .records)) (now (a .trim))) _ (counted raw) _ _ (sym (raw .raw .ensures)) (room .if1 .left) (most .if2 .left) (filled c)
+    fits _ _ _ (counted raw) _ _ (sym (raw .raw .ensures)) (room .if1 .left) (most .if2 .left) (filled c)
 
 pub write-form-spec : {M : Type 1} → statement M
 write-form-spec =

@@ -1,7 +1,5 @@
 use borrow.Author.Needs.{needs}
 use mathlib.Core.Path.{ap}
-use mathlib.Core.List.{List, _++_}
-use Prim.Native.Nat.{ℕ}
 use Rattle.bits.specs.Writes.{toBits}
 use Rattle.form.specs.Form.{offsetBits}
 use Rattle.coding.proofs.Joins.{_▸_, _▹_, nonempty, packs-is, behind-is}

@@ -17,10 +17,12 @@ returns c =
     let look = laid .before .before .before in
     let raw = look .before in
     let window = raw .before in
-    let a = window .before .before .before .args in
+    let start = window .before .before .before in
+    let a = start .args in
     let s = now (a .s) in
     let seen : look .look .result .v ≡ number (slice (bit s) (a .from .0) (a .w)) =
-    ap (λ (x : Sighted). x .v) (look .look .ensures .0) ∙ seen-in s (a .from .0) _ (a .w) (window .window .ensures .1) (omega (arith, raw .raw .ensures)) (search needs) in
+    ap (λ (x : Sighted). x .v) (look .look .ensures .0)
+    ∙ seen-in s (a .from .0) _ (a .w) (window .window .ensures .1) (omega (arith, raw .raw .ensures)) (omega (arith, start .pre .0)) in
     laid-is (ap (toBits (a .w)) seen ∙ copied s (a .from .0) (a .w)) (laid .put .ensures .laid)
 
 pub copy-field-spec : {M : Type 1} → statement M

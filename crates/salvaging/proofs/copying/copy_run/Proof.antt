@@ -12,7 +12,7 @@ use Rattle.salvaging.proofs.copying.copy_run.Tie as tie
 
 abbrev Inv-loop : tie.InvT-loop
 Inv-loop s out₀ source₀ next₀ rest₀ out source next rest =
-    Rest (rest₀ - rest) out₀ out (next₀ .0) (next .0) (slice (bit s) (source₀ .0) rest₀) (slice (bit s) (source .0) rest)
+    Rest (rest₀ - rest) out₀ out next₀ next (slice (bit s) (source₀ .0) rest₀) (slice (bit s) (source .0) rest)
     × (source .0 + rest ≡ source₀ .0 + rest₀) × (rest ≤ rest₀)
 
 abbrev μ-loop : tie.MeasureT-loop

@@ -14,7 +14,7 @@ use Rattle.salvaging.proofs.runs.put_runs.Tie as tie
 
 abbrev Inv-loop : tie.InvT-loop
 Inv-loop out₀ payload found gone end from₀ next₀ i₀ out from next i =
-    Rest (from .0 - found .body .0) out₀ out (next₀ .0) (next .0) (runsBy payload found) (runsFrom payload found (from .0) i) × Come payload found (from .0) i
+    Rest (from .0 - found .body .0) out₀ out next₀ next (runsBy payload found) (runsFrom payload found (from .0) i) × Come payload found (from .0) i
 
 abbrev μ-loop : tie.MeasureT-loop
 μ-loop out₀ payload found gone end from₀ next₀ i₀ out from next i = found .drops - i

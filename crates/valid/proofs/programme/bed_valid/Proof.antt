@@ -2,6 +2,7 @@ use borrow.Author.Needs.{needs}
 use borrow.Author.Tests.{not-true}
 use Rattle.form.specs.Valid.{bedValid}
 use Rattle.valid.proofs.Zeros.{bed-unused}
+use Rattle.valid.proofs.Joined.{parts}
 use Rattle.valid.proofs.programme.bed_valid.Statement.{statement}
 use Rattle.valid.proofs.programme.bed_valid.Tie as tie
 
@@ -10,15 +11,7 @@ returns c = let test = c .before .before .before in rw (not-true (test .before .
 
 returns-2 : tie.Need-returns-2
 unfolding bedValid
-returns-2 c =
-    let standard-on = c .before in
-    let assignment = standard-on .before in
-    let standard = assignment .before in
-    let lfeonly = standard .before in
-    let most = lfeonly .before in
-    let assigned = most .before in
-    rw (c .both3 .ensures, standard-on .both2 .ensures, assignment .wide-between-if .ensures, standard .between-if2 .ensures, lfeonly .between-if .ensures)
-    (rw (most .most-assignment .ensures, assigned .both .ensures))
+returns-2 c = search parts depth 12
 
 pub bed-valid-spec : {M : Type 1} → statement M
 bed-valid-spec =

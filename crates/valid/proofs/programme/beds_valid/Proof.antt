@@ -1,14 +1,10 @@
 -- `beds_valid` meets its contract: before bed i, the test so far and that of the beds from i on are the whole test (`Entries.antt`). Assumes nothing.
-use mathlib.Core.Path.{_≡_}
 use Prim.Native.Nat.{_-_}
-use native.Mathlib.Omega.{arith}
-use lib.ListN.{length}
 use borrow.Author.Needs.{needs}
-use borrow.Author.Tests.{eq-eqb}
 use Rattle.oamd.specs.Tables.{mostBeds}
 use Rattle.form.specs.Valid.{bedValid}
 use Rattle.valid.specs.Parts.{bedsValid}
-use Rattle.valid.proofs.Entries.{SoFar, none, turn, whole}
+use Rattle.valid.proofs.Entries.{SoFar, none, turn, whole-array}
 use Rattle.valid.proofs.programme.beds_valid.Statement.{statement}
 use Rattle.valid.proofs.programme.beds_valid.Tie as tie
 
@@ -27,9 +23,7 @@ loop-again c =
 
 returns : tie.Need-returns Inv-loop μ-loop
 unfolding bedsValid
-returns c =
-    let all : length (c .before .before .args .t1) ≡ mostBeds = search needs in
-    rw (eq-eqb _ _ all) (whole (c .before .loop .inv) (omega arith))
+returns c = whole-array (search needs) (c .before .loop .inv) (search needs)
 
 pub beds-valid-spec : {M : Type 1} → statement M
 beds-valid-spec =

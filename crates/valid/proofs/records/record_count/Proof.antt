@@ -8,11 +8,5 @@ use Rattle.valid.proofs.records.record_count.Tie as tie
 few : (objects blocks : ℕ) → objects ≤ 255 → objects * blocks ≤ 255 * blocks
 few objects blocks h = mul-le-mul-right blocks h
 
-mul-result : tie.Need-mul-result
-mul-result c = let l = few (c .args .objects) (c .args .blocks) (omega arith) in omega arith
-
-returns : tie.Need-returns
-returns c = (search needs, few _ _ (omega arith))
-
 pub record-count-spec : {M : Type 1} → statement M
-record-count-spec = tie.close (tie.spec mul-result returns)
+record-count-spec = tie.close (tie.spec (λ c. omega (arith, few (c .args .objects) (c .args .blocks) (omega arith))) (λ c. (search needs, few _ _ (omega arith))))

@@ -5,9 +5,6 @@ use Rattle.oamd.specs.Record.{carries}
 use Rattle.valid.proofs.records.valid_at.Statement.{statement}
 use Rattle.valid.proofs.records.valid_at.Tie as tie
 
-sent-valid-requires : tie.Need-sent-valid-requires
-sent-valid-requires c κs = (omega arith, sym (c .before .carries-at .ensures) ∙ c .if1 .taken)
-
 unsent-valid-requires : tie.Need-unsent-valid-requires
 unsent-valid-requires c κs =
     let scene = c .before .before in
@@ -31,7 +28,7 @@ valid-at-spec =
     tie.close
     (tie.spec
     (λ c κs. search needs)
-    sent-valid-requires
+    (λ c κs. (omega arith, sym (c .before .carries-at .ensures) ∙ c .if1 .taken))
     (λ c. search needs)
     (λ c κs. search needs)
     (λ c κs. search needs)

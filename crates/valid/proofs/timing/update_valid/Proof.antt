@@ -2,6 +2,7 @@ use borrow.Author.Needs.{needs}
 use borrow.Author.Tests.{not-true}
 use Rattle.form.specs.Valid.{updateValid}
 use Rattle.valid.proofs.Zeros.{update-unused}
+use Rattle.valid.proofs.Joined.{parts}
 use Rattle.valid.proofs.timing.update_valid.Statement.{statement}
 use Rattle.valid.proofs.timing.update_valid.Tie as tie
 
@@ -13,18 +14,7 @@ returns c =
 
 returns-2 : tie.Need-returns-2
 unfolding updateValid
-returns-2 c =
-    let found-on = c .before in
-    let left-raw = found-on .before in
-    let found-raw = left-raw .before in
-    let ramped = found-raw .before in
-    let ramp-raw = ramped .before in
-    let started = ramp-raw .before in
-    let start-raw = started .before in
-    let left = start-raw .before in
-    let found = left .before in
-    rw (c .both2 .ensures, found-on .both .ensures, left-raw .raw6 .ensures, found-raw .raw5 .ensures, ramped .wide-between-if2 .ensures)
-    (rw (ramp-raw .raw4 .ensures, started .wide-between-if .ensures, start-raw .raw3 .ensures, left .offset-if .ensures, found .offset-of .ensures))
+returns-2 c = search parts depth 12
 
 pub update-valid-spec : {M : Type 1} → statement M
 update-valid-spec =

@@ -1,14 +1,10 @@
 -- `updates_valid` meets its contract: before update i, the test so far and that of the updates from i on are the whole test (`Entries.antt`). Assumes nothing.
-use mathlib.Core.Path.{_≡_}
 use Prim.Native.Nat.{_-_}
-use native.Mathlib.Omega.{arith}
-use lib.ListN.{length}
 use borrow.Author.Needs.{needs}
-use borrow.Author.Tests.{eq-eqb}
 use Rattle.oamd.specs.Tables.{mostBlocks}
 use Rattle.form.specs.Valid.{updateValid}
 use Rattle.valid.specs.Parts.{updatesValid}
-use Rattle.valid.proofs.Entries.{SoFar, none, turn, whole}
+use Rattle.valid.proofs.Entries.{SoFar, none, turn, whole-array}
 use Rattle.valid.proofs.timing.updates_valid.Statement.{statement}
 use Rattle.valid.proofs.timing.updates_valid.Tie as tie
 
@@ -27,9 +23,7 @@ loop-again c =
 
 returns : tie.Need-returns Inv-loop μ-loop
 unfolding updatesValid
-returns c =
-    let all : length (c .before .before .args .t2) ≡ mostBlocks = search needs in
-    rw (eq-eqb _ _ all) (whole (c .before .loop .inv) (omega arith))
+returns c = whole-array (search needs) (c .before .loop .inv) (search needs)
 
 pub updates-valid-spec : {M : Type 1} → statement M
 updates-valid-spec =

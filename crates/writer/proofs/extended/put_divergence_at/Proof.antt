@@ -1,6 +1,7 @@
 use borrow.Author.Needs.{needs}
-use Rattle.laying.proofs.Laws.{laid-length}
-use Rattle.writer.proofs.Extra.{divergence-at}
+use mathlib.Core.Path.{refl}
+use Rattle.laying.proofs.Laws.{laid-is}
+use Rattle.writer.proofs.Extra.{divergence-of}
 use Rattle.writer.proofs.extended.put_divergence_at.Statement.{statement}
 use Rattle.writer.proofs.extended.put_divergence_at.Tie as tie
 
@@ -9,10 +10,9 @@ returns c =
     let laid = c .before .before in
     let found = laid .before .before in
     let sent = found .before in
-    let scene = sent .before in
-    let there = scene .scene-at .ensures in
+    let there = sent .before .scene-at .ensures in
     let here = found .divergence-at .ensures in
-    divergence-at _ _ (there .0 (search needs)) (sent .carries .ensures) (here .0 (search needs)) (laid .put-divergence .ensures)
+    laid-is (divergence-of _ _ (there .0 (search needs)) (sent .carries .ensures) refl (here .0 (search needs))) (laid .put-divergence .ensures)
 
 pub put-divergence-at-spec : {M : Type 1} → statement M
 put-divergence-at-spec =
@@ -22,5 +22,5 @@ put-divergence-at-spec =
     (λ c κs. search needs)
     (λ c κs. search needs)
     (λ c κs. search needs)
-    (λ c. laid-length (returns c))
+    (λ c. search needs)
     returns)

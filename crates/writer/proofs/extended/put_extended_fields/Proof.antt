@@ -1,8 +1,18 @@
 use borrow.Author.Needs.{needs}
+use native.Mathlib.Omega.{arith}
 use Rattle.laying.proofs.Laws.{laid-length}
 use Rattle.writer.proofs.Extra.{extended-laid}
 use Rattle.writer.proofs.extended.put_extended_fields.Statement.{statement}
 use Rattle.writer.proofs.extended.put_extended_fields.Tie as tie
+
+-- the last of the four, of which the search would see too much
+put-extras-if-requires-2 : tie.Need-put-extras-if-requires-2
+put-extras-if-requires-2 c κs =
+    let second = c .before .before .before in
+    let divergences = second .before .before .before .before in
+    let first = divergences .before .before .before .before in
+    let start = first .before .before .before .before .before .before in
+    (omega (arith, second .put2 .ensures .most, divergences .put-extras-if .ensures .most, first .put .ensures .most, start .pre .0), start .pre .1 .0)
 
 returns : tie.Need-returns
 returns c =
@@ -27,6 +37,6 @@ put-extended-fields-spec =
     (λ c κs. search needs)
     (λ c. search needs)
     (λ c κs. search needs)
-    (λ c κs. search needs)
+    put-extras-if-requires-2
     (λ c. laid-length (returns c))
     returns)

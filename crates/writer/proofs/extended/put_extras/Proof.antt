@@ -16,7 +16,7 @@ use Rattle.writer.proofs.extended.put_extras.Tie as tie
 
 abbrev Inv-loop : tie.InvT-loop
 Inv-loop first out₀ records n next₀ k₀ i₀ out next k i =
-    Rest (mostExtra * i) out₀ out (next₀ .0) (next .0) (extrasBits first records n) (eachBits (λ j r. extraBits first r) i (recordsAt records (n - i) k))
+    Rest (mostExtra * i) out₀ out next₀ next (extrasBits first records n) (eachBits (λ j r. extraBits first r) i (recordsAt records (n - i) k))
     × (i ≤ n) × (k ≡ recordStride * i)
 
 abbrev μ-loop : tie.MeasureT-loop
@@ -27,9 +27,6 @@ loop-again c =
     let laid = c .before .before in
     let h = laid .before .before .before .loop in
     (rest-step (omega arith) (records-more _ _ _ (h .i) _ (search needs)) (h .inv .0) (laid .put-extra-at .ensures), search needs, search needs)
-
-returns : tie.Need-returns Inv-loop μ-loop
-returns c = rest-end (omega arith) (records-none _ _ _ _ _ (omega arith)) (c .before .loop .inv .0)
 
 pub put-extras-spec : {M : Type 1} → statement M
 put-extras-spec =
@@ -44,4 +41,4 @@ put-extras-spec =
     (λ c. search needs)
     loop-again
     (λ c. search needs)
-    returns)
+    (λ c. rest-end (omega arith) (records-none _ _ _ _ _ (omega arith)) (c .before .loop .inv .0)))

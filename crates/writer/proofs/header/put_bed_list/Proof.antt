@@ -14,7 +14,7 @@ use Rattle.writer.proofs.header.put_bed_list.Tie as tie
 
 abbrev Inv-loop : tie.InvT-loop
 Inv-loop out₀ n beds count next₀ i₀ out next i =
-    Rest (mostBed * i) out₀ out (next₀ .0) (next .0) (eachBits (λ j b. bedBits b) 0 (take n beds)) (eachBits (λ j b. bedBits b) i (take (n - i) (drop i beds)))
+    Rest (mostBed * i) out₀ out next₀ next (eachBits (λ j b. bedBits b) 0 (take n beds)) (eachBits (λ j b. bedBits b) i (take (n - i) (drop i beds)))
     × (i ≤ count)
 
 abbrev μ-loop : tie.MeasureT-loop
@@ -23,11 +23,9 @@ abbrev μ-loop : tie.MeasureT-loop
 loop-again : tie.Need-loop-again Inv-loop μ-loop
 loop-again c =
     let laid = c .before .before in
-    let h = laid .before .before .before .before .loop in
-    (rest-step (omega arith) (each-more _ _ _ (h .i) _ (search needs) (search needs)) (h .inv .0) (laid .put-bed .ensures), search needs)
-
-returns : tie.Need-returns Inv-loop μ-loop
-returns c = rest-end (omega arith) (each-none _ _ _ _ (omega arith)) (c .before .loop .inv .0)
+    let h = laid .before .before .before .before in
+    let start = h .before .before in
+    (rest-step (omega arith) (each-more _ _ _ (h .loop .i) _ (search needs) (omega (arith, start .pre .1, start .good))) (h .loop .inv .0) (laid .put-bed .ensures), search needs)
 
 pub put-bed-list-spec : {M : Type 1} → statement M
 put-bed-list-spec =
@@ -43,4 +41,4 @@ put-bed-list-spec =
     (λ c. search needs)
     loop-again
     (λ c. search needs)
-    returns)
+    (λ c. rest-end (omega arith) (each-none _ _ _ _ (omega arith)) (c .before .loop .inv .0)))

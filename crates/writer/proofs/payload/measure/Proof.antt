@@ -54,17 +54,11 @@ element-bits-requires-2 c κs =
     let inside = extended .extended-inside .ensures in
     omega (arith, inside .same, inside .most, count .record-count .ensures, start count .pre .0 .blocks)
 
-trim-there-to-read : tie.Need-shared-slice-read-element-bits
-trim-there-to-read c = omega (arith, start (counted (c .before .before .before .before .before .before .before)) .pre .0 .trim)
-
 element-bits-requires-3 : tie.Need-element-bits-requires-3
 element-bits-requires-3 c κs =
     let trims = c .before .before .before .before .before in
     let inside = trims .trim-inside .ensures in
     omega (arith, inside .same, inside .most, start (counted (trims .before .before)) .good)
-
-header-width-requires : tie.Need-header-width-requires
-header-width-requires c κs = start (counted (c .before .before .before .before .before .before .before .before)) .pre .0 .beds
 
 returns : tie.Need-returns
 returns c =
@@ -124,9 +118,9 @@ measure-spec =
     element-bits-requires
     (λ c κs. search needs)
     element-bits-requires-2
-    trim-there-to-read
+    (λ c. omega (arith, start (counted (c .before .before .before .before .before .before .before)) .pre .0 .trim))
     element-bits-requires-3
-    header-width-requires
+    (λ c κs. start (counted (c .before .before .before .before .before .before .before .before)) .pre .0 .beds)
     (λ c κs. search needs)
     (λ c κs. search needs)
     (λ c κs. search needs)

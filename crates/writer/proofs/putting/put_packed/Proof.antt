@@ -1,6 +1,6 @@
 use borrow.Author.Needs.{needs}
-use mathlib.Core.Path.{ap}
-use Prim.Native.Nat.{ℕ}
+use mathlib.Core.Path.{sym, ap, subst}
+use Prim.Native.Nat.{ℕ, _^_, _<_}
 use native.Mathlib.Omega.{arith}
 use Rattle.bits.specs.Writes.{toBits}
 use Rattle.laying.proofs.Laws.{laid-length, laid-within, laid-is}
@@ -14,11 +14,19 @@ returns c =
     let start = raw .before .before .before .before in
     laid-within (omega (arith, raw .raw .ensures)) (laid-is (ap (λ (w : ℕ). toBits w (start .args .packed .value)) (raw .raw .ensures)) (laid .put .ensures .laid))
 
+put-requires : tie.Need-put-requires
+put-requires c κs =
+    let start = c .before .before .before .before in
+    let width = c .raw .ensures in (
+      (omega (arith, width, start .pre), omega (arith, width, start .pre), subst (λ (w : ℕ). start .args .packed .value < 2 ^ w) (sym width) (start .pre .0 .2)),
+      omega (arith, width, start .pre),
+    )
+
 pub put-packed-spec : {M : Type 1} → statement M
 put-packed-spec =
     tie.close
     (tie.spec
     (λ c κs. search needs)
-    (λ c κs. search needs)
+    put-requires
     (λ c. laid-length (returns c))
     returns)

@@ -1,15 +1,13 @@
 -- `survey` meets its contract: what was seen and what is still to come answer for all (`Surveys.antt`). Assumes nothing.
 use mathlib.Core.Path.{_≡_, ap, ap₂, sym, _∙_}
-use mathlib.Core.Bool.{true}
-use Prim.Native.Nat.{ℕ, _+_, _-_, _*_, _/_, _<_, _≤_}
+use Prim.Native.Nat.{ℕ, _-_, _/_, _<_}
 use native.Mathlib.Nat.{sub-zero}
 use native.Mathlib.Omega.{arith}
 use borrow.Author.Needs.{needs}
 use borrow.Author.Tests.{not-true, not-false}
 use lib.Dec.{eqb, ltb}
-use lib.ListN.{length}
 use Rattle.bits.specs.Language.{both}
-use Rattle.oamd.specs.Tables.{mostBlocks, recordStride}
+use Rattle.oamd.specs.Tables.{mostBlocks}
 use Rattle.oamd.specs.declared.Scene.{Scene}
 use Rattle.oamd.specs.declared.Divergence.{Divergence}
 use Rattle.oamd.specs.declared.Precise.{Precise}
@@ -53,6 +51,10 @@ tested c = c .before .before .before .before .before
 abbrev asked : tie.In-loop Inv-loop μ-loop → tie.Start Inv-loop μ-loop
 asked c = c .before .before .before .before .before .before
 
+-- it is one of those asked for
+some : (c : tie.In-loop Inv-loop μ-loop) → c .before .loop .i < asked c .args .count
+some c = search needs
+
 -- its block is one of eight
 block : (c : tie.In-loop Inv-loop μ-loop) → c .before .loop .turn .block < mostBlocks
 block c = omega (arith, c .before .loop .inv .search-so-far .below, asked c .pre .1, asked c .pre .2)
@@ -78,34 +80,14 @@ returns c =
     let here = inside (tested (test .before)) in
     let so-far = here .before .loop .inv .search-so-far in
     let at-it = stop (both-search (bad-search _ _ _) (mistimed-search _ _ _)) so-far (search needs) (judged (test .before)) (not-true _ (test .if1 .taken)) in
-    let few : here .before .loop .i < asked here .args .count = search needs in
     record {
       seen = c .broken .ensures ∙ at-it;
-      needed = λ e. absurd (omega (arith, e, c .broken .ensures, few));
-      wide = λ e. absurd (omega (arith, e, c .broken .ensures, few));
+      needed = λ e. absurd (omega (arith, e, c .broken .ensures, some here));
+      wide = λ e. absurd (omega (arith, e, c .broken .ensures, some here));
     }
 
 abbrev from-sum : tie.After-plus Inv-loop μ-loop → tie.In-loop Inv-loop μ-loop
 from-sum c = inside (tested (c .before .before .before .before .before .before .before .before .before .before .before))
-
-add-at : tie.Need-add-at Inv-loop μ-loop
-add-at c =
-    let here = from-sum (c .before) in
-    let so-far = here .before .loop .inv .search-so-far in
-    let some : here .before .loop .i < asked here .args .count = search needs in
-    omega (arith, so-far .place, some, asked here .pre .1, asked here .pre .2)
-
-add-i : tie.Need-add-i Inv-loop μ-loop
-add-i c =
-    let here = from-sum (c .before) in
-    let some : here .before .loop .i < asked here .args .count = search needs in
-    omega (arith, some, asked here .pre .1, asked here .pre .2)
-
-loop-less : tie.Need-loop-less Inv-loop μ-loop
-loop-less c =
-    let here = from-sum (c .before) in
-    let some : here .before .loop .i < asked here .args .count = search needs in
-    omega (arith, some)
 
 loop-again : tie.Need-loop-again Inv-loop μ-loop
 loop-again c =
@@ -120,28 +102,27 @@ loop-again c =
     let here = inside (tested (test .before)) in
     let h = here .before .loop in
     let so-far = h .inv .search-so-far in
-    let some : h .i < asked here .args .count = search needs in
-    let d = ap (λ (x : Divergence). eqb (x .used) 1) (divergence .divergence-at .ensures .0 (omega (arith, so-far .place, some, asked here .pre .0))) in
-    let p = ap (λ (x : Precise). ltb 0 (x .presence)) (precise .precise-at .ensures .0 (omega (arith, so-far .place, some, asked here .pre .0))) in
-    let turn = block-of (h .turn .object) (h .turn .block) (asked here .args .t .blocks) (h .i) (so-far .turn) (omega (arith, so-far .below, some, asked here .pre .1)) in
+    let more-left = some here in
+    let d = ap (λ (x : Divergence). eqb (x .used) 1) (divergence .divergence-at .ensures .0 (omega (arith, so-far .place, more-left, asked here .pre .0))) in
+    let p = ap (λ (x : Precise). ltb 0 (x .presence)) (precise .precise-at .ensures .0 (omega (arith, so-far .place, more-left, asked here .pre .0))) in
+    let turn = block-of (h .turn .object) (h .turn .block) (asked here .args .t .blocks) (h .i) (so-far .turn) (omega (arith, so-far .below, more-left, asked here .pre .1)) in
     let b =
     wide-is
-    (ap (λ (x : Scene). blockBits (eqb (h .turn .block) 0) x) (scene .scene-at .ensures .0 (omega (arith, so-far .place, some, asked here .pre .0)))
+    (ap (λ (x : Scene). blockBits (eqb (h .turn .block) 0) x) (scene .scene-at .ensures .0 (omega (arith, so-far .place, more-left, asked here .pre .0)))
     ∙ ap (λ (k : ℕ). blockBits (eqb k 0) (sceneAt (now (asked here .args .records)) (h .at))) (sym turn)) (bits .block-width .ensures) in
-    let turned = next-turn _ (h .turn) (omega (arith, so-far .below, some, asked here .pre .1)) (c .next-turn .ensures) in
+    let turned = next-turn _ (h .turn) (omega (arith, so-far .below, more-left, asked here .pre .1)) (c .next-turn .ensures) in
     record {
       search-so-far = more (both-search (bad-search _ _ _) (mistimed-search _ _ _)) so-far (search needs) (judged (test .before)) (not-false _ (test .if1 .left)) turned;
       one-so-far = any-more diverges _ _ (h .i) _ (h .diverges) _ _ (search needs) d (first .either .ensures) ∙ h .inv .one-so-far;
       other-so-far = any-more refines _ _ (h .i) _ (h .refines) _ _ (search needs) p (second .either2 .ensures) ∙ h .inv .other-so-far;
-      bits-so-far = counted-step (omega arith) (omega (arith, some, asked here .pre .1, asked here .pre .2)) (records-more _ _ _ (h .i) _ some) (h .inv .bits-so-far) b (sum .plus .ensures);
+      bits-so-far = counted-step (omega arith) (omega (arith, more-left, asked here .pre .1, asked here .pre .2)) (records-more _ _ _ (h .i) _ more-left) (h .inv .bits-so-far) b (sum .plus .ensures);
     }
 
 next-turn-requires : tie.Need-next-turn-requires Inv-loop μ-loop
 next-turn-requires c κs =
     let here = from-sum c in
     let so-far = here .before .loop .inv .search-so-far in
-    let some : here .before .loop .i < asked here .args .count = search needs in
-    (omega (arith, so-far .objects, some, asked here .pre .1, asked here .pre .2), omega (arith, so-far .below, some, asked here .pre .1))
+    (omega (arith, so-far .objects, some here, asked here .pre), omega (arith, so-far .below, some here, asked here .pre))
 
 returns-2 : tie.Need-returns-2 Inv-loop μ-loop
 returns-2 c =
@@ -183,8 +164,8 @@ survey-spec =
     (λ c κs. search needs)
     (λ c κs. search needs)
     next-turn-requires
-    add-at
-    add-i
-    loop-less
+    (λ c. let here = from-sum (c .before) in omega (arith, here .before .loop .inv .search-so-far .place, some here, asked here .pre))
+    (λ c. let here = from-sum (c .before) in omega (arith, some here, asked here .pre))
+    (λ c. omega (arith, some (from-sum (c .before))))
     loop-again
     returns-2)

@@ -1,14 +1,7 @@
 use borrow.Author.Needs.{needs}
-use Rattle.laying.proofs.Laws.{laid-length}
 use Rattle.writer.proofs.Widths.{packed-laid}
 use Rattle.writer.proofs.timing.put_update.Statement.{statement}
 use Rattle.writer.proofs.timing.put_update.Tie as tie
 
-returns : tie.Need-returns
-returns c =
-    let laid = c .before .before in
-    let all = laid .before .before in
-    packed-laid (all .update .ensures) (laid .put-packed .ensures)
-
 pub put-update-spec : {M : Type 1} → statement M
-put-update-spec = tie.close (tie.spec (λ c κs. search needs) (λ c κs. search needs) (λ c. laid-length (returns c)) returns)
+put-update-spec = tie.close (tie.spec (λ c κs. search needs) (λ c κs. search needs) (λ c. search needs) (λ c. search packed-laid))

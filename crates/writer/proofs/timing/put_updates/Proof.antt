@@ -15,7 +15,7 @@ use Rattle.writer.proofs.timing.put_updates.Tie as tie
 
 abbrev Inv-loop : tie.InvT-loop
 Inv-loop out₀ n updates count next₀ i₀ out next i =
-    Rest (mostUpdate * i) out₀ out (next₀ .0) (next .0) (eachBits (λ j u. updateBits (codedUpdate u)) 0 (take n updates))
+    Rest (mostUpdate * i) out₀ out next₀ next (eachBits (λ j u. updateBits (codedUpdate u)) 0 (take n updates))
     (eachBits (λ j u. updateBits (codedUpdate u)) i (take (n - i) (drop i updates)))
     × (i ≤ count)
 
@@ -25,11 +25,9 @@ abbrev μ-loop : tie.MeasureT-loop
 loop-again : tie.Need-loop-again Inv-loop μ-loop
 loop-again c =
     let laid = c .before .before in
-    let h = laid .before .before .before .before .loop in
-    (rest-step (omega arith) (each-more _ _ _ (h .i) _ (search needs) (search needs)) (h .inv .0) (laid .put-update .ensures), search needs)
-
-returns : tie.Need-returns Inv-loop μ-loop
-returns c = rest-end (omega arith) (each-none _ _ _ _ (omega arith)) (c .before .loop .inv .0)
+    let h = laid .before .before .before .before in
+    let start = h .before .before in
+    (rest-step (omega arith) (each-more _ _ _ (h .loop .i) _ (search needs) (omega (arith, start .pre .1, start .good))) (h .loop .inv .0) (laid .put-update .ensures), search needs)
 
 pub put-updates-spec : {M : Type 1} → statement M
 put-updates-spec =
@@ -45,4 +43,4 @@ put-updates-spec =
     (λ c. search needs)
     loop-again
     (λ c. search needs)
-    returns)
+    (λ c. rest-end (omega arith) (each-none _ _ _ _ (omega arith)) (c .before .loop .inv .0)))

@@ -1,14 +1,7 @@
 use borrow.Author.Needs.{needs}
-use Rattle.laying.proofs.Laws.{laid-length}
 use Rattle.writer.proofs.Widths.{packed-laid}
 use Rattle.writer.proofs.trim.put_config.Statement.{statement}
 use Rattle.writer.proofs.trim.put_config.Tie as tie
 
-returns : tie.Need-returns
-returns c =
-    let laid = c .before .before in
-    let all = laid .before .before in
-    packed-laid (all .config .ensures) (laid .put-packed .ensures)
-
 pub put-config-spec : {M : Type 1} → statement M
-put-config-spec = tie.close (tie.spec (λ c κs. search needs) (λ c κs. search needs) (λ c. laid-length (returns c)) returns)
+put-config-spec = tie.close (tie.spec (λ c κs. search needs) (λ c κs. search needs) (λ c. search needs) (λ c. search packed-laid))

@@ -15,7 +15,7 @@ use Rattle.writer.proofs.trim.put_configs.Tie as tie
 
 abbrev Inv-loop : tie.InvT-loop
 Inv-loop out₀ trim next₀ k₀ i₀ out next k i =
-    Rest (mostConfig * i) out₀ out (next₀ .0) (next .0) (eachBits (λ cfg c. configBits c) 0 (configsAt trim trimConfigs trimHead))
+    Rest (mostConfig * i) out₀ out next₀ next (eachBits (λ cfg c. configBits c) 0 (configsAt trim trimConfigs trimHead))
     (eachBits (λ cfg c. configBits c) i (configsAt trim (trimConfigs - i) k))
     × (i ≤ trimConfigs) × (k ≡ trimHead + configBytes * i)
 
@@ -31,9 +31,6 @@ loop-again c =
     let here = laid-is (ap configBits (there .0 (omega arith))) (laid .put-config .ensures) in
     (rest-step (omega arith) (configs-more _ _ trimConfigs (h .i) _ (search needs)) (h .inv .0) here, search needs, search needs)
 
-returns : tie.Need-returns Inv-loop μ-loop
-returns c = rest-end (omega arith) (configs-none _ _ _ _ _ (omega arith)) (c .before .loop .inv .0)
-
 pub put-configs-spec : {M : Type 1} → statement M
 put-configs-spec =
     tie.close
@@ -48,4 +45,4 @@ put-configs-spec =
     (λ c. search needs)
     loop-again
     (λ c. search needs)
-    returns)
+    (λ c. rest-end (omega arith) (configs-none _ _ _ _ _ (omega arith)) (c .before .loop .inv .0)))

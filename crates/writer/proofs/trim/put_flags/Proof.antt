@@ -14,7 +14,7 @@ use Rattle.writer.proofs.trim.put_flags.Tie as tie
 
 abbrev Inv-loop : tie.InvT-loop
 Inv-loop out₀ trim objects count next₀ k₀ i₀ out next k i =
-    Rest i out₀ out (next₀ .0) (next .0) (eachBits (λ obj x. toBits 1 x) 0 (bytesAt trim count trimFixed))
+    Rest i out₀ out next₀ next (eachBits (λ obj x. toBits 1 x) 0 (bytesAt trim count trimFixed))
     (eachBits (λ obj x. toBits 1 x) i (bytesAt trim (count - i) k))
     × (i ≤ count) × (k ≡ trimFixed + i)
 
@@ -29,9 +29,6 @@ loop-again c =
     let laid = c .before .before in
     let h = laid .before .before .before .before .loop in
     (rest-step (omega arith) (bytes-more _ _ _ (h .i) _ (search needs)) (h .inv .0) (laid .put .ensures), search needs, search needs)
-
-returns : tie.Need-returns Inv-loop μ-loop
-returns c = rest-end (omega arith) (bytes-none _ _ _ _ _ (omega arith)) (c .before .loop .inv .0)
 
 pub put-flags-spec : {M : Type 1} → statement M
 put-flags-spec =
@@ -48,4 +45,4 @@ put-flags-spec =
     (λ c. search needs)
     loop-again
     (λ c. search needs)
-    returns)
+    (λ c. rest-end (omega arith) (bytes-none _ _ _ _ _ (omega arith)) (c .before .loop .inv .0)))

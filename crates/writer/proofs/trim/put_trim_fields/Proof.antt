@@ -1,12 +1,9 @@
 use borrow.Author.Needs.{needs}
-use Prim.Native.Nat.{_+_, _≤_}
 use native.Mathlib.Omega.{arith}
 use Rattle.oamd.specs.Tables.{perObjectByte}
 use Rattle.form.specs.Form.{trimElementBits}
 use Rattle.form.specs.Answer.{trimAt}
 use Rattle.laying.proofs.Laws.{laid-bind, laid-length, laid-within}
-use Rattle.laying.specs.Laying.{mostPosition}
-use Rattle.writer.specs.Most.{mostConfigs}
 use Rattle.writer.proofs.trim.put_trim_fields.Statement.{statement}
 use Rattle.writer.proofs.trim.put_trim_fields.Tie as tie
 
@@ -26,73 +23,41 @@ to-configs c = c .before .before .before .before
 abbrev to-announced : tie.After-put-flags-if → tie.After-put4
 to-announced c = c .before .before .before .before
 
--- and where the call began
-abbrev from-warp : tie.After-put → tie.Start
-from-warp c = c .before .before .before .before .before .before .before
-
-abbrev from-reserved : tie.After-put2 → tie.Start
-from-reserved c = from-warp (to-warp c)
-
-abbrev from-mode : tie.After-put3 → tie.Start
-from-mode c = from-reserved (to-reserved c)
-
-abbrev from-configs : tie.After-put-configs-if → tie.Start
-from-configs c = from-mode (to-mode c)
-
-abbrev from-announced : tie.After-put4 → tie.Start
-from-announced c = from-configs (to-configs c)
-
--- at each there is room for what is left
-room-warp : (c : tie.After-put) → c .put .result .0 + (5 + (mostConfigs + from-warp c .args .objects)) ≤ mostPosition
-room-warp c = omega arith
-
-room-reserved : (c : tie.After-put2) → c .put2 .result .0 + (3 + (mostConfigs + from-reserved c .args .objects)) ≤ mostPosition
-room-reserved c = omega (arith, room-warp (to-warp c))
-
-room-mode : (c : tie.After-put3) → c .put3 .result .0 + (1 + (mostConfigs + from-mode c .args .objects)) ≤ mostPosition
-room-mode c = omega (arith, room-reserved (to-reserved c))
-
-room-configs : (c : tie.After-put-configs-if) → c .put-configs-if .result .0 + (1 + from-configs c .args .objects) ≤ mostPosition
-room-configs c = omega (arith, room-mode (to-mode c))
-
-room-announced : (c : tie.After-put4) → c .put4 .result .0 + (from-announced c .args .objects) ≤ mostPosition
-room-announced c = omega (arith, room-configs (to-configs c))
-
 -- the bytes of the table, as they were read before anything was laid
 abbrev table : tie.After-put → tie.After-shared-slice-known
 table c = c .before .before .before .before .before
 
-cast-put-2 : tie.Need-cast-put-2
-cast-put-2 c =
-    let reserved = c .before .before .before in
-    let mode = table (to-warp reserved) .shared-slice-known .given 2 in
-    search needs
+-- and where the call began
+abbrev from-warp : tie.After-put → tie.Start
+from-warp c = table c .before .before
 
 put-requires-3 : tie.Need-put-requires-3
 put-requires-3 c κs =
     let reserved = c .before .before .before in
-    omega (arith, room-reserved reserved)
+    omega (arith, reserved .put2 .ensures .most, to-warp reserved .put .ensures .most, from-warp (to-warp reserved) .pre)
 
 put-configs-if-requires : tie.Need-put-configs-if-requires
 put-configs-if-requires c κs =
     let mode = c .before .before .before in
-    omega (arith, room-mode mode, from-mode mode .pre)
-
-cast-put-3 : tie.Need-cast-put-3
-cast-put-3 c =
-    let configs = c .before .before .before in
-    let per-object = table (to-warp (to-reserved (to-mode configs))) .shared-slice-known .given perObjectByte in
-    search needs
+    let reserved = to-reserved mode in
+    omega (arith, mode .put3 .ensures .most, reserved .put2 .ensures .most, to-warp reserved .put .ensures .most, from-warp (to-warp reserved) .pre)
 
 put-requires-4 : tie.Need-put-requires-4
 put-requires-4 c κs =
     let configs = c .before .before .before in
-    omega (arith, room-configs configs)
+    let mode = to-mode configs in
+    let reserved = to-reserved mode in
+    omega (arith, configs .put-configs-if .ensures .most, mode .put3 .ensures .most, reserved .put2 .ensures .most, to-warp reserved .put .ensures .most, from-warp (to-warp reserved) .pre)
 
 put-flags-if-requires : tie.Need-put-flags-if-requires
 put-flags-if-requires c κs =
     let announced = c .before .before .before in
-    omega (arith, room-announced announced, from-announced announced .pre)
+    let configs = to-configs announced in
+    let mode = to-mode configs in
+    let reserved = to-reserved mode in
+    let start = from-warp (to-warp reserved) in
+    omega
+    (arith, announced .put4 .ensures .most, configs .put-configs-if .ensures .most, mode .put3 .ensures .most, reserved .put2 .ensures .most, to-warp reserved .put .ensures .most, start .pre)
 
 returns : tie.Need-returns
 unfolding trimElementBits trimAt
@@ -117,10 +82,10 @@ put-trim-fields-spec =
     (λ c. let warp = c .shared-slice-known4 .given 1 in search needs)
     (λ c κs. search needs)
     (λ c κs. search needs)
-    cast-put-2
+    (λ c. let mode = table (to-warp (c .before .before .before)) .shared-slice-known .given 2 in search needs)
     put-requires-3
     put-configs-if-requires
-    cast-put-3
+    (λ c. let per-object = table (to-warp (to-reserved (to-mode (c .before .before .before)))) .shared-slice-known .given perObjectByte in search needs)
     put-requires-4
     put-flags-if-requires
     (λ c. laid-length (returns c))
