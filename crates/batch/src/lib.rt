@@ -1,4 +1,6 @@
 // A shelf of payloads, read all at once.
+#![tactic(auto)]
+
 ghost use Rattle.std.specs.Prelude.{◌≡◌, ◌*◌, leb, length};
 ghost use Rattle.oamd.specs.Batch.{shelved, roomy, batched_with, batching};
 ghost use Rattle.batch.specs.Parts.{Roomy};

@@ -7,7 +7,7 @@ use Rattle.bits.specs.Steps.{no_ok, same_no, by_order, give_no, field_is, field_
 use Rattle.bits.specs.Reached.{here, inside, first, behind, Comes, Stop, field-passes, size-passes, refuses, Stops, Plain, marked, giving, refusing, reads, both}
 
 -- what p comes to, comes to what that comes to
-pub comes-on : {A B C : Type 0} {b : Bits} {p : P A} {q : P B} {r : P C} {at e o at' e' o' at'' e'' o'' : ℕ} → Comes p b at e o q at' e' o'
+pub comes-on : {b : Bits} {B : Type 0} {q : P B} {at' e' o' : ℕ} {A C : Type 0} {p : P A} {r : P C} {at e o at'' e'' o'' : ℕ} → Comes p b at e o q at' e' o'
     → Comes q b at' e' o' r at'' e'' o'' → Comes p b at e o r at'' e'' o''
 comes-on here y = y
 comes-on (inside l x) y = inside l (comes-on x y)
@@ -15,7 +15,7 @@ comes-on (first x) y = first (comes-on x y)
 comes-on (behind h x) y = behind h (comes-on x y)
 
 -- what is refused where the reading comes to is refused
-pub refused_there : {A B : Type 0} {p : P A} {b : Bits} {q : P B} {at' e' o' at e o r pl m : ℕ} → Comes p b at e o q at' e' o'
+pub refused_there : {b : Bits} {B : Type 0} {q : P B} {at' e' o' : ℕ} {A : Type 0} {p : P A} {at e o r pl m : ℕ} → Comes p b at e o q at' e' o'
     → run q b at' e' o' ≡ no r pl m → run p b at e o ≡ no r pl m
 refused_there here h = h
 refused_there (inside l x) h = within_stops _ _ _ _ _ _ _ l (refused_there x h)
@@ -119,7 +119,7 @@ stop_at (field w f) b at e o = (at, e, o)
 stop_at (within n back p) b at e o = pick (leb (at + n) e) (stop_at p b at (at + n) past_declared) (at, e, o)
 stop_at (p >>= k) b at e o = behind_or (run p b at e o) (λ a to. stop_at (k a) b to e o) (stop_at p b at e o)
 
-stops_there : {A B : Type 0} {p : P A} {b : Bits} {q : P B} {at e o to end over r pl m : ℕ} → Comes p b at e o q to end over → Stop to end over B q r pl m
+stops_there : {b : Bits} {B : Type 0} {q : P B} {to end over : ℕ} {A : Type 0} {p : P A} {at e o r pl m : ℕ} → Comes p b at e o q to end over → Stop to end over B q r pl m
     → stop_at p b at e o ≡ (to, end, over)
 unfolding stop_at
 stops_there here (field-passes l) = refl

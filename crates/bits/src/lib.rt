@@ -1,4 +1,6 @@
 // Bit fields of a byte slice, read with a cursor that goes in and comes back by value and keeps the first refusal that it meets.
+#![tactic(auto)]
+
 use units::BitPos;
 
 mod leaf; // leaf.rt: a field of any width up to 24
@@ -17,7 +19,7 @@ pub use sizes::read_size;
 
 // Where reading stands. While no is 0: the value of the last field, and the position after it; missing is as it came. Else the first refusal: its
 // number, its place, and how many bits were missing.
-#[derive(Drop)]
+#[derive(Clone, Copy)]
 pub struct Cur {
     pub missing: u64,
     pub v: u32,
@@ -26,34 +28,34 @@ pub struct Cur {
 }
 
 // A field of a window: its value, and where in the window the next one begins.
-#[derive(Drop)]
+#[derive(Clone, Copy)]
 pub struct Sighted {
     pub v: u32,
     pub off: u32,
 }
 
 // How far may be read: up to the end of the payload, or, inside, up to the end that an element declares.
-#[derive(Drop)]
+#[derive(Clone, Copy)]
 pub struct Limit {
     pub end: BitPos,
     pub inner: bool,
 }
 
 // An element's size: its value, and the groups that it took.
-#[derive(Drop)]
+#[derive(Clone, Copy)]
 pub struct Size {
     pub value: u32,
     pub groups: u32,
 }
 
-#[derive(Drop)]
+#[derive(Clone, Copy)]
 pub struct SizeStep {
     pub size: Size,
     pub cur: Cur,
 }
 
 // What a call can refuse, in the order of the table of docs/DECISIONS.md.
-#[derive(Drop)]
+#[derive(Clone, Copy)]
 pub enum Refusal {
     TooLong,
     EndsEarly,

@@ -1,4 +1,6 @@
 // The catalogue of a segment of frames: its text, and the text read back.
+#![tactic(auto)]
+
 use oamd::MOST_BLOCKS;
 
 mod before; // before.rt: the update before, as it is lent from call to call
@@ -18,7 +20,7 @@ pub use writing::{write_catalogue, write_catalogue_on};
 
 // What a call that lays a catalogue answers: on a refusal the length is 0.
 #[repr(C)]
-#[derive(Drop)]
+#[derive(Clone, Copy)]
 pub struct CatalogueAnswer {
     pub place: u64,
     pub length: u64,
@@ -27,7 +29,7 @@ pub struct CatalogueAnswer {
 
 // What a call that reads one back answers: how many frames there are, and how many bytes of records; on a refusal both are 0.
 #[repr(C)]
-#[derive(Drop)]
+#[derive(Clone, Copy)]
 pub struct BackAnswer {
     pub place: u64,
     pub frames: u64,
@@ -42,7 +44,7 @@ pub const ROWS_BYTES: usize = 3816;
 pub const BEFORE_BYTES: usize = 3817;
 
 // Where the reading of a text stands: a place of it, the number of the line there, and whether all is good so far; if not, the line is the bad one.
-#[derive(Drop)]
+#[derive(Clone, Copy)]
 pub struct Spot {
     pub at: usize,
     pub line: usize,
@@ -50,21 +52,21 @@ pub struct Spot {
 }
 
 // A number that was read, and where reading stands behind it.
-#[derive(Drop)]
+#[derive(Clone, Copy)]
 pub struct Number {
     pub value: u64,
     pub spot: Spot,
 }
 
 // Where the laying of a text stands: its next place, and how many objects the update before has, 0 where there is none.
-#[derive(Drop)]
+#[derive(Clone, Copy)]
 pub struct Stand {
     pub to: usize,
     pub count: usize,
 }
 
 // A frame as its lines gave it: the starts and the ramps of its updates, of which there are as many as blocks. Their rows stand apart, one update behind the other.
-#[derive(Drop)]
+#[derive(Clone, Copy)]
 pub struct Page {
     pub frame: u32,
     pub refusal: u8,
@@ -75,7 +77,7 @@ pub struct Page {
 }
 
 // An update's line as it was read, and where reading stands behind the update's entries.
-#[derive(Drop)]
+#[derive(Clone, Copy)]
 pub struct Timed {
     pub start: u16,
     pub ramp: u16,
@@ -83,7 +85,7 @@ pub struct Timed {
 }
 
 // The starts and the ramps of a frame's updates, the objects of the update before behind them, and where reading stands.
-#[derive(Drop)]
+#[derive(Clone, Copy)]
 pub struct Updates {
     pub starts: [u16; MOST_BLOCKS],
     pub ramps: [u16; MOST_BLOCKS],
@@ -92,7 +94,7 @@ pub struct Updates {
 }
 
 // A frame, the objects of the update before behind it, and where reading stands.
-#[derive(Drop)]
+#[derive(Clone, Copy)]
 pub struct Leaf {
     pub page: Page,
     pub count: usize,
@@ -100,7 +102,7 @@ pub struct Leaf {
 }
 
 // The frames of a text: how many, the places behind their lines and their records, the objects of the update before behind them, and the next line; or the line that is bad.
-#[derive(Drop)]
+#[derive(Clone, Copy)]
 pub struct Tally {
     pub frames: u64,
     pub lines: usize,

@@ -14,7 +14,7 @@ const LAST: usize = 18446744073709551615;
 const TEN: u64 = 10;
 
 // Digits that were read: the number that they stand for, and the place behind them; not good where there is no such number.
-#[derive(Drop)]
+#[derive(Clone, Copy)]
 struct Digits {
     value: u64,
     at: usize,

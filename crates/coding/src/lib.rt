@@ -1,5 +1,7 @@
 // The written form's choices: from a value of the tables to the coded fields that carry it, and the fields of a part packed into numbers. Each is total:
 // what is not valid gets some code, too.
+#![tactic(auto)]
+
 use units::BitCount;
 
 mod choices; // choices.rt: from a value to coded fields
@@ -21,7 +23,7 @@ pub use timing::{lead, update};
 pub use trim::config;
 
 // At most 56 bits: how many, and the number that they make.
-#[derive(Drop)]
+#[derive(Clone, Copy)]
 pub struct Packed {
     pub width: BitCount,
     pub value: u64,

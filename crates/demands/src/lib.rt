@@ -1,1 +1,2 @@
 // Demands 1 to 3 and tightness as theorems, in specs/: no code.
+#![tactic(auto)]

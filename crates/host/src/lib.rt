@@ -1,4 +1,6 @@
 // What a C program calls. Numbers, byte slices and tables of numbers cross this border, and one answer by value; include/skriemelt.h declares the same for C.
+#![tactic(auto)]
+
 ghost use Rattle.std.specs.Prelude.{◌≡◌};
 ghost use Rattle.oamd.specs.Answer.{reading};
 ghost use Rattle.oamd.specs.Batch.{batching};

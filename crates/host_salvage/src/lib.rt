@@ -1,5 +1,7 @@
 // What a C program calls to salvage a payload. It stands apart from host, and so in an object of its own: a second caller of the reader's parts would keep them out of the loop of
 // `read`, which would become slower.
+#![tactic(auto)]
+
 ghost use Rattle.std.specs.Prelude.{◌≡◌};
 ghost use Rattle.salvaging.specs.Salvage.{salvaging};
 

@@ -1,4 +1,6 @@
 // The key names of the listing, of the vectors, of the catalogue and of the programs, each with its sign of equality.
+#![tactic(auto)]
+
 pub const REFUSAL: [u8; 8] = *b"refusal=";
 
 pub const PLACE: [u8; 6] = *b"place=";

@@ -1,4 +1,6 @@
 // Lists one payload, read from standard input: at most 4,097 bytes of it.
+#![tactic(auto)]
+
 ghost use Rattle.std.specs.Prelude.{length, ◌≡◌};
 
 // One byte more than a payload may have, so that a longer one is told.

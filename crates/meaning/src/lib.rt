@@ -1,4 +1,6 @@
 // What coded fields mean (5.6): every function here is total, and equals its definition in oamd.
+#![tactic(auto)]
+
 use oamd::{Location, Screen, Volume, Zone};
 
 mod programme; // programme.rt: how many objects of each class
@@ -12,7 +14,7 @@ pub use timing::{no_timing, update_of};
 pub use values::{distance_of, gain_of, location_of, priority_of, volume_of};
 
 // What object_render_info gives of a scene.
-#[derive(Drop)]
+#[derive(Clone, Copy)]
 pub struct Shown {
     pub location: Location,
     pub volume: Volume,

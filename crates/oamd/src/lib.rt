@@ -1,4 +1,6 @@
 // The format: the types that definitions and code share. The definitions are in specs/, a file for each clause of the standard.
+#![tactic(auto)]
+
 use bits::Size;
 use units::{BitPos, ByteCount, SampleCount};
 
@@ -22,7 +24,7 @@ pub use tables::{bed_labels, distance_code, isf_objects, ramp_code, ramp_duratio
 
 // One bed of the program assignment, as carried (5.5.3).
 #[repr(C)]
-#[derive(Drop)]
+#[derive(Clone, Copy)]
 pub struct Bed {
     pub assignment: u32,
     pub lfeonly: u8,
@@ -31,7 +33,7 @@ pub struct Bed {
 
 // The programme: the object count, and each field of the program assignment as carried; what is not carried is 0 (5.5.3).
 #[repr(C)]
-#[derive(Drop)]
+#[derive(Clone, Copy)]
 pub struct Programme {
     pub objects: u8,
     pub dynonly: u8,
@@ -47,7 +49,7 @@ pub struct Programme {
 }
 
 // How many objects of each class a programme has.
-#[derive(Drop)]
+#[derive(Clone, Copy)]
 pub struct Shares {
     pub bed: u32,
     pub isf: u32,
@@ -56,7 +58,7 @@ pub struct Shares {
 
 // When an update starts, and how long it takes to take hold.
 #[repr(C)]
-#[derive(Drop)]
+#[derive(Clone, Copy)]
 pub struct Update {
     pub start: SampleCount,
     pub ramp: SampleCount,
@@ -64,14 +66,14 @@ pub struct Update {
 
 // The timing of each block; entries past the last block are 0.
 #[repr(C)]
-#[derive(Drop)]
+#[derive(Clone, Copy)]
 pub struct Timing {
     pub blocks: u8,
     pub updates: [Update; MOST_BLOCKS],
 }
 
 // A sample offset, as coded (5.5.6).
-#[derive(Drop)]
+#[derive(Clone, Copy)]
 pub struct Offset {
     pub code: u8,
     pub index: u8,
@@ -79,7 +81,7 @@ pub struct Offset {
 }
 
 // A block's timing, as coded (5.5.7).
-#[derive(Drop)]
+#[derive(Clone, Copy)]
 pub struct BlockUpdate {
     pub bits: u16,
     pub factor: u8,
@@ -89,7 +91,7 @@ pub struct BlockUpdate {
 }
 
 // How the values of a group are found (Tables 28 and 29).
-#[derive(Drop)]
+#[derive(Clone, Copy)]
 pub enum Status {
     Default,
     Full,
@@ -98,21 +100,21 @@ pub enum Status {
 }
 
 // A gain, as coded (5.5.10).
-#[derive(Drop)]
+#[derive(Clone, Copy)]
 pub struct Gain {
     pub index: u8,
     pub bits: u8,
 }
 
 // A priority, as coded (5.5.10).
-#[derive(Drop)]
+#[derive(Clone, Copy)]
 pub struct Priority {
     pub bydefault: u8,
     pub bits: u8,
 }
 
 // object_basic_info, as coded (5.5.10).
-#[derive(Drop)]
+#[derive(Clone, Copy)]
 pub struct Basic {
     pub status: Status,
     pub parts: u8,
@@ -121,14 +123,14 @@ pub struct Basic {
 }
 
 // A position, as coded: x, y, z's sign and z; or three differences (5.5.11).
-#[derive(Drop)]
+#[derive(Clone, Copy)]
 pub enum Position {
     Absolute(u8, u8, u8, u8),
     Moved(u8, u8, u8),
 }
 
 // A distance, as coded (5.5.11).
-#[derive(Drop)]
+#[derive(Clone, Copy)]
 pub struct Distance {
     pub given: u8,
     pub infinite: u8,
@@ -136,14 +138,14 @@ pub struct Distance {
 }
 
 // Zone constraints, as coded and as meant (5.5.11).
-#[derive(Drop)]
+#[derive(Clone, Copy)]
 pub struct Zone {
     pub index: u8,
     pub elevation: u8,
 }
 
 // A size, as coded (5.5.11).
-#[derive(Drop)]
+#[derive(Clone, Copy)]
 pub struct Extent {
     pub index: u8,
     pub all: u8,
@@ -153,7 +155,7 @@ pub struct Extent {
 }
 
 // The screen reference, as coded and as meant (5.5.11).
-#[derive(Drop)]
+#[derive(Clone, Copy)]
 pub struct Screen {
     pub used: u8,
     pub factor: u8,
@@ -161,7 +163,7 @@ pub struct Screen {
 }
 
 // object_render_info, as coded (5.5.11).
-#[derive(Drop)]
+#[derive(Clone, Copy)]
 pub struct Render {
     pub status: Status,
     pub parts: u8,
@@ -174,7 +176,7 @@ pub struct Render {
 }
 
 // object_info_block, as coded, of an object of a class: 0 bed, 1 ISF, 2 dynamic (5.5.9).
-#[derive(Drop)]
+#[derive(Clone, Copy)]
 pub struct Block {
     pub class: u8,
     pub active: u8,
@@ -183,7 +185,7 @@ pub struct Block {
 }
 
 // Where an object is: bytes 4 to 7 of a record.
-#[derive(Drop)]
+#[derive(Clone, Copy)]
 pub struct Location {
     pub x: u8,
     pub y: u8,
@@ -192,7 +194,7 @@ pub struct Location {
 }
 
 // How large an object is: bytes 8 to 10 of a record.
-#[derive(Drop)]
+#[derive(Clone, Copy)]
 pub struct Volume {
     pub width: u8,
     pub depth: u8,
@@ -200,7 +202,7 @@ pub struct Volume {
 }
 
 // Divergence, as carried: bytes 17 to 19 of a record (5.5.14).
-#[derive(Drop)]
+#[derive(Clone, Copy)]
 pub struct Divergence {
     pub used: u8,
     pub mode: u8,
@@ -208,7 +210,7 @@ pub struct Divergence {
 }
 
 // A precise position, as carried: bytes 20 to 23 of a record (5.5.15).
-#[derive(Drop)]
+#[derive(Clone, Copy)]
 pub struct Precise {
     pub presence: u8,
     pub x: u8,
@@ -217,7 +219,7 @@ pub struct Precise {
 }
 
 // What an object is from a block on: a record but for its last seven bytes, which the extended element gives.
-#[derive(Drop)]
+#[derive(Clone, Copy)]
 pub struct Scene {
     pub active: u8,
     pub class: u8,
@@ -231,7 +233,7 @@ pub struct Scene {
 }
 
 // One trim configuration, as carried; what is not carried is 0 (5.5.12).
-#[derive(Drop)]
+#[derive(Clone, Copy)]
 pub struct TrimConfig {
     pub bydefault: u8,
     pub disabled: u8,
@@ -246,7 +248,7 @@ pub struct TrimConfig {
 }
 
 // What an element is to this reader.
-#[derive(Drop)]
+#[derive(Clone, Copy)]
 pub enum Kind {
     Unknown,
     Object,
@@ -255,14 +257,14 @@ pub enum Kind {
 }
 
 // An element's frame: what it is known as, and its size.
-#[derive(Drop)]
+#[derive(Clone, Copy)]
 pub struct Frame {
     pub kind: Kind,
     pub size: Size,
 }
 
 // An element that salvage drops: its first bit, the first behind it, and the place, the id and the number of the refusal for which it goes.
-#[derive(Drop)]
+#[derive(Clone, Copy)]
 pub struct Gone {
     pub from: BitPos,
     pub to: BitPos,
@@ -273,7 +275,7 @@ pub struct Gone {
 
 // What a read answers, beside the records. On a refusal all but refusal and place is 0, and but the missing bits, where the payload ends early.
 #[repr(C)]
-#[derive(Drop)]
+#[derive(Clone, Copy)]
 pub struct ReadAnswer {
     pub place: u64,
     pub refusal: u8,
@@ -285,7 +287,7 @@ pub struct ReadAnswer {
 
 // What a write answers, beside the payload: on a refusal the length is 0.
 #[repr(C)]
-#[derive(Drop)]
+#[derive(Clone, Copy)]
 pub struct WriteAnswer {
     pub place: u64,
     pub length: ByteCount,
@@ -294,7 +296,7 @@ pub struct WriteAnswer {
 
 // What a batch answers, beside the answers of its entries.
 #[repr(C)]
-#[derive(Drop)]
+#[derive(Clone, Copy)]
 pub struct BatchAnswer {
     pub place: u64,
     pub refusal: u8,

@@ -1,4 +1,6 @@
 // What the programs write: texts that the crate `text` has laid, and nothing else.
+#![tactic(auto)]
+
 const OUT: i32 = 1;
 
 // The first n bytes of a text.

@@ -1,4 +1,6 @@
 // `read`: a payload's bytes, its frame's number, and two lent buffers, to an answer, records and the trim table.
+#![tactic(auto)]
+
 ghost use Rattle.std.specs.Prelude.{◌≡◌};
 ghost use Rattle.oamd.specs.Answer.{reading};
 
@@ -24,14 +26,14 @@ pub use payload::{limit_of, read_head};
 pub use sifting::sift;
 pub use timing::read_timing;
 
-#[derive(Drop)]
+#[derive(Clone, Copy)]
 pub struct TimingStep {
     pub timing: Timing,
     pub cur: Cur,
 }
 
 // What the elements are read by: the object count, the objects of each class, and whether alternate ids are sent.
-#[derive(Drop)]
+#[derive(Clone, Copy)]
 pub struct Scope {
     pub objects: usize,
     pub shares: Shares,
@@ -39,7 +41,7 @@ pub struct Scope {
 }
 
 // What has been read of the elements, beside the records and the trim table.
-#[derive(Drop)]
+#[derive(Clone, Copy)]
 pub struct State {
     pub timing: Timing,
     pub object: bool,
@@ -48,20 +50,20 @@ pub struct State {
     pub unknown: u8,
 }
 
-#[derive(Drop)]
+#[derive(Clone, Copy)]
 pub struct StateStep {
     pub state: State,
     pub cur: Cur,
 }
 
-#[derive(Drop)]
+#[derive(Clone, Copy)]
 pub struct HeaderStep {
     pub programme: Programme,
     pub alternate: u32,
     pub cur: Cur,
 }
 
-#[derive(Drop)]
+#[derive(Clone, Copy)]
 pub struct PayloadStep {
     pub programme: Programme,
     pub state: State,
@@ -70,7 +72,7 @@ pub struct PayloadStep {
 
 // An element of a pass that drops what is refused: what has been read behind it, where the next one begins or the refusal that ends the pass, and whether and as what
 // it is dropped.
-#[derive(Drop)]
+#[derive(Clone, Copy)]
 pub struct Turn {
     pub state: State,
     pub cur: Cur,
@@ -80,7 +82,7 @@ pub struct Turn {
 
 // Which elements of a payload salvage drops: the first bit of the element count, the count, the first bit of the elements, and the elements that go, of which there are
 // `drops`; entries past them are 0. Where a refusal ends the pass all but refusal, place and missing bits is 0.
-#[derive(Drop)]
+#[derive(Clone, Copy)]
 pub struct Sifted {
     pub place: u64,
     pub missing: u32,

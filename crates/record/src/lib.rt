@@ -1,4 +1,6 @@
 // A record's bytes, both ways: laid into a buffer, and taken out of one. Only this crate knows at which byte of a record a value stands.
+#![tactic(auto)]
+
 mod laying; // laying.rt: values into bytes
 mod taking; // taking.rt: values out of bytes
 mod carrying; // carrying.rt: whether a record can carry what the extended element has

@@ -1,5 +1,7 @@
 // Salvages a payload: without the known elements that reading refuses. The payload is on standard input, at most 4,097 bytes of it are read; what is left is also written to a file, if the first
 // word of the arguments names one. Nothing is written of a payload that is refused.
+#![tactic(auto)]
+
 ghost use Rattle.std.specs.Prelude.{length, ◌≡◌};
 
 use bits::Refusal;

@@ -1,4 +1,6 @@
 // `salvage`: a payload with elements that a read refuses, to one that is accepted, without them.
+#![tactic(auto)]
+
 ghost use Rattle.std.specs.Prelude.{◌≡◌};
 ghost use Rattle.reader.specs.Sifts.{sifted};
 ghost use Rattle.salvaging.specs.Salvage.{salvaging};
@@ -14,7 +16,7 @@ mod answer; // answer.rt: what is answered
 
 // An element that was dropped: the refusal's place in the payload as it came, the element's id, the refusal.
 #[repr(C)]
-#[derive(Drop)]
+#[derive(Clone, Copy)]
 pub struct Drop {
     pub place: BitPos,
     pub id: u8,
@@ -24,7 +26,7 @@ pub struct Drop {
 // What a salvage answers, beside the payload that is left: its length, and the elements that were dropped, of which there are `drops`; entries past them are 0. On a refusal
 // all but refusal and place is 0, and but the missing bits, where a reading ends early.
 #[repr(C)]
-#[derive(Drop)]
+#[derive(Clone, Copy)]
 pub struct SalvageAnswer {
     pub place: u64,
     pub missing: u32,

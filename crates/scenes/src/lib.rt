@@ -1,5 +1,7 @@
 // A block of an object, looked at and resolved at once (5.5.9, 5.6.1): each group is found by its status, with no coded block between. What passes the end, or has a
 // reserved code, is read field by field, and then resolved.
+#![tactic(auto)]
+
 use bits::Cur;
 use meaning::Shown;
 use oamd::Scene;
@@ -11,34 +13,34 @@ mod block; // block.rt: the whole block
 pub use block::read_scene;
 
 // The scene of a block, and where reading stands behind it.
-#[derive(Drop)]
+#[derive(Clone, Copy)]
 pub struct SceneStep {
     pub scene: Scene,
     pub cur: Cur,
 }
 
 // What object_basic_info gives of a scene.
-#[derive(Drop)]
+#[derive(Clone, Copy)]
 pub struct Levels {
     pub gain: u8,
     pub priority: u8,
 }
 
 // Each look: what was found in the windows, and where in the window, or at which position, the next field begins; good, unless a reserved code was met.
-#[derive(Drop)]
+#[derive(Clone, Copy)]
 pub struct LevelsLook {
     pub levels: Levels,
     pub off: u32,
 }
 
-#[derive(Drop)]
+#[derive(Clone, Copy)]
 pub struct ShownLook {
     pub shown: Shown,
     pub to: u32,
     pub good: bool,
 }
 
-#[derive(Drop)]
+#[derive(Clone, Copy)]
 pub struct SceneLook {
     pub scene: Scene,
     pub to: u32,

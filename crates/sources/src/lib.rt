@@ -1,5 +1,7 @@
 // Where each byte of a record comes from: its source, and that of the value which the source hands on, back to a field, the programme, a default or nothing carried.
 // The definitions are in specs/.
+#![tactic(auto)]
+
 ghost use Rattle.std.specs.Prelude.{◌≡◌, length, replicate};
 ghost use Rattle.oamd.specs.Tables.{room_bytes, most_trim};
 ghost use Rattle.sources.specs.Explaining.{explaining};
@@ -18,7 +20,7 @@ mod answer; // answer.rt: the refusals, and the steps one after the other
 pub const MOST_STEPS: usize = 166;
 
 // The fields that a byte of a record can come from (5.5.9 to 5.5.11, 5.5.14, 5.5.15). Their numbers, from 1 on in this order, and their lines are in specs/Sources.antt.
-#[derive(Drop)]
+#[derive(Clone, Copy)]
 pub enum Field {
     NotActive,
     GainIdx,
@@ -57,7 +59,7 @@ pub enum Field {
 
 // Where a byte comes from: a field, the last one read for it; the programme; a default of Table 28 or of Table 29; nothing carried; the block before, as it is there or moved by
 // the difference in a field; the object before, in the same block.
-#[derive(Drop)]
+#[derive(Clone, Copy)]
 pub enum Source {
     ByField(Field),
     ByProgramme,
@@ -70,12 +72,12 @@ pub enum Source {
 }
 
 // The line of a field in numbers: its clause, 0 to 2, and the path there, filled up with 0 (specs/Sources.antt).
-#[derive(Drop)]
+#[derive(Clone, Copy)]
 pub struct Spot(pub u8, pub u8, pub u8, pub u8);
 
 // A step: the byte's value in a block of an object, the numbers of its source and of the field, that field's first bit, and the difference as carried; what there is not is 0.
 #[repr(C)]
-#[derive(Drop)]
+#[derive(Clone, Copy)]
 pub struct WhyStep {
     pub bit: u32,
     pub object: u8,
@@ -89,7 +91,7 @@ pub struct WhyStep {
 // Why a byte is what it is: the steps from the one asked for to the last, of which there are count; entries past them are 0. On a refusal all but refusal and place is 0, and
 // but the missing bits, where the payload ends early.
 #[repr(C)]
-#[derive(Drop)]
+#[derive(Clone, Copy)]
 pub struct WhyAnswer {
     pub place: u64,
     pub missing: u32,
@@ -101,14 +103,14 @@ pub struct WhyAnswer {
 // ---- what the functions on the way to an answer hand on
 
 // Where a byte comes from, and the first bit of the field that its source names, else 0.
-#[derive(Drop)]
+#[derive(Clone, Copy)]
 pub struct Told {
     pub source: Source,
     pub bit: u32,
 }
 
 // The field that a source names, if it names one, and the difference in it, as carried.
-#[derive(Drop)]
+#[derive(Clone, Copy)]
 pub struct Named {
     pub there: bool,
     pub field: Field,
@@ -116,7 +118,7 @@ pub struct Named {
 }
 
 // Which object and block a chain has come to, and how many steps it may have from there on.
-#[derive(Drop)]
+#[derive(Clone, Copy)]
 pub struct Link {
     pub object: u32,
     pub block: u32,
@@ -124,7 +126,7 @@ pub struct Link {
 }
 
 // The fields of an element, if it is there: where they begin, and the end that they are held to.
-#[derive(Drop)]
+#[derive(Clone, Copy)]
 pub struct Inside {
     pub cur: Cur,
     pub held: Limit,
@@ -132,14 +134,14 @@ pub struct Inside {
 }
 
 // A block, as coded, and its first bit.
-#[derive(Drop)]
+#[derive(Clone, Copy)]
 pub struct Placed {
     pub block: Block,
     pub at: u32,
 }
 
 // Whether a field of the extended element was sent for a record, and where the record's block there begins.
-#[derive(Drop)]
+#[derive(Clone, Copy)]
 pub struct Extra {
     pub sent: bool,
     pub at: u32,

@@ -1,4 +1,6 @@
 // What a shelf of payloads holds, counted: records by gain, zone, class and activity, late blocks, ramps, and payloads by refusal.
+#![tactic(auto)]
+
 ghost use Rattle.std.specs.Prelude.{◌≡◌, ◌≤◌, length};
 ghost use Rattle.bits.specs.Refusals.{number_of};
 ghost use Rattle.summary.specs.Summary.{most_entries, outcomes, summary_of, refused_summary, summing};
@@ -25,7 +27,7 @@ const REFUSALS: usize = 13;
 
 // What is counted; on a refusal all counts are 0.
 #[repr(C)]
-#[derive(Drop)]
+#[derive(Clone, Copy)]
 pub struct Summary {
     pub place: u64,
     pub refusal: u8,

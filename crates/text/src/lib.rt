@@ -1,4 +1,6 @@
 // Text: bytes, numbers and lines laid into a lent buffer, and the listing of a payload.
+#![tactic(auto)]
+
 ghost use Rattle.std.specs.Prelude.{◌≡◌, ◌≤◌, length};
 ghost use Rattle.oamd.specs.Tables.{room_bytes, most_trim};
 ghost use Rattle.text.specs.Listing.{listing_of, zeros, listing};
@@ -17,7 +19,7 @@ pub use laying::{lay_byte, lay_bytes, lay_decimal, lay_hex, lay_line, lay_number
 
 // What a call that lays a text answers: on a refusal the length is 0.
 #[repr(C)]
-#[derive(Drop)]
+#[derive(Clone, Copy)]
 pub struct TextAnswer {
     pub place: u64,
     pub length: ByteCount,

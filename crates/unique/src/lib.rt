@@ -1,1 +1,2 @@
 // One answer only, of the contracts themselves, as theorems, in specs/: no code.
+#![tactic(auto)]

@@ -1,28 +1,30 @@
 // Five units that are never added to one another: a position in bits, a time in samples, and counts of bits, of bytes and of samples. Their numbers are private, so a
 // sum across them does not compile; what leads from one unit to another has a name here. Every step is total: a sum that its unit does not hold wraps.
+#![tactic(auto)]
+
 ghost use Rattle.std.specs.Prelude.{◌≡◌, ◌+◌, ◌-◌, ◌*◌, ◌/◌, ◌%◌};
 
 // A position in bits, counted from the top bit of a payload's first byte.
 #[repr(C)]
-#[derive(Drop)]
+#[derive(Clone, Copy)]
 pub struct BitPos(u32);
 
 // A number of bits.
-#[derive(Drop)]
+#[derive(Clone, Copy)]
 pub struct BitCount(u32);
 
 // A number of whole bytes; in a payload they may begin at any bit.
 #[repr(C)]
-#[derive(Drop)]
+#[derive(Clone, Copy)]
 pub struct ByteCount(u32);
 
 // A number of audio samples.
 #[repr(C)]
-#[derive(Drop)]
+#[derive(Clone, Copy)]
 pub struct SampleCount(u16);
 
 // A time, in audio samples from the first sample of frame 0.
-#[derive(Drop)]
+#[derive(Clone, Copy)]
 pub struct SampleTime(u64);
 
 impl BitPos {

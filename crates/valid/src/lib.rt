@@ -1,5 +1,7 @@
 // Decides whether tables are valid (docs/DECISIONS.md, "The written form" and "The trim element"): every test here equals its definition in form, for all
 // tables and all bytes.
+#![tactic(auto)]
+
 mod ranges; // ranges.rt: one value, by whether it is carried
 mod programme; // programme.rt: the program assignment
 mod timing; // timing.rt: starts and ramps
@@ -13,7 +15,7 @@ pub use timing::{sample_offset, timing_valid};
 pub use trim::{config_at, trim_valid};
 
 // Whose record it is: which block of which object.
-#[derive(Drop)]
+#[derive(Clone, Copy)]
 pub struct Turn {
     pub object: u32,
     pub block: u32,

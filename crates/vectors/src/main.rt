@@ -1,6 +1,8 @@
 // Lists every payload of data/payloads: two bytes of length, the higher first, and the payload, one after the other. Of each that is accepted the trim
 // table follows, if it is not all 0; its tables are written, and what is written is read back; tables with the reserved content flag have no written form.
 // The frame is 0 throughout, as in the listing.
+#![tactic(auto)]
+
 ghost use Rattle.std.specs.Prelude.{◌≡◌, ◌<◌};
 
 use oamd::{MOST_BYTES, MOST_TRIM, ROOM_BYTES, ReadAnswer, TRIM_FIXED};

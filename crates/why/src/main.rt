@@ -1,5 +1,7 @@
 // Says why bytes of a payload's records are what they are. The payload is on standard input, at most 4,097 bytes of it are read; each three words of the arguments are a question: an object, a
 // block, and a byte of their record.
+#![tactic(auto)]
+
 ghost use Rattle.std.specs.Prelude.{length, ◌≡◌};
 
 use bits::Refusal;

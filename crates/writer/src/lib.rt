@@ -1,5 +1,7 @@
 // `write`: a programme, a timing, a frame number, record bytes and a trim table to a payload in a lent buffer, in the one form of documents 01 and 02. How long
 // the form is, is found out first; then its parts are laid, clause by clause of the definition.
+#![tactic(auto)]
+
 ghost use Rattle.std.specs.Prelude.{◌≡◌};
 ghost use Rattle.bits.specs.Refusals.{number_of};
 ghost use Rattle.form.specs.Form.{form};
@@ -24,14 +26,14 @@ mod element; // element.rt: the elements
 mod payload; // payload.rt: the whole form
 
 // Which groups of the extended element some record needs.
-#[derive(Drop)]
+#[derive(Clone, Copy)]
 pub struct Groups {
     pub diverges: bool,
     pub refines: bool,
 }
 
 // What one pass over the records finds: the index of the first that is refused, or their number; and where none is, which groups they need, and how many bits their blocks take.
-#[derive(Drop)]
+#[derive(Clone, Copy)]
 pub struct Found {
     pub seen: usize,
     pub groups: Groups,
@@ -39,7 +41,7 @@ pub struct Found {
 }
 
 // Found before a bit is laid: how many records there are, which groups they need, the bits inside each element, and those of the whole form.
-#[derive(Drop)]
+#[derive(Clone, Copy)]
 pub struct Measures {
     pub count: usize,
     pub groups: Groups,
