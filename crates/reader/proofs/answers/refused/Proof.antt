@@ -1,6 +1,0 @@
-use borrow.Author.Rules.{rules}
-use Rattle.reader.proofs.answers.refused.Statement.{statement}
-use Rattle.reader.proofs.answers.refused.Tie as tie
-
-pub refused-spec : {M : Type 1} → statement M
-refused-spec = tie.close (tie.spec (λ c κs. search rules) (λ c. rw c.no-timing.ensures))

@@ -1,9 +1,0 @@
-use borrow.Author.Rules.{rules}
-use Rattle.sources.proofs.finding.screen_from.Statement.{statement}
-use Rattle.sources.proofs.finding.screen_from.Tie as tie
-
-returns : tie.Need-returns
-returns c = rw (c.by-status.ensures, c.before.has-screen.ensures)
-
-pub screen-from-spec : {M : Type 1} → statement M
-screen-from-spec = tie.close (tie.spec (λ c. search rules) (λ c κs. search rules) (λ c κs. search rules) returns)

@@ -1,7 +1,0 @@
-use borrow.Author.Rules.{rules}
-use Rattle.laying.proofs.Laws.{laid_on, laid-off}
-use Rattle.writer.proofs.trim.put_flags_if.Statement.{statement}
-use Rattle.writer.proofs.trim.put_flags_if.Tie as tie
-
-pub put-flags-if-spec : {M : Type 1} → statement M
-put-flags-if-spec = tie.close (tie.spec (λ c κs. search rules) (λ c. search rules) (λ c. search laid_on) (λ c. search laid-off))
