@@ -4,12 +4,12 @@ use Rattle.syntax.proofs.levels.read_parts.Goals as goal
 
 pub returns-in-Full : goal.returns-in-Full
 returns-in-Full c =
-    rw (c.enum_told-1.given.1, c.with_value.ensures) (record { reads = plain'; small = search rules })
+    rw (c.in-Full.is, c.with_value.ensures) (record { reads = plain'; small = search rules })
 
 pub returns-in-Default : goal.returns-in-Default
 returns-in-Default c =
-    rw (c.enum_told-in-Default-1.given.1, c.with_value-in-Default.ensures) (record { reads = plain'; small = pow_pos _ })
+    rw (c.in-Default.is, c.with_value-in-Default.ensures) (record { reads = plain'; small = pow_pos _ })
 
 pub returns-in-Reuse : goal.returns-in-Reuse
 returns-in-Reuse c =
-    rw (c.enum_told-in-Reuse-1.given.1, c.with_value-in-Reuse.ensures) (record { reads = plain'; small = pow_pos _ })
+    rw (c.in-Reuse.is, c.with_value-in-Reuse.ensures) (record { reads = plain'; small = pow_pos _ })
