@@ -1,3 +1,4 @@
+-- Whether the render status is default is the definition's pick, whichever way the `if` went.
 use Rattle.std.proofs.Common.{eq-eqb, eqb, ne_eqb, not, rules, true, ◌≡◌}
 use Rattle.bits.specs.Language.{pick}
 use Rattle.bits.proofs.Sticky.{plain}
@@ -12,8 +13,9 @@ returns c =
     let i = c.if-idle-eq1 in
     let e : i.anchored ≡ pick (eqb c.take-idle.result.v 1) true (not (eqb c.args.class 2)) =
     elim c.if-idle-eq1.branch [
-    then-idle-eq1 w ↦ rw (eq-eqb _ _ w.if-idle-eq1.true) (search rules)
-    | else-idle-eq1 w ↦ rw (ne_eqb _ _ w.if-idle-eq1.false) (search rules) ] in
+      | then-idle-eq1 w ↦ rw (eq-eqb _ _ w.if-idle-eq1.true) (search rules)
+      | else-idle-eq1 w ↦ rw (ne_eqb _ _ w.if-idle-eq1.false) (search rules)
+    ] in
     record {
       reads = c.take-idle.ensures.reads
           ▸ c.read_status-level.ensures

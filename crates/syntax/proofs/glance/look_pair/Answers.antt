@@ -1,3 +1,4 @@
+-- One proof for every two widths. The rest's unit is 1 moved left by its width.
 use Rattle.std.proofs.Common.{arith, eqb, refl, shl_exact, ℕ, ◌%◌, ◌*◌, ◌+◌, ◌/◌, ◌^◌, ◌∙◌, ◌≡◌, ◌≤◌}
 use Rattle.syntax.proofs.Glances.{lead, last, sent_if, whichever}
 use Rattle.syntax.proofs.glance.look_pair.Goals as goal

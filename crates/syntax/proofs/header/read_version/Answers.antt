@@ -13,8 +13,9 @@ returns c =
     let v = c.with_value-none.ensures in
     let e : i.back ≡ pick (eqb c.take-version.result.v 3) 5 2 =
     elim c.if-version-eq3.branch [
-    then-version-eq3 w ↦ rw (eq-eqb _ _ w.if-version-eq3.true) (search rules)
-    | else-version-eq3 w ↦ rw (ne_eqb _ _ w.if-version-eq3.false) (search rules) ] in
+      | then-version-eq3 w ↦ rw (eq-eqb _ _ w.if-version-eq3.true) (search rules)
+      | else-version-eq3 w ↦ rw (ne_eqb _ _ w.if-version-eq3.false) (search rules)
+    ] in
     record {
       reads = c.take-version.ensures.reads ▸ c.take_if-more.ensures.reads ▸ revalued (rw (v, e) at c.refuse_if.ensures.1);
       small = rw (c.refuse_if.ensures.0, v) (search rules);

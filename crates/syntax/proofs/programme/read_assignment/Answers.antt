@@ -1,3 +1,4 @@
+-- The step's fields are those of the beds that were read, so the programme is the definition's.
 use Rattle.std.proofs.Common.{refl}
 use Rattle.bits.proofs.Sticky.{plain}
 use Rattle.oamd.specs.Programme.{program_assignment}
