@@ -83,7 +83,7 @@ fn read_entries(
             &mut trims[trim..trim_end],
         );
         let page = answer::answer_bytes(a);
-        bytes::copy(&page, &mut answers[place..place_end]);
+        answers[place..place_end].copy_from_slice(&page);
         slot = slot_end;
         trim = trim_end;
         place = place_end;

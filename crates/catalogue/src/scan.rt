@@ -114,7 +114,7 @@ pub fn take_end(text: &[u8], c: Spot) -> Spot
     }
 }
 
-fn is_digit_lem(b: u8) -> bool
+fn is_digit(b: u8) -> bool
     ensures { result ≡ is_digit b }
 {
     if b < b'0' {

@@ -72,10 +72,13 @@ pub data Changes (frame : ℕ) (buffer trim s : List ℕ) : List ℕ → Type 0 
 -- turn no tables into others.
 pub however-many : (frame : ℕ) (s s' buffer trim : List ℕ) → (reading frame s buffer trim).answer.refusal ≡ 0 → Changes frame buffer trim s s'
     → SameTables (reading frame s' buffer trim) (reading frame s buffer trim)
-however-many frame s s' buffer trim accepted none = refl
-however-many frame s s' buffer trim accepted (another {m} before change accepted') =
-    let tables = however-many frame s m buffer trim accepted before in
-    never-another frame m s' buffer trim (ap (λ (o : Outcome). o.answer.refusal) tables ∙ accepted) change accepted' ∙ tables
+however-many frame s s' buffer trim accepted changes = go changes
+  where
+    go : {t : List ℕ} → Changes frame buffer trim s t → SameTables (reading frame t buffer trim) (reading frame s buffer trim)
+    go none = refl
+    go {t} (another {m} before change accepted') =
+        let tables = go before in
+        never-another frame m t buffer trim (ap (λ (o : Outcome). o.answer.refusal) tables ∙ accepted) change accepted' ∙ tables
 
 -- There are such changes: an unknown element can be put anywhere among the elements of a payload that is put together, as every accepted one is
 -- (`put-together`), where there are fewer than 46.

@@ -1,6 +1,6 @@
 -- The numbers of docs/DECISIONS.md: how many objects, blocks and unknown elements there can be, and the room that holds the tables of every payload. They
 -- hold of every payload that is accepted, with the reserved content flag or without it.
-use Rattle.std.specs.Prelude.{◌≡◌, refl, true, false, List, ℕ, ◌*◌, ◌≤◌, length}
+use Rattle.std.specs.Prelude.{◌≡◌, refl, List, ℕ, ◌*◌, ◌≤◌, length}
 use Rattle.std.proofs.Common.{ap, true≢false, arith, mul-le-mul}
 use Rattle.std.proofs.lemmas.Bool.{false≢true}
 use Rattle.std.proofs.Math.Option.{Option, none, some}

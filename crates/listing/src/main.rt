@@ -3,6 +3,8 @@
 
 ghost use Rattle.std.specs.Prelude.{length, ◌≡◌};
 
+use std::io;
+
 // One byte more than a payload may have, so that a longer one is told.
 fn room() -> [u8; 4097]
     ensures { 4097 ≡ length result }
@@ -10,8 +12,8 @@ fn room() -> [u8; 4097]
     [0; 4097]
 }
 
-fn main() {
+fn main(rt: HostRuntime) -> io::Result<()> {
     let mut payload = room();
-    let n = io::read_full(0, &mut payload);
-    printing::list(&payload[..n]);
+    let n = printing::read_full(&mut rt.reader(), &mut payload)?;
+    printing::list(&rt, &payload[..n])
 }

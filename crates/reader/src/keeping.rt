@@ -45,7 +45,7 @@ fn read_kept(
         return answers::no_room(taken, records, trim);
     }
     lend_records(scratch, count, frame, timing, records);
-    bytes::copy(&table[..taken], trim);
+    trim[..taken].copy_from_slice(&table[..taken]);
     answers::accepted(programme, timing, state.unknown)
 }
 

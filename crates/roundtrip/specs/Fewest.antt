@@ -2,7 +2,7 @@
 -- group of fields, the form's bits of what they mean come first. What the form rules out beforehand is a premise.
 use Rattle.std.specs.Prelude.{◌≡◌, refl, true, ◌++◌, ℕ, ◌<◌, eqb}
 use Rattle.std.proofs.Common.{append-nil, append_assoc, arith}
-use Rattle.bits.specs.Language.{both, bits}
+use Rattle.bits.specs.Language.{both}
 use Rattle.bits.specs.Writes.{to_bits, only, Spells, First}
 use Rattle.bits.specs.Spells.{s-give, s-bind, s-bits, s_if}
 use Rattle.bits.specs.First.{first-append}

@@ -94,7 +94,7 @@ fn same_timing(a: Timing, b: Timing) -> bool {
 }
 
 // Whether the first n bytes are there and the same.
-pub fn same_bytes_lem(a: &[u8], b: &[u8], n: usize) -> bool {
+pub fn same_bytes(a: &[u8], b: &[u8], n: usize) -> bool {
     let mut i: usize = 0;
     while i < n {
         if a.len() <= i {
@@ -119,5 +119,5 @@ pub fn tables(a: ReadAnswer, records: &[u8], b: ReadAnswer, others: &[u8]) -> bo
     if !same_timing(a.timing, b.timing) {
         return false;
     }
-    same_bytes_lem(records, others, ROOM_BYTES)
+    same_bytes(records, others, ROOM_BYTES)
 }

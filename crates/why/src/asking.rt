@@ -1,4 +1,5 @@
 // Words of the arguments as numbers.
+use std::env::{Env, FillError};
 
 // What a word counts as that is missing, is no number in decimal, or is above this: no payload has so many objects, blocks or bytes.
 const LAST: u32 = 4294967295;
@@ -38,13 +39,19 @@ fn argument(question: u32, part: u32) -> usize {
 }
 
 // Whether a question has its first word.
-pub fn begins(question: u32) -> bool {
-    argument(question, 0) < os::arg_count()
+pub fn begins<E: Env>(env: &E, question: u32) -> bool {
+    let mut word = [0u8; 4096];
+    match env.arg(argument(question, 0), &mut word) {
+        Err(FillError::NotPresent) => false,
+        _ => true,
+    }
 }
 
 // A part of a question as a number.
-pub fn number(question: u32, part: u32) -> u32 {
-    let mut word = io::buffer();
-    let n = os::arg(argument(question, part), &mut word);
-    number_of(&word[..n])
+pub fn number<E: Env>(env: &E, question: u32, part: u32) -> u32 {
+    let mut word = [0u8; 4096];
+    match env.arg(argument(question, part), &mut word) {
+        Ok(n) => number_of(&word[..n]),
+        Err(_) => LAST,
+    }
 }

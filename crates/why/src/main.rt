@@ -6,6 +6,9 @@ ghost use Rattle.std.specs.Prelude.{length, ◌≡◌};
 
 use bits::Refusal;
 use sources::{MOST_STEPS, WhyAnswer};
+use std::env::Env;
+use std::io;
+use std::io::Print;
 
 mod asking; // asking.rt: words of the arguments as numbers
 mod steps; // steps.rt: the line of a step
@@ -20,52 +23,54 @@ fn room() -> [u8; 4097]
     [0; 4097]
 }
 
-fn show_steps(a: WhyAnswer) {
+fn show_steps<P: Print>(out: &P, a: WhyAnswer) -> io::Result<()> {
     let told = a.steps;
     let count = a.count as usize;
     let mut i: usize = 0;
     while i < MOST_STEPS {
         if count <= i {
-            return;
+            return Ok(());
         }
-        steps::show(told[i]);
+        steps::show(out, told[i])?;
         i = i + 1;
     }
+    Ok(())
 }
 
 // The lines of an answer.
-fn show(a: WhyAnswer) {
-    printing::line(&keys::REFUSAL, a.refusal as u64);
-    printing::line(&keys::PLACE, a.place);
+fn show<P: Print>(out: &P, a: WhyAnswer) -> io::Result<()> {
+    printing::line(out, &keys::REFUSAL, a.refusal as u64)?;
+    printing::line(out, &keys::PLACE, a.place)?;
     if a.refusal == bits::number(Refusal::EndsEarly) {
-        printing::line(&keys::MISSING, a.missing as u64);
+        printing::line(out, &keys::MISSING, a.missing as u64)?;
     }
-    show_steps(a);
+    show_steps(out, a)
 }
 
 // The answer to a question.
-fn answer(payload: &[u8], question: u32) {
-    let object = asking::number(question, 0);
-    let block = asking::number(question, 1);
-    let byte = asking::number(question, 2);
-    show(sources::why(payload, object, block, byte));
+fn answer<R: Env + Print>(rt: &R, payload: &[u8], question: u32) -> io::Result<()> {
+    let object = asking::number(rt, question, 0);
+    let block = asking::number(rt, question, 1);
+    let byte = asking::number(rt, question, 2);
+    show(rt, sources::why(payload, object, block, byte))
 }
 
 // All questions; there is one, though there are no words.
-fn answer_all(payload: &[u8]) {
-    answer(payload, 0);
+fn answer_all<R: Env + Print>(rt: &R, payload: &[u8]) -> io::Result<()> {
+    answer(rt, payload, 0)?;
     let mut question: u32 = 1;
     while question < MOST_QUESTIONS {
-        if !asking::begins(question) {
-            return;
+        if !asking::begins(rt, question) {
+            return Ok(());
         }
-        answer(payload, question);
+        answer(rt, payload, question)?;
         question = question + 1;
     }
+    Ok(())
 }
 
-fn main() {
+fn main(rt: HostRuntime) -> io::Result<()> {
     let mut payload = room();
-    let n = io::read_full(0, &mut payload);
-    answer_all(&payload[..n]);
+    let n = printing::read_full(&mut rt.reader(), &mut payload)?;
+    answer_all(&rt, &payload[..n])
 }

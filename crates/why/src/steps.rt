@@ -1,5 +1,7 @@
 // The line of a step: object, block, value, and where the value comes from.
 use sources::WhyStep;
+use std::io;
+use std::io::Print;
 use text::{lay_byte, lay_bytes, lay_decimal, lay_number};
 
 const STEP: [u8; 5] = *b"step=";
@@ -86,7 +88,7 @@ fn lay_field(text: &mut [u8], at: usize, s: WhyStep) -> usize {
     lay_difference(text, to, s.difference)
 }
 
-pub fn show(s: WhyStep) {
+pub fn show<P: Print>(out: &P, s: WhyStep) -> io::Result<()> {
     let mut page = [0u8; 128];
     let to = lay_bytes(&mut page, 0, &STEP);
     let to = lay_number(&mut page, to, s.object as u64, b',');
@@ -95,5 +97,5 @@ pub fn show(s: WhyStep) {
     let to = lay_source(&mut page, to, s.source);
     let to = lay_field(&mut page, to, s);
     let to = lay_byte(&mut page, to, b'\n');
-    printing::show(&page, to);
+    printing::show(out, &page, to)
 }

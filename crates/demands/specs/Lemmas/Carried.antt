@@ -34,6 +34,7 @@ Clean f vs = (v : ℕ) → OneOf v vs → OneOf v (reserved_values f) → ⊥
 
 clean_one : (f : Field) (v : ℕ) → is_reserved f v ≡ false → Clean f (v ∷ [])
 clean_one f v h u (inl i) r = false≢true (sym h ∙ by-test f v (subst (λ (n : ℕ). OneOf n (reserved_values f)) i r))
+clean_one f v h u (inr i) r = elim i [ ]
 
 clean_if : (f : Field) (on : Bool) (v : ℕ) → (on ≡ true → is_reserved f v ≡ false) → Clean f (only_if on v)
 clean_if f true v h = clean_one f v (h refl)

@@ -6,7 +6,7 @@ use Rattle.bits.specs.Language.{ok, no, Bits, P, field, slice, bits_if, refuse_i
 use Rattle.bits.specs.Steps.{no_ok, place, bind_no, bind_is, field_ok, field_is, give_no, refuse_no}
 use Rattle.bits.specs.Size.{variable_bits_max}
 use Rattle.bits.specs.Reached.{Comes, here, inside, first, behind, reads, size-passes}
-use Rattle.bits.specs.ReachedLaws.{comes-on, stop-refuses, element_no, Halts, at_field, halts}
+use Rattle.bits.specs.ReachedLaws.{comes-on, stop-refuses, element_no, Halts, at_field, at-marked, of-own, halts}
 use Rattle.oamd.specs.declared.Kind.{Kind}
 use Rattle.oamd.specs.declared.Kind.TheVariants.{Unknown, Object, Trim, Extended}
 use Rattle.oamd.specs.declared.Programme.{Programme}
@@ -33,6 +33,8 @@ pub record Passes {A : Type 0} (p : P A) (b : Bits) (at e o r pl : ℕ) : Type 1
 pub field_in : {A B : Type 0} {p : P A} {q : P B} {b : Bits} {at to e o r pl m : ℕ} → Comes p b at e o q to e o
     → Halts Unmarked (λ r. ⊥) q b to e o r pl m → Passes p b at e o r pl
 field_in x (at_field c l i) = record { Value = _; width = _; value = _; comes = comes-on x c; passes = l; over = i }
+field_in x (at-marked k _ _) = elim k [ ]
+field_in x (of-own k) = elim k [ ]
 
 refusal_of-own : {A : Type 0} (t : Bool) (r back : ℕ) (v : A) (b : Bits) (at e o : ℕ) {r' pl m : ℕ} → run (refuse_if t r back v) b at e o ≡ no r' pl m
     → (t ≡ true) × (r' ≡ r) × (pl ≡ at - back)

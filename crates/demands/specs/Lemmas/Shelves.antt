@@ -1,5 +1,5 @@
 -- The entries of a shelf, each in its slots and its place, whatever stands before and behind them.
-use Rattle.std.specs.Prelude.{◌≡◌, ◌⊎◌, get_or, take, drop}
+use Rattle.std.specs.Prelude.{◌≡◌, get_or, take, drop}
 use Rattle.std.proofs.Math.Path.{refl, sym, ap}
 use Rattle.std.proofs.Common.{◌∙◌, ⊎_elim, zero-mul, suc-mul, add_comm, arith, length-drop, length-append, take-append-drop, drop_at, drop-drop, le-leb}
 use mathlib.Core.List.{List, [], ◌∷◌, ◌++◌}

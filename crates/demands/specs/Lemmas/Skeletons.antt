@@ -10,7 +10,7 @@ use Rattle.oamd.specs.declared.Kind.{Kind}
 use Rattle.oamd.specs.declared.Kind.TheVariants.{Unknown}
 use Rattle.oamd.specs.declared.Programme.{Programme}
 use Rattle.oamd.specs.Element.{declared_length, head_length, back_to_id, Known, nothing, is_second, is_early, fields, State, pass_over, read_known, oa_element, oa_element_md, elements}
-use Rattle.oamd.specs.Payload.{header, Payload, object_audio_metadata_payload}
+use Rattle.oamd.specs.Payload.{Payload, object_audio_metadata_payload}
 use Rattle.demands.specs.Terms.{runs, parsed}
 use Rattle.demands.specs.Skeleton.{Body, body, bodies, Outline, outline_payload, is_known, known, unknowns, given, taken_out}
 use Rattle.demands.specs.Lemmas.Frame.{Frame, frame-of, body_at, end_at}

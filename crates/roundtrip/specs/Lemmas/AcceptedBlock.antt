@@ -12,7 +12,7 @@ use Rattle.oamd.specs.declared.Render.{Render}
 use Rattle.oamd.specs.declared.Block.{Block}
 use Rattle.oamd.specs.Programme.{set?, clear?, dynamic_class}
 use Rattle.oamd.specs.Reserved.{ZoneConstraintsIdx}
-use Rattle.oamd.specs.Block.{status_idx, object_basic_info, position, distance, zone, extent, screen, object_render_info, object_info_block, has_zone, has_size, has_screen, has_priority, sends}
+use Rattle.oamd.specs.Block.{status_idx, object_basic_info, zone, extent, screen, object_render_info, object_info_block, has_zone, has_size, has_screen, has_priority, sends}
 use Rattle.form.specs.Valid.{between_if, zone_valid, screen_valid}
 use Rattle.form.specs.Lemmas.Tests.{whole, by-test, by_flag, always}
 use Rattle.roundtrip.specs.Lemmas.Unreserved.{under, e-unreserved}

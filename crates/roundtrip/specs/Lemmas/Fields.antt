@@ -1,7 +1,7 @@
 -- Coded fields are read back as they were written, group by group (5.5.6, 5.5.7, 5.5.10, 5.5.11).
 use Rattle.std.specs.Prelude.{◌≡◌, refl, Bool, true, not, [], ◌++◌, ℕ, ◌≤◌, eqb}
 use Rattle.std.proofs.Common.{sym, append_assoc, arith}
-use Rattle.bits.specs.Language.{bits, between}
+use Rattle.bits.specs.Language.{between}
 use Rattle.bits.specs.Writes.{to_bits, only}
 use Rattle.bits.specs.Back.{w-give, w-bits, w-bind, w_end, w_list, w_if}
 use Rattle.bits.specs.Terms.{Writes}

@@ -1,0 +1,15 @@
+use Rattle.std.proofs.Common.{pow_pos, rules}
+use Rattle.bits.proofs.Sticky.{plain'}
+use Rattle.syntax.proofs.levels.read_parts.Goals as goal
+
+pub returns-in-Full : goal.returns-in-Full
+returns-in-Full c =
+    rw (c.in-Full.is, c.with_value.ensures) (record { reads = plain'; small = search rules })
+
+pub returns-in-Default : goal.returns-in-Default
+returns-in-Default c =
+    rw (c.in-Default.is, c.with_value-in-Default.ensures) (record { reads = plain'; small = pow_pos _ })
+
+pub returns-in-Reuse : goal.returns-in-Reuse
+returns-in-Reuse c =
+    rw (c.in-Reuse.is, c.with_value-in-Reuse.ensures) (record { reads = plain'; small = pow_pos _ })
