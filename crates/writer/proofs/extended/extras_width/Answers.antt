@@ -1,0 +1,12 @@
+use Rattle.std.proofs.Common.{arith, rules}
+use Rattle.writer.proofs.Records.{records_more}
+use Rattle.writer.proofs.Widths.{counted_step}
+use Rattle.writer.proofs.extended.extras_width.Goals as goal
+
+pub loop-i-preserved : goal.loop-i-preserved
+loop-i-preserved c =
+    let h = c.loop-i in
+    (counted_step (omega arith) (omega arith) (records_more _ _ _ h.i _ (search rules)) h.invariant.0 c.extra_width-width.ensures c.plus-total.ensures, search rules, search rules)
+
+pub returns : goal.returns
+returns c = ?
