@@ -5,4 +5,4 @@ use Rattle.writer.proofs.element.put_trim_element.Goals as goal
 pub returns-then-on : goal.returns-then-on
 returns-then-on c =
     laid_on c.if-on.true
-    (framed-laid c.requires.1.1 c.size_for_lem.ensures 2 c.open_element-next.ensures c.put_trim_fields-next.ensures c.close_element.ensures)
+    (framed-laid c.requires.inside c.size_for-v.ensures 2 c.open_element-next.ensures c.put_trim_fields-next.ensures c.close_element.ensures)

@@ -8,6 +8,6 @@ unfolding extended_element_bits
 returns c =
     let second = c.extras_width_if-positions.ensures in
     let first = c.extras_width_if-divergences.ensures in
-    rw (sym c.requires.1.diverges, sym c.requires.1.refines)
-    (wide-count (omega (arith, first.most, second.most, c.requires.0.few))
+    rw (sym c.requires.needed.diverges, sym c.requires.needed.refines)
+    (wide-count (omega (arith, first.most, second.most, c.requires.stand.few))
     (wide-behind (wide-field 1 _) (wide-behind first (wide-behind (wide-field 1 _) second))))

@@ -7,7 +7,7 @@ use Rattle.writer.specs.Parts.{extra_bits, extras_bits}
 use Rattle.writer.proofs.Widths.{Counted}
 use Rattle.writer.proofs.extended.extras_width.Given as goal
 
--- `extras_width` meets its contract: what was counted and what is still to come make the whole. Assumes nothing.
+-- What was counted and what is still to come make the whole.
 abbrev pub invariant-loop-i : goal.invariant-loop-i
 invariant-loop-i t =
     Counted (most_extra * t.i) t.total.0 (extras_bits t.first t.records t.n) (each_bits (λ j r. extra_bits t.first r) t.i (records_at t.records (t.n - t.i) t.k))

@@ -5,10 +5,11 @@ use Rattle.writer.specs.Most.{most_bed}
 use Rattle.writer.proofs.Widths.{Counted}
 use Rattle.writer.proofs.header.bed_list_width.Given as goal
 
--- `bed_list_width` meets its contract: what was counted and what is still to come make the whole. Assumes nothing.
+-- What was counted and what is still to come make the whole.
 abbrev pub invariant-loop-i : goal.invariant-loop-i
 invariant-loop-i t =
-    Counted (most_bed * t.i) t.total.0 (each_bits (λ j b. bed_bits b) 0 (take t.n t.beds)) (each_bits (λ j b. bed_bits b) t.i (take (t.n - t.i) (drop t.i t.beds)))
+    Counted (most_bed * t.i) t.total.0 (each_bits (λ j b. bed_bits b) 0 (take t.n t.beds))
+    (each_bits (λ j b. bed_bits b) t.i (take (t.n - t.i) (drop t.i t.beds)))
     × (t.i ≤ t.count)
 
 abbrev pub decreases-loop-i : goal.decreases-loop-i

@@ -5,8 +5,8 @@ use Rattle.bits.specs.Language.{pick}
 use Rattle.bits.specs.Steps.{by_order}
 use Rattle.record.specs.Bytes.{scene_at}
 use Rattle.record.specs.Laws.{next-block}
-use Rattle.laying.proofs.Laws.{rest_step, laid_is}
-use Rattle.writer.proofs.Records.{records_more}
+use Rattle.laying.proofs.Laws.{rest_step, laid_is, rest_end}
+use Rattle.writer.proofs.Records.{records_more, records_none}
 use Rattle.writer.proofs.objects.put_blocks.Goals as goal
 use Rattle.writer.proofs.objects.put_blocks.Goals.{else-block-blocks, then-block-blocks}
 
@@ -26,7 +26,7 @@ loop-i-preserved c =
     let h = c.loop-i in
     let a = c.args in
     let some : h.i < a.count = c.loop-i-test.true in
-    let there = c.scene_at-s.ensures.0 (omega (arith, some, h.invariant.2, c.requires)) in
+    let there = c.scene_at-s.ensures.there (omega (arith, some, h.invariant.2, c.requires.count_in_bounds)) in
     let here =
     laid_is
     (ap (λ (x : Scene). block_bits (eqb h.block 0) x) there ∙ ap (λ (k : ℕ). block_bits (eqb k 0) (scene_at a.records.now h.at)) h.invariant.3)
@@ -34,8 +34,9 @@ loop-i-preserved c =
       rest_step (omega arith) (records_more _ _ _ h.i _ some) h.invariant.0 here,
       omega (arith, some),
       omega (arith, h.invariant.2),
-      behind h.i a.blocks h.block c.if-block-blocks.block (omega (arith, some, c.requires)) h.invariant.3 (elim c.if-block-blocks.branch [ then-block-blocks w ↦ inl (w.if-block-blocks.true, w.block-is) | else-block-blocks w ↦ inr (w.if-block-blocks.false, w.block-is) ]),
+      behind h.i a.blocks h.block c.if-block-blocks.block (omega (arith, some, c.requires)) h.invariant.3
+          (elim c.if-block-blocks.branch [ then-block-blocks w ↦ inl (w.if-block-blocks.true, w.block-is) | else-block-blocks w ↦ inr (w.if-block-blocks.false, w.block-is) ]),
     )
 
 pub returns : goal.returns
-returns c = ?
+returns c = rest_end (omega arith) (records_none _ _ _ _ _ (omega arith)) c.loop-i.invariant.0

@@ -6,10 +6,11 @@ use Rattle.writer.specs.Most.{most_block}
 use Rattle.writer.specs.Survey.{blocks_bits}
 use Rattle.writer.proofs.objects.put_blocks.Given as goal
 
--- `put_blocks` meets its contract: whoever lays the blocks left from here has laid all from the start. Assumes nothing.
+-- Whoever lays the blocks left from here has laid all from the start.
 abbrev pub invariant-loop-i : goal.invariant-loop-i
 invariant-loop-i t =
-    Rest (most_block * t.i) t.initial.out t.out t.initial.next t.next (blocks_bits t.blocks 0 (records_at t.records t.count 0)) (blocks_bits t.blocks t.i (records_at t.records (t.count - t.i) t.at))
+    Rest (most_block * t.i) t.initial.out t.out t.initial.next t.next (blocks_bits t.blocks 0 (records_at t.records t.count 0))
+    (blocks_bits t.blocks t.i (records_at t.records (t.count - t.i) t.at))
     × (t.i ≤ t.count) × (t.at ≡ record_stride * t.i) × (t.block ≡ t.i % t.blocks)
 
 abbrev pub decreases-loop-i : goal.decreases-loop-i

@@ -9,7 +9,7 @@ use Rattle.writer.proofs.objects.put_object_fields.Goals.{Start}
 
 -- no more blocks than there can be
 few : (c : Start) → let a = c.args in a.programme.objects * a.timing.blocks ≤ a.programme.objects * most_blocks
-few c = mul-le-mul_left c.args.programme.objects c.requires.1.few
+few c = mul-le-mul_left c.args.programme.objects c.requires.blocks.few
 
 pub returns : goal.returns
 unfolding object_element_bits

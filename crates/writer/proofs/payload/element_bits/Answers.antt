@@ -8,7 +8,7 @@ use Rattle.writer.proofs.payload.element_bits.Goals as goal
 pub returns-then-on : goal.returns-then-on
 returns-then-on c =
     let n = c.args.n.0 in
-    let v = c.size_for_lem.ensures in
+    let v = c.size_for-v.ensures in
     let wide = packed-wide c.size.ensures in
     let total : c.plus-then-on.result.0 ≡ 4 + c.size.result.width.0 + c.room_of.result.0 =
     omega (arith, c.plus-then-on.ensures, c.plus.ensures, c.new.ensures, c.room_of.ensures, wide.most, v.most, c.requires) in

@@ -15,17 +15,17 @@ object : (c : After-plus-object) → let a = c.args in
     Inside (most_object_fields a.programme.objects) c.plus-object.result.0 (object_element_bits (tables_of a.programme a.timing a.records.now a.trim.now))
 object c =
     let a = c.args in
-    object-inside (tables_of a.programme a.timing a.records.now a.trim.now) c.timing_width.ensures c.pre.1.wide
-    c.new.ensures c.plus.ensures c.plus-object.ensures (omega arith) (omega (arith, c.good))
+    object-inside (tables_of a.programme a.timing a.records.now a.trim.now) c.timing_width.ensures c.requires.gathered.wide
+    c.new.ensures c.plus.ensures c.plus-object.ensures (omega arith) (omega arith)
 
 pub returns : goal.returns
 returns c =
     let count = c.record_count-count.ensures in
     let a = c.args in
     let records = a.records.now in
-    let few = c.pre.0.blocks in
+    let few = c.requires.enough.blocks in
     let header = c.header_width.ensures in
-    let needed = c.pre.1.needed in
+    let needed = c.requires.gathered.needed in
     let inside = object (goal.at.returns c).After-plus-object in
     let extended = inside_of records count.0 c.extended_inside-extended.ensures in
     let trim = c.trim_inside-trims.ensures in
@@ -34,7 +34,7 @@ returns c =
     let three = c.element_bits-third.ensures in
     let total =
     all-bits _ _ _ _ _ _ _ _ _ c.new-2.ensures c.plus-before.ensures c.plus-2.ensures c.plus-3.ensures c.plus-4.ensures header.most
-    (omega (arith, one.most, inside.most, c.good)) (omega (arith, two.most, extended.most, count.1, few)) (omega (arith, three.most, trim.most, c.good)) in
+    (omega (arith, one.most, inside.most)) (omega (arith, two.most, extended.most, count.1, few)) (omega (arith, three.most, trim.most)) in
     record {
       count = count.0;
       few = omega (arith, count.1, few);

@@ -6,7 +6,7 @@ use Rattle.form.specs.Form.{update_bits}
 use Rattle.writer.specs.Most.{most_update}
 use Rattle.writer.proofs.timing.put_updates.Given as goal
 
--- `put_updates` meets its contract: whoever lays the updates left from here has laid all from the start. Assumes nothing.
+-- Whoever lays the updates left from here has laid all from the start.
 abbrev pub invariant-loop-i : goal.invariant-loop-i
 invariant-loop-i t =
     Rest (most_update * t.i) t.initial.out t.out t.initial.next t.next (each_bits (λ j u. update_bits (coded_update u)) 0 (take t.n t.updates))

@@ -7,7 +7,7 @@ use Rattle.writer.specs.Most.{most_config}
 use Rattle.writer.proofs.Widths.{Counted}
 use Rattle.writer.proofs.trim.configs_width.Given as goal
 
--- `configs_width` meets its contract: what was counted and what is still to come make the whole. Assumes nothing.
+-- What was counted and what is still to come make the whole.
 abbrev pub invariant-loop-i : goal.invariant-loop-i
 invariant-loop-i t =
     Counted (most_config * t.i) t.total.0 (each_bits (λ cfg c. config_bits c) 0 (configs_at t.trim trim_configs trim_head))

@@ -7,7 +7,7 @@ use Rattle.laying.proofs.Laws.{Rest}
 use Rattle.writer.specs.Most.{most_config}
 use Rattle.writer.proofs.trim.put_configs.Given as goal
 
--- `put_configs` meets its contract: whoever lays the configurations left from here has laid all from the start. Assumes nothing.
+-- Whoever lays the configurations left from here has laid all from the start.
 abbrev pub invariant-loop-i : goal.invariant-loop-i
 invariant-loop-i t =
     Rest (most_config * t.i) t.initial.out t.out t.initial.next t.next (each_bits (λ cfg c. config_bits c) 0 (configs_at t.trim trim_configs trim_head))

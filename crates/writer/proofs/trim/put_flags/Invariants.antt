@@ -5,7 +5,7 @@ use Rattle.record.specs.Bytes.{bytes_at}
 use Rattle.laying.proofs.Laws.{Rest}
 use Rattle.writer.proofs.trim.put_flags.Given as goal
 
--- `put_flags` meets its contract: whoever lays the flags left from here has laid all from the start. Assumes nothing.
+-- Whoever lays the flags left from here has laid all from the start.
 abbrev pub invariant-loop-i : goal.invariant-loop-i
 invariant-loop-i t =
     Rest t.i t.initial.out t.out t.initial.next t.next (each_bits (λ obj x. to_bits 1 x) 0 (bytes_at t.trim t.count trim_fixed))
