@@ -13,7 +13,9 @@ pub loop-blk-preserved : goal.loop-blk-preserved
 loop-blk-preserved c =
     let u = get_or c.args.timing.updates c.loop-blk.blk no_update in
     let began = c.raw.ensures in (
-      turn c.loop-blk.invariant.0 c.requires.1 (omega arith)
-          (elim c.if-raw-ge-FRAME_SAMPLES.branch [ then-raw-ge-FRAME_SAMPLES w ↦ omega (arith, is-late u began (omega (arith, w.if-raw-ge-FRAME_SAMPLES.true)), w.late-is) | else-raw-ge-FRAME_SAMPLES w ↦ omega (arith, not_late u began (omega (arith, w.if-raw-ge-FRAME_SAMPLES.false)), w.late-is) ]),
+      turn c.loop-blk.invariant.0 c.requires.1 (omega arith) (elim c.if-raw-ge-FRAME_SAMPLES.branch [
+        | then-raw-ge-FRAME_SAMPLES w ↦ omega (arith, is-late u began (omega (arith, w.if-raw-ge-FRAME_SAMPLES.true)), w.late-is)
+        | else-raw-ge-FRAME_SAMPLES w ↦ omega (arith, not_late u began (omega (arith, w.if-raw-ge-FRAME_SAMPLES.false)), w.late-is)
+      ]),
       elim c.if-raw-ge-FRAME_SAMPLES.branch [ then-raw-ge-FRAME_SAMPLES w ↦ omega arith | else-raw-ge-FRAME_SAMPLES w ↦ omega arith ],
     )
