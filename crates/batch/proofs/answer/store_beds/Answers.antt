@@ -1,7 +1,7 @@
 use Rattle.std.proofs.Common.{arith, refl, rules}
 use Rattle.oamd.specs.LeastFirst.{least_first}
 use Rattle.oamd.specs.Batch.{bed_bytes_of}
-use Rattle.batch.proofs.Each.{begun, turn, ended}
+use Rattle.batch.proofs.Each.{begun, turn}
 use Rattle.batch.proofs.answer.store_beds.Goals as goal
 
 pub loop-i-init : goal.loop-i-init
@@ -13,7 +13,3 @@ unfolding least_first bed_bytes_of
 loop-i-preserved c =
     let head = c.loop-i in
     (omega arith, turn bed_bytes_of _ head.invariant.1 (search rules) refl (omega (arith, head.invariant.0)) c.store_bed.ensures)
-
-pub returns : goal.returns
-returns c =
-    record { long = search rules; stands = ended bed_bytes_of c.loop-i.invariant.1 (search rules) }
