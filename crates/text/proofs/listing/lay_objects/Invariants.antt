@@ -10,7 +10,8 @@ use Rattle.text.proofs.listing.lay_objects.Given as goal
 abbrev pub invariant-loop-object : goal.invariant-loop-object
 invariant-loop-object t =
     (t.object ≤ t.objects) × (t.place ≡ record_stride * (t.object * t.blocks))
-    × Rest t.initial.text t.text t.initial.to t.to (record_lines t.objects t.blocks t.records) (texts (object_lines t.blocks t.records) (from t.object (t.objects - t.object)))
+    × Rest t.initial.text t.text t.initial.to t.to (record_lines t.objects t.blocks t.records)
+    (texts (object_lines t.blocks t.records) (from t.object (t.objects - t.object)))
 
 abbrev pub decreases-loop-object : goal.decreases-loop-object
 decreases-loop-object t =
