@@ -1,6 +1,6 @@
-use Rattle.std.proofs.Common.{List, ap, arith, drop, take, ℕ, ◌*◌, ◌+◌, ◌≡◌}
+use Rattle.std.proofs.Common.{ap, arith, drop, take, ℕ, ◌*◌, ◌+◌, ◌≡◌}
 use Rattle.oamd.specs.Tables.{record_stride}
-use Rattle.text.specs.Listing.{record_line, record_at}
+use Rattle.text.specs.Listing.{record_line}
 use Rattle.text.proofs.LayLaws.{laid_is, rest_step, rest_end}
 use Rattle.text.proofs.LineLaws.{count_more, count_none}
 use Rattle.text.proofs.listing.lay_object.Invariants.{line_of}
