@@ -4,7 +4,7 @@ use Rattle.bits.specs.Writes.{to_bytes}
 use Rattle.bits.specs.Bytes.{length-to_bytes}
 use Rattle.reader.specs.declared.Sifted.{Sifted}
 use Rattle.salvaging.specs.declared.SalvageAnswer.{SalvageAnswer}
-use Rattle.salvaging.specs.Salvage.{refused_with, salvaging}
+use Rattle.salvaging.specs.Salvage.{refused_with}
 use Rattle.salvaging.specs.Parts.{gone_by, left_by}
 use Rattle.salvaging.proofs.Verdicts.{gives, refuses, by-room, no_room, fits}
 use Rattle.salvaging.proofs.finish.Goals as goal
