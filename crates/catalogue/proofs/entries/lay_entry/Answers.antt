@@ -1,5 +1,4 @@
 use Rattle.std.proofs.Common.{arith, sym}
-use borrow.Author.Tests.{not-true, not-false}
 use Rattle.text.proofs.LayLaws.{laid_nil, laid_is}
 use Rattle.catalogue.proofs.WriteLines.{entry_none, entry-laid}
 use Rattle.catalogue.proofs.entries.lay_entry.Goals as goal

@@ -1,6 +1,5 @@
 use Rattle.std.proofs.Common.{Bool, List, [], add-one, arith, drop, drop-cons, drop_of_length-le, false, get_or, length, suc, true, ℕ, ◌+◌, ◌<◌, ◌∙◌, ◌∷◌, ◌≡◌, ◌≤◌}
 use mathlib.Core.Option.{none, some}
-use borrow.Author.Tests.{not-true, not-false}
 use Rattle.bits.specs.Language.{pick}
 use Rattle.text.specs.Laying.{last_position}
 use Rattle.catalogue.specs.Scan.{after}
