@@ -1,4 +1,3 @@
--- The casts name their facts, which lie further back than `search` looks.
 use Rattle.bits.proofs.Sticky.{plain, emptied}
 use Rattle.oamd.specs.Extended.{obj_div_block}
 use Rattle.syntax.proofs.Lines.{◌▸◌}
