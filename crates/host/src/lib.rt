@@ -1,4 +1,4 @@
-// What a C program calls. Numbers, byte slices and tables of numbers cross this border, and one answer by value; include/skriemelt.h declares the same for C.
+// What a C program calls, as a library; host_c exports it. Numbers, byte slices and tables of numbers cross this border, and one answer by value; include/skriemelt.h declares the same for C.
 #![tactic(auto)]
 
 ghost use Rattle.std.specs.Prelude.{◌≡◌};
@@ -21,8 +21,7 @@ use text::TextAnswer;
 // The version of this interface: a thousand times the major number, plus the minor.
 const VERSION: u32 = 3004;
 
-#[unsafe(no_mangle)]
-pub extern "C" fn skriemelt_version() -> u32
+pub fn skriemelt_version() -> u32
     ensures { result ≡ 3004 }
 {
     VERSION
@@ -30,13 +29,7 @@ pub extern "C" fn skriemelt_version() -> u32
 
 // Reads the payload of a frame, by the frame's number. Accepted: the records, each with its time, and the trim table are the first bytes of their lent buffers, and no other
 // byte of these changes. Refused: none changes.
-#[unsafe(no_mangle)]
-pub extern "C" fn skriemelt_read(
-    payload: &[u8],
-    frame: u32,
-    records: &mut [u8],
-    trim: &mut [u8],
-) -> ReadAnswer
+pub fn skriemelt_read(payload: &[u8], frame: u32, records: &mut [u8], trim: &mut [u8]) -> ReadAnswer
     ensures { (record { answer = result; buffer = records.new; trim = trim.new })
         ≡ reading frame payload.now records.old trim.old }
 {
@@ -45,8 +38,7 @@ pub extern "C" fn skriemelt_read(
 
 // Reads each payload of a shelf as a part of the store, with the number of its frame: each entry's slots and place as a read of it alone would give them. Refused with 13: nothing is read, and no
 // byte of the three lent buffers changes.
-#[unsafe(no_mangle)]
-pub extern "C" fn skriemelt_read_batch(
+pub fn skriemelt_read_batch(
     store: &[u8],
     starts: &[u64],
     lengths: &[u64],
@@ -67,8 +59,7 @@ pub extern "C" fn skriemelt_read_batch(
 }
 
 // Writes the tables of a frame, whose records have its times. Accepted: the payload is the first bytes of the lent buffer, and no other byte of it changes. Refused: none changes.
-#[unsafe(no_mangle)]
-pub extern "C" fn skriemelt_write(
+pub fn skriemelt_write(
     programme: Programme,
     timing: Timing,
     frame: u32,
@@ -83,24 +74,21 @@ pub extern "C" fn skriemelt_write(
 }
 
 // Lists a payload, as that of frame 0. Accepted: the listing is the first bytes of the lent buffer, and no other byte of it changes. Refused: none changes.
-#[unsafe(no_mangle)]
-pub extern "C" fn skriemelt_list_text(payload: &[u8], text: &mut [u8]) -> TextAnswer
+pub fn skriemelt_list_text(payload: &[u8], text: &mut [u8]) -> TextAnswer
     ensures { (record { answer = result; buffer = text.new }) ≡ texted (listing payload.now) text.old }
 {
     text::list_text(payload, text)
 }
 
 // Sums up a shelf of payloads, each a part of the store. Refused with 13 or 16, all counts are 0.
-#[unsafe(no_mangle)]
-pub extern "C" fn skriemelt_summarise(store: &[u8], starts: &[u64], lengths: &[u64]) -> Summary
+pub fn skriemelt_summarise(store: &[u8], starts: &[u64], lengths: &[u64]) -> Summary
     ensures { result ≡ summing store.now starts.now lengths.now }
 {
     summary::summarise(store, starts, lengths)
 }
 
 // Lays the catalogue of a segment of frames. Accepted: the text is the first bytes of the lent buffer, and no other byte of it changes. Refused: none changes.
-#[unsafe(no_mangle)]
-pub extern "C" fn skriemelt_catalogue_write(
+pub fn skriemelt_catalogue_write(
     store: &[u8],
     starts: &[u64],
     lengths: &[u64],
@@ -114,8 +102,7 @@ pub extern "C" fn skriemelt_catalogue_write(
 }
 
 // The same behind other calls, with the update before as the last of them left it. Accepted: it is the last update of this one. Refused: it stays.
-#[unsafe(no_mangle)]
-pub extern "C" fn skriemelt_catalogue_write_on(
+pub fn skriemelt_catalogue_write_on(
     store: &[u8],
     starts: &[u64],
     lengths: &[u64],
@@ -130,12 +117,7 @@ pub extern "C" fn skriemelt_catalogue_write_on(
 }
 
 // Reads a catalogue back. Accepted: the frames' lines and the records are the first bytes of their lent buffers, and no other byte of these changes. Refused: none changes.
-#[unsafe(no_mangle)]
-pub extern "C" fn skriemelt_catalogue_read(
-    text: &[u8],
-    lines: &mut [u8],
-    records: &mut [u8],
-) -> BackAnswer
+pub fn skriemelt_catalogue_read(text: &[u8], lines: &mut [u8], records: &mut [u8]) -> BackAnswer
     ensures { (record { answer = result; lines = lines.new; records = records.new })
         ≡ reading_back_alone text.now lines.old records.old }
 {
@@ -143,8 +125,7 @@ pub extern "C" fn skriemelt_catalogue_read(
 }
 
 // The same behind other pieces of a text, with the update before as the last of them left it.
-#[unsafe(no_mangle)]
-pub extern "C" fn skriemelt_catalogue_read_on(
+pub fn skriemelt_catalogue_read_on(
     text: &[u8],
     before: &mut [u8],
     lines: &mut [u8],
@@ -157,8 +138,7 @@ pub extern "C" fn skriemelt_catalogue_read_on(
 }
 
 // Why a byte of the record of an object and a block is what it is: the steps back to what gave its value. Nothing is lent.
-#[unsafe(no_mangle)]
-pub extern "C" fn skriemelt_why(payload: &[u8], object: u32, block: u32, byte: u32) -> WhyAnswer
+pub fn skriemelt_why(payload: &[u8], object: u32, block: u32, byte: u32) -> WhyAnswer
     ensures { result ≡ explaining payload.now object block byte }
 {
     sources::why(payload, object, block, byte)

@@ -9,7 +9,7 @@ use Rattle.unique.specs.Sets.{outcome-set, batched-set}
 
 -- Two answers, each with the bytes that it leaves in the two lent buffers, are the same, buffers too, if the store's bytes, the start, the length, the frame and the
 -- bytes that stood in the buffers are.
-pub one-read_entry : OneAnswer read-entry.ended (λ M. read-entry.clauses) (λ M. read-entry.spec)
+pub one-read_entry : OneAnswer read-entry.ended (λ M 𝓤 𝓛. read-entry.clauses 𝓛) (λ M 𝓤 𝓛. read-entry.spec 𝓛)
     (λ κs a. a.0.now beside a.1.0 beside a.1.1.0 beside a.1.1.1.0 beside a.1.1.1.1.0.now beside a.1.1.1.1.1.0.now)
     {O = Outcome} (λ κs a r z. record { answer = r; buffer = z.1.1.1.1.0; trim = z.1.1.1.1.1.0 })
 one-read_entry =
@@ -28,7 +28,7 @@ OneBatch clauses spec =
       shelf = record { records = z.1.1.1.1.1.1.0; trims = z.1.1.1.1.1.1.1.0; answers = z.1.1.1.1.1.1.1.1.0 };
     })
 
-pub one-read_batch : OneBatch (λ M. read-batch.clauses) (λ M. read-batch.spec)
+pub one-read_batch : OneBatch (λ M 𝓤 𝓛. read-batch.clauses 𝓛) (λ M 𝓤 𝓛. read-batch.spec 𝓛)
 one-read_batch =
     by_equation (λ κs. batched-set) (λ w. refl)
     (λ i. batching i.0 i.1.0 i.1.1.0 i.1.1.1.0 i.1.1.1.1.0 i.1.1.1.1.1.0

@@ -36,42 +36,42 @@ use Rattle.bits.specs.contracts.number as number
 use Rattle.unique.specs.OneAnswer.{OneAnswer, by_relation, by_equation, said, result-set, ◌beside◌}
 use Rattle.unique.specs.Readings.{holding, giving, TookBy, took-once, GaveBy, gave-once, reading-set}
 
-pub one-open : OneAnswer opens.ended (λ M. opens.clauses) (λ M. opens.spec) (λ κs a. a) (λ κs a r z. r)
+pub one-open : OneAnswer opens.ended (λ M 𝓤 𝓛. opens.clauses 𝓛) (λ M 𝓤 𝓛. opens.spec 𝓛) (λ κs a. a) (λ κs a r z. r)
 one-open = by_equation (result-set opens.ended) (λ w. refl) _ (λ w κs a r z p. said (λ h. h) p.holds)
 
-pub one-inner_of : OneAnswer inner_of.ended (λ M. inner_of.clauses) (λ M. inner_of.spec) (λ κs a. a) (λ κs a r z. r)
+pub one-inner_of : OneAnswer inner_of.ended (λ M 𝓤 𝓛. inner_of.clauses 𝓛) (λ M 𝓤 𝓛. inner_of.spec 𝓛) (λ κs a. a) (λ κs a r z. r)
 one-inner_of = by_equation (result-set inner_of.ended) (λ w. refl) _ (λ w κs a r z p. said (λ h. h) p.holds)
 
-pub one-close : OneAnswer close.ended (λ M. close.clauses) (λ M. close.spec) (λ κs a. a) (λ κs a r z. r)
+pub one-close : OneAnswer close.ended (λ M 𝓤 𝓛. close.clauses 𝓛) (λ M 𝓤 𝓛. close.spec 𝓛) (λ κs a. a) (λ κs a r z. r)
 one-close = by_equation (result-set close.ended) (λ w. refl) _ (λ w κs a r z p. said (λ h. h) p.holds)
 
-pub one-with_value : OneAnswer with_value.ended (λ M. with_value.clauses) (λ M. with_value.spec) (λ κs a. a) (λ κs a r z. r)
+pub one-with_value : OneAnswer with_value.ended (λ M 𝓤 𝓛. with_value.clauses 𝓛) (λ M 𝓤 𝓛. with_value.spec 𝓛) (λ κs a. a) (λ κs a r z. r)
 one-with_value = by_equation (result-set with_value.ended) (λ w. refl) _ (λ w κs a r z p. said (λ h. h) p.holds)
 
-pub one_word : OneAnswer word.ended (λ M. word.clauses) (λ M. word.spec) (λ κs a. a.0.now beside a.1) (λ κs a r z. r)
-one_word = by_equation (result-set word.ended) (λ w. refl) (λ i. word_at i.0 (i.1.0.0 / 8)) (λ w κs a r z p. said (λ h. h) p.holds)
+pub one-word : OneAnswer word.ended (λ M 𝓤 𝓛. word.clauses 𝓛) (λ M 𝓤 𝓛. word.spec 𝓛) (λ κs a. a.0.now beside a.1) (λ κs a r z. r)
+one-word = by_equation (result-set word.ended) (λ w. refl) (λ i. word_at i.0 (i.1.0.0 / 8)) (λ w κs a r z p. said (λ h. h) p.holds)
 
-pub one-window : OneAnswer window.ended (λ M. window.clauses) (λ M. window.spec) (λ κs a. a.0.now beside a.1) (λ κs a r z. r)
+pub one-window : OneAnswer window.ended (λ M 𝓤 𝓛. window.clauses 𝓛) (λ M 𝓤 𝓛. window.spec 𝓛) (λ κs a. a.0.now beside a.1) (λ κs a r z. r)
 one-window = by_equation (result-set window.ended) (λ w. refl) (λ i. wide_at i.0 (i.1.0.0 / 8)) (λ w κs a r z p. said (λ h. h.0) p.holds)
 
-pub one-look : OneAnswer look.ended (λ M. look.clauses) (λ M. look.spec) (λ κs a. a) (λ κs a r z. r)
+pub one-look : OneAnswer look.ended (λ M 𝓤 𝓛. look.clauses 𝓛) (λ M 𝓤 𝓛. look.spec 𝓛) (λ κs a. a) (λ κs a r z. r)
 one-look = by_equation (result-set look.ended) (λ w. refl) _ (λ w κs a r z p. said (λ h. h.0) p.holds)
 
-pub one-look_if : OneAnswer look-if.ended (λ M. look-if.clauses) (λ M. look-if.spec) (λ κs a. a) (λ κs a r z. r)
+pub one-look_if : OneAnswer look-if.ended (λ M 𝓤 𝓛. look-if.clauses 𝓛) (λ M 𝓤 𝓛. look-if.spec 𝓛) (λ κs a. a) (λ κs a r z. r)
 one-look_if = by_equation (result-set look-if.ended) (λ w. refl) _ (λ w κs a r z p. said (λ h. h.0) p.holds)
 
-pub one-take : OneAnswer take.ended (λ M. take.clauses) (λ M. take.spec) (λ κs a. a.0.now beside a.1) (λ κs a r z. holding r)
+pub one-take : OneAnswer take.ended (λ M 𝓤 𝓛. take.clauses 𝓛) (λ M 𝓤 𝓛. take.spec 𝓛) (λ κs a. a.0.now beside a.1) (λ κs a r z. holding r)
 one-take =
     by_relation (λ κs. reading-set coded_ℕ) (λ w. refl) (TookBy _ _) (took-once (λ i. bits i.1.1.1.0) (λ i. 2 ^ i.1.1.1.0))
     (λ w κs a r z p. said (λ h. (r, h, refl)) p.holds)
 
-pub one-take_if : OneAnswer take-if.ended (λ M. take-if.clauses) (λ M. take-if.spec)
+pub one-take_if : OneAnswer take-if.ended (λ M 𝓤 𝓛. take-if.clauses 𝓛) (λ M 𝓤 𝓛. take-if.spec 𝓛)
     (λ κs a. a.1.0.now beside a.1.1.0 beside a.1.1.1.0 beside a.0 beside a.1.1.1.1) (λ κs a r z. holding r)
 one-take_if =
     by_relation (λ κs. reading-set coded_ℕ) (λ w. refl) (TookBy _ _) (took-once (λ i. bits_if i.1.1.1.0 i.1.1.1.1.0) (λ i. 2 ^ i.1.1.1.1.0))
     (λ w κs a r z p. said (λ h. (r, h, refl)) p.holds)
 
-pub one-take_unless : OneAnswer take-unless.ended (λ M. take-unless.clauses) (λ M. take-unless.spec)
+pub one-take_unless : OneAnswer take-unless.ended (λ M 𝓤 𝓛. take-unless.clauses 𝓛) (λ M 𝓤 𝓛. take-unless.spec 𝓛)
     (λ κs a. a.1.0.now beside a.1.1.0 beside a.1.1.1.0 beside a.0 beside a.1.1.1.1) (λ κs a r z. holding r)
 one-take_unless =
     by_relation (λ κs. reading-set coded_ℕ) (λ w. refl) (TookBy _ _)
@@ -83,7 +83,7 @@ one-take_unless =
 cursor-once : (d d' : Cur) (v : ℕ) → d.v ≡ v → d'.v ≡ v → valued d 0 ≡ valued d' 0 → d ≡ d'
 cursor-once d d' v h h' same = ap (λ (x : ℕ). valued d x) (h ∙ sym h') ∙ ap (λ (x : Cur). valued x d'.v) same
 
-pub one-refuse_if : OneAnswer refuse-if.ended (λ M. refuse-if.clauses) (λ M. refuse-if.spec)
+pub one-refuse_if : OneAnswer refuse-if.ended (λ M 𝓤 𝓛. refuse-if.clauses 𝓛) (λ M 𝓤 𝓛. refuse-if.spec 𝓛)
     (λ κs a. a.1.0.now beside a.1.1.0 beside a.1.1.1.0 beside a.0 beside a.1.1.1.1) (λ κs a r z. r)
 one-refuse_if =
     by_relation (result-set refuse-if.ended) (λ w. refl)
@@ -92,7 +92,7 @@ one-refuse_if =
     (λ i d d' g g'. cursor-once d d' i.1.1.0.v g.0 g'.0 (one-reads g.1 g'.1).0)
     (λ w κs a r z p. said (λ h. h) p.holds)
 
-pub one-skip_if : OneAnswer skip-if.ended (λ M. skip-if.clauses) (λ M. skip-if.spec)
+pub one-skip_if : OneAnswer skip-if.ended (λ M 𝓤 𝓛. skip-if.clauses 𝓛) (λ M 𝓤 𝓛. skip-if.spec 𝓛)
     (λ κs a. a.1.0.now beside a.1.1.0 beside a.1.1.1.0 beside a.0 beside a.1.1.1.1) (λ κs a r z. r)
 one-skip_if =
     by_relation (result-set skip-if.ended) (λ w. refl)
@@ -100,35 +100,35 @@ one-skip_if =
     (λ i d d' g g'. (one-gave g g').0)
     (λ w κs a r z p. said (λ h. h) p.holds)
 
-pub one-read_size : OneAnswer read-size.ended (λ M. read-size.clauses) (λ M. read-size.spec)
+pub one-read_size : OneAnswer read-size.ended (λ M 𝓤 𝓛. read-size.clauses 𝓛) (λ M 𝓤 𝓛. read-size.spec 𝓛)
     (λ κs a. a.0.now beside a.1) (λ κs a r z. giving r.size r.cur)
 one-read_size =
     by_relation (λ κs. reading-set (size.the_row).coded) (λ w. refl) (GaveBy _) (gave-once (λ i. variable_bits_max))
     (λ w κs a r z p. said (λ h. (r.size, r.cur, h.2, refl)) p.holds)
 
-pub one-as_flag : OneAnswer as-flag.ended (λ M. as-flag.clauses) (λ M. as-flag.spec) (λ κs a. a) (λ κs a r z. r)
+pub one-as_flag : OneAnswer as-flag.ended (λ M 𝓤 𝓛. as-flag.clauses 𝓛) (λ M 𝓤 𝓛. as-flag.spec 𝓛) (λ κs a. a) (λ κs a r z. r)
 one-as_flag = by_equation (result-set as-flag.ended) (λ w. refl) _ (λ w κs a r z p. said (λ h. h) p.holds)
 
-pub one-both : OneAnswer both.ended (λ M. both.clauses) (λ M. both.spec) (λ κs a. a) (λ κs a r z. r)
+pub one-both : OneAnswer both.ended (λ M 𝓤 𝓛. both.clauses 𝓛) (λ M 𝓤 𝓛. both.spec 𝓛) (λ κs a. a) (λ κs a r z. r)
 one-both = by_equation (result-set both.ended) (λ w. refl) _ (λ w κs a r z p. said (λ h. h) p.holds)
 
-pub one_choice : OneAnswer choice.ended (λ M. choice.clauses) (λ M. choice.spec) (λ κs a. a) (λ κs a r z. r)
-one_choice = by_equation (result-set choice.ended) (λ w. refl) _ (λ w κs a r z p. said (λ h. h) p.holds)
+pub one-choice : OneAnswer choice.ended (λ M 𝓤 𝓛. choice.clauses 𝓛) (λ M 𝓤 𝓛. choice.spec 𝓛) (λ κs a. a) (λ κs a r z. r)
+one-choice = by_equation (result-set choice.ended) (λ w. refl) _ (λ w κs a r z p. said (λ h. h) p.holds)
 
-pub one-chosen : OneAnswer chosen.ended (λ M. chosen.clauses) (λ M. chosen.spec) (λ κs a. a) (λ κs a r z. r)
+pub one-chosen : OneAnswer chosen.ended (λ M 𝓤 𝓛. chosen.clauses 𝓛) (λ M 𝓤 𝓛. chosen.spec 𝓛) (λ κs a. a) (λ κs a r z. r)
 one-chosen = by_equation (result-set chosen.ended) (λ w. refl) _ (λ w κs a r z p. said (λ h. h) p.holds)
 
-pub one-either : OneAnswer either.ended (λ M. either.clauses) (λ M. either.spec) (λ κs a. a) (λ κs a r z. r)
+pub one-either : OneAnswer either.ended (λ M 𝓤 𝓛. either.clauses 𝓛) (λ M 𝓤 𝓛. either.spec 𝓛) (λ κs a. a) (λ κs a r z. r)
 one-either = by_equation (result-set either.ended) (λ w. refl) _ (λ w κs a r z p. said (λ h. h) p.holds)
 
-pub one-flag : OneAnswer flag.ended (λ M. flag.clauses) (λ M. flag.spec) (λ κs a. a) (λ κs a r z. r)
+pub one-flag : OneAnswer flag.ended (λ M 𝓤 𝓛. flag.clauses 𝓛) (λ M 𝓤 𝓛. flag.spec 𝓛) (λ κs a. a) (λ κs a r z. r)
 one-flag = by_equation (result-set flag.ended) (λ w. refl) _ (λ w κs a r z p. said (λ h. h) p.holds)
 
-pub one_less : OneAnswer less.ended (λ M. less.clauses) (λ M. less.spec) (λ κs a. a) (λ κs a r z. r)
-one_less = by_equation (result-set less.ended) (λ w. refl) _ (λ w κs a r z p. said (λ h. h) p.holds)
+pub one-less : OneAnswer less.ended (λ M 𝓤 𝓛. less.clauses 𝓛) (λ M 𝓤 𝓛. less.spec 𝓛) (λ κs a. a) (λ κs a r z. r)
+one-less = by_equation (result-set less.ended) (λ w. refl) _ (λ w κs a r z p. said (λ h. h) p.holds)
 
-pub one-minus : OneAnswer minus.ended (λ M. minus.clauses) (λ M. minus.spec) (λ κs a. a) (λ κs a r z. r)
+pub one-minus : OneAnswer minus.ended (λ M 𝓤 𝓛. minus.clauses 𝓛) (λ M 𝓤 𝓛. minus.spec 𝓛) (λ κs a. a) (λ κs a r z. r)
 one-minus = by_equation (result-set minus.ended) (λ w. refl) _ (λ w κs a r z p. said (λ h. h) p.holds)
 
-pub one_number : OneAnswer number.ended (λ M. number.clauses) (λ M. number.spec) (λ κs a. a) (λ κs a r z. r)
-one_number = by_equation (result-set number.ended) (λ w. refl) _ (λ w κs a r z p. said (λ h. h.0) p.holds)
+pub one-number : OneAnswer number.ended (λ M 𝓤 𝓛. number.clauses 𝓛) (λ M 𝓤 𝓛. number.spec 𝓛) (λ κs a. a) (λ κs a r z. r)
+one-number = by_equation (result-set number.ended) (λ w. refl) _ (λ w κs a r z p. said (λ h. h.0) p.holds)

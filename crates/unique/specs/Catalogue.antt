@@ -41,7 +41,7 @@ OneCatalogueOn clauses spec =
     (λ κs a. a.0.now beside a.1.0.now beside a.1.1.0.now beside a.1.1.1.0.now beside a.1.1.1.1.0.now beside a.1.1.1.1.1.0.now)
     {O = Catalogued} (λ κs a r z. record { answer = r; before = z.1.1.1.1.0; text = z.1.1.1.1.1.0 })
 
-pub one-write_catalogue_on : OneCatalogueOn (λ M. write-catalogue-on.clauses) (λ M. write-catalogue-on.spec)
+pub one-write_catalogue_on : OneCatalogueOn (λ M 𝓤 𝓛. write-catalogue-on.clauses 𝓛) (λ M 𝓤 𝓛. write-catalogue-on.spec 𝓛)
 one-write_catalogue_on =
     by_equation (λ κs. catalogued-set) (λ w. refl) (λ i. cataloguing i.0 i.1.0 i.1.1.0 i.1.1.1.0 i.1.1.1.1.0 i.1.1.1.1.1)
     (λ w κs a r z p. said (λ h. h) p.holds)
@@ -52,7 +52,7 @@ OneCatalogue clauses spec =
     OneAnswer write-catalogue.ended clauses spec (λ κs a. a.0.now beside a.1.0.now beside a.1.1.0.now beside a.1.1.1.0.now beside a.1.1.1.1.0.now)
     {O = CataloguedAlone} (λ κs a r z. record { answer = r; text = z.1.1.1.1.0 })
 
-pub one-write_catalogue : OneCatalogue (λ M. write-catalogue.clauses) (λ M. write-catalogue.spec)
+pub one-write_catalogue : OneCatalogue (λ M 𝓤 𝓛. write-catalogue.clauses 𝓛) (λ M 𝓤 𝓛. write-catalogue.spec 𝓛)
 one-write_catalogue =
     by_equation (λ κs. catalogued-alone-set) (λ w. refl) (λ i. cataloguing_alone i.0 i.1.0 i.1.1.0 i.1.1.1.0 i.1.1.1.1)
     (λ w κs a r z p. said (λ h. h) p.holds)
@@ -63,7 +63,7 @@ OneBackOn clauses spec =
     OneAnswer read-catalogue-on.ended clauses spec (λ κs a. a.0.now beside a.1.0.now beside a.1.1.0.now beside a.1.1.1.0.now)
     {O = Backed} (λ κs a r z. record { answer = r; before = z.1.0; lines = z.1.1.0; records = z.1.1.1.0 })
 
-pub one-read_catalogue_on : OneBackOn (λ M. read-catalogue-on.clauses) (λ M. read-catalogue-on.spec)
+pub one-read_catalogue_on : OneBackOn (λ M 𝓤 𝓛. read-catalogue-on.clauses 𝓛) (λ M 𝓤 𝓛. read-catalogue-on.spec 𝓛)
 one-read_catalogue_on =
     by_equation (λ κs. backed-set) (λ w. refl) (λ i. reading_back i.0 i.1.0 i.1.1.0 i.1.1.1) (λ w κs a r z p. said (λ h. h) p.holds)
 
@@ -73,6 +73,6 @@ OneBack clauses spec =
     OneAnswer read-catalogue.ended clauses spec (λ κs a. a.0.now beside a.1.0.now beside a.1.1.0.now)
     {O = BackedAlone} (λ κs a r z. record { answer = r; lines = z.1.0; records = z.1.1.0 })
 
-pub one-read_catalogue : OneBack (λ M. read-catalogue.clauses) (λ M. read-catalogue.spec)
+pub one-read_catalogue : OneBack (λ M 𝓤 𝓛. read-catalogue.clauses 𝓛) (λ M 𝓤 𝓛. read-catalogue.spec 𝓛)
 one-read_catalogue =
     by_equation (λ κs. backed-alone-set) (λ w. refl) (λ i. reading_back_alone i.0 i.1.0 i.1.1) (λ w κs a r z p. said (λ h. h) p.holds)

@@ -26,72 +26,72 @@ use Rattle.unique.specs.OneAnswer.{OneAnswer, by_relation, said, result-set}
 packed-once : {I : Type 0} (bits : I → List ℕ) (i : I) (p q : Packed) → Packs p (bits i) → Packs q (bits i) → p ≡ q
 packed-once bits i p q h g = let same = one-packed p q (bits i) h g in λ j. record { width = record { 0 = same.0 j }; value = same.1 j }
 
-pub one-fore : OneAnswer fore.ended (λ M. fore.clauses) (λ M. fore.spec) (λ κs a. a) (λ κs a r z. r)
+pub one-fore : OneAnswer fore.ended (λ M 𝓤 𝓛. fore.clauses 𝓛) (λ M 𝓤 𝓛. fore.spec 𝓛) (λ κs a. a) (λ κs a r z. r)
 one-fore =
     by_relation (result-set fore.ended) (λ w. refl) (λ a r. Packs r (fore_bits a.0 a.1.0)) (packed-once _)
     (λ w κs a r z p. said (λ h. h.packs) p.holds)
 
-pub one-aft : OneAnswer aft.ended (λ M. aft.clauses) (λ M. aft.spec) (λ κs a. a) (λ κs a r z. r)
+pub one-aft : OneAnswer aft.ended (λ M 𝓤 𝓛. aft.clauses 𝓛) (λ M 𝓤 𝓛. aft.spec 𝓛) (λ κs a. a) (λ κs a r z. r)
 one-aft =
     by_relation (result-set aft.ended) (λ w. refl) (λ a r. Packs r (aft_bits a.0)) (packed-once _)
     (λ w κs a r z p. said (λ h. h.packs) p.holds)
 
-pub one-short : OneAnswer short.ended (λ M. short.clauses) (λ M. short.spec) (λ κs a. a) (λ κs a r z. r)
+pub one-short : OneAnswer short.ended (λ M 𝓤 𝓛. short.clauses 𝓛) (λ M 𝓤 𝓛. short.spec 𝓛) (λ κs a. a) (λ κs a r z. r)
 one-short =
     by_relation (result-set short.ended) (λ w. refl) (λ a r. Packs r (opening_bits a.0 a.1.0 ++ to_bits 1 0)) (packed-once _)
     (λ w κs a r z p. said (λ h. h.packs) p.holds)
 
-pub one-head : OneAnswer head.ended (λ M. head.clauses) (λ M. head.spec) (λ κs a. a) (λ κs a r z. r)
+pub one-head : OneAnswer head.ended (λ M 𝓤 𝓛. head.clauses 𝓛) (λ M 𝓤 𝓛. head.spec 𝓛) (λ κs a. a) (λ κs a r z. r)
 one-head =
     by_relation (result-set head.ended) (λ w. refl) (λ a r. Packs r (head_bits a.0)) (packed-once _)
     (λ w κs a r z p. said (λ h. h.packs) p.holds)
 
-pub one-bed : OneAnswer bed.ended (λ M. bed.clauses) (λ M. bed.spec) (λ κs a. a) (λ κs a r z. r)
+pub one-bed : OneAnswer bed.ended (λ M 𝓤 𝓛. bed.clauses 𝓛) (λ M 𝓤 𝓛. bed.spec 𝓛) (λ κs a. a) (λ κs a r z. r)
 one-bed =
     by_relation (result-set bed.ended) (λ w. refl) (λ a r. Packs r (bed_bits a.0)) (packed-once _)
     (λ w κs a r z p. said (λ h. h.packs) p.holds)
 
-pub one-tail : OneAnswer tail.ended (λ M. tail.clauses) (λ M. tail.spec) (λ κs a. a) (λ κs a r z. r)
+pub one-tail : OneAnswer tail.ended (λ M 𝓤 𝓛. tail.clauses 𝓛) (λ M 𝓤 𝓛. tail.spec 𝓛) (λ κs a. a) (λ κs a r z. r)
 one-tail =
     by_relation (result-set tail.ended) (λ w. refl) (λ a r. Packs r (tail_bits a.0)) (packed-once _)
     (λ w κs a r z p. said (λ h. h.packs) p.holds)
 
-pub one_field : OneAnswer field.ended (λ M. field.clauses) (λ M. field.spec) (λ κs a. a) (λ κs a r z. r)
-one_field =
+pub one-field : OneAnswer field.ended (λ M 𝓤 𝓛. field.clauses 𝓛) (λ M 𝓤 𝓛. field.spec 𝓛) (λ κs a. a) (λ κs a r z. r)
+one-field =
     by_relation (result-set field.ended) (λ w. refl) (λ a r. Packs r (to_bits a.0 a.1.0)) (packed-once _)
     (λ w κs a r z p. said (λ h. h.packs) p.holds)
 
-pub one-lead : OneAnswer lead.ended (λ M. lead.clauses) (λ M. lead.spec) (λ κs a. a) (λ κs a r z. r)
+pub one-lead : OneAnswer lead.ended (λ M 𝓤 𝓛. lead.clauses 𝓛) (λ M 𝓤 𝓛. lead.spec 𝓛) (λ κs a. a) (λ κs a r z. r)
 one-lead =
     by_relation (result-set lead.ended) (λ w. refl) (λ a r. Packs r (offset_bits (coded_offset a.0) ++ to_bits 3 (a.1.0 - 1))) (packed-once _)
     (λ w κs a r z p. said (λ h. h.packs) p.holds)
 
-pub one-update : OneAnswer update.ended (λ M. update.clauses) (λ M. update.spec) (λ κs a. a) (λ κs a r z. r)
+pub one-update : OneAnswer update.ended (λ M 𝓤 𝓛. update.clauses 𝓛) (λ M 𝓤 𝓛. update.spec 𝓛) (λ κs a. a) (λ κs a r z. r)
 one-update =
     by_relation (result-set update.ended) (λ w. refl) (λ a r. Packs r (update_bits (coded_update a.0))) (packed-once _)
     (λ w κs a r z p. said (λ h. h.packs) p.holds)
 
-pub one_size : OneAnswer size.ended (λ M. size.clauses) (λ M. size.spec) (λ κs a. a) (λ κs a r z. r)
-one_size =
+pub one-size : OneAnswer size.ended (λ M 𝓤 𝓛. size.clauses 𝓛) (λ M 𝓤 𝓛. size.spec 𝓛) (λ κs a. a) (λ κs a r z. r)
+one-size =
     by_relation (result-set size.ended) (λ w. refl) (λ a r. Packs r (size_bits a.0)) (packed-once _)
     (λ w κs a r z p. said (λ h. h.packs) p.holds)
 
-pub one-front : OneAnswer front.ended (λ M. front.clauses) (λ M. front.spec) (λ κs a. a) (λ κs a r z. r)
+pub one-front : OneAnswer front.ended (λ M 𝓤 𝓛. front.clauses 𝓛) (λ M 𝓤 𝓛. front.spec 𝓛) (λ κs a. a) (λ κs a r z. r)
 one-front =
     by_relation (result-set front.ended) (λ w. refl) (λ a r. Packs r (to_bits 4 a.0 ++ (size_bits a.1.0 ++ to_bits 1 0))) (packed-once _)
     (λ w κs a r z p. said (λ h. h.packs) p.holds)
 
-pub one-divergence : OneAnswer divergence.ended (λ M. divergence.clauses) (λ M. divergence.spec) (λ κs a. a) (λ κs a r z. r)
+pub one-divergence : OneAnswer divergence.ended (λ M 𝓤 𝓛. divergence.clauses 𝓛) (λ M 𝓤 𝓛. divergence.spec 𝓛) (λ κs a. a) (λ κs a r z. r)
 one-divergence =
     by_relation (result-set divergence.ended) (λ w. refl) (λ a r. Packs r (divergence_bits a.0 a.1.0)) (packed-once _)
     (λ w κs a r z p. said (λ h. h.packs) p.holds)
 
-pub one-precise : OneAnswer precise.ended (λ M. precise.clauses) (λ M. precise.spec) (λ κs a. a) (λ κs a r z. r)
+pub one-precise : OneAnswer precise.ended (λ M 𝓤 𝓛. precise.clauses 𝓛) (λ M 𝓤 𝓛. precise.spec 𝓛) (λ κs a. a) (λ κs a r z. r)
 one-precise =
     by_relation (result-set precise.ended) (λ w. refl) (λ a r. Packs r (precise_bits a.0 a.1.0)) (packed-once _)
     (λ w κs a r z p. said (λ h. h.packs) p.holds)
 
-pub one-config : OneAnswer config.ended (λ M. config.clauses) (λ M. config.spec) (λ κs a. a) (λ κs a r z. r)
+pub one-config : OneAnswer config.ended (λ M 𝓤 𝓛. config.clauses 𝓛) (λ M 𝓤 𝓛. config.spec 𝓛) (λ κs a. a) (λ κs a r z. r)
 one-config =
     by_relation (result-set config.ended) (λ w. refl) (λ a r. Packs r (config_bits a.0)) (packed-once _)
     (λ w κs a r z p. said (λ h. h.packs) p.holds)

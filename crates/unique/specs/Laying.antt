@@ -30,14 +30,14 @@ put-once width out pen value i x y f g =
     let same : x.out ≡ y.out = f.same ∙ sym g.same in
     λ j. record { pen = pens j; out = same j }
 
-pub one-put : OneAnswer put.ended (λ M. put.clauses) (λ M. put.spec) (λ κs a. a.0.now beside a.1.0 beside a.1.1.0 beside a.1.1.1.0)
+pub one-put : OneAnswer put.ended (λ M 𝓤 𝓛. put.clauses 𝓛) (λ M 𝓤 𝓛. put.spec 𝓛) (λ κs a. a.0.now beside a.1.0 beside a.1.1.0 beside a.1.1.1.0)
     {O = Left} (λ κs a r z. record { pen = r; out = z.0 })
 one-put =
     by_relation (λ κs. left-set) (λ w. refl) _ (put-once (λ i. i.1.1.0) (λ i. i.0) (λ i. i.1.0) (λ i. i.1.1.1))
     (λ w κs a r z p. said (λ h. h) p.holds)
 
-pub one_start : OneAnswer start.ended (λ M. start.clauses) (λ M. start.spec) (λ κs a. a) (λ κs a r z. r)
-one_start = by_equation (result-set start.ended) (λ w. refl) (λ i. blank) (λ w κs a r z p. said (λ h. h) p.holds)
+pub one-start : OneAnswer start.ended (λ M 𝓤 𝓛. start.clauses 𝓛) (λ M 𝓤 𝓛. start.spec 𝓛) (λ κs a. a) (λ κs a r z. r)
+one-start = by_equation (result-set start.ended) (λ w. refl) (λ i. blank) (λ w κs a r z p. said (λ h. h) p.holds)
 
-pub one-finish : OneAnswer finish.ended (λ M. finish.clauses) (λ M. finish.spec) (λ κs a. a.0.now beside a.1) (λ κs a r z. z.0)
+pub one-finish : OneAnswer finish.ended (λ M 𝓤 𝓛. finish.clauses 𝓛) (λ M 𝓤 𝓛. finish.spec 𝓛) (λ κs a. a.0.now beside a.1) (λ κs a r z. z.0)
 one-finish = by_equation (λ κs. bytes-set) (λ w. refl) (λ i. set_wide i.0 i.1.0.stored.0 i.1.0.word) (λ w κs a r z p. said (λ h. h) p.holds)

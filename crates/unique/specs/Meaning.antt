@@ -19,47 +19,47 @@ use Rattle.meaning.specs.contracts.volume_of as volume-of
 use Rattle.meaning.specs.Shown.{default_shown}
 use Rattle.unique.specs.OneAnswer.{OneAnswer, by_equation, said, result-set}
 
-pub one-agrees : OneAnswer agrees.ended (λ M. agrees.clauses) (λ M. agrees.spec) (λ κs a. a) (λ κs a r z. r)
+pub one-agrees : OneAnswer agrees.ended (λ M 𝓤 𝓛. agrees.clauses 𝓛) (λ M 𝓤 𝓛. agrees.spec 𝓛) (λ κs a. a) (λ κs a r z. r)
 one-agrees = by_equation (result-set agrees.ended) (λ w. refl) _ (λ w κs a r z p. said (λ h. h) p.holds)
 
-pub one-shares : OneAnswer shares.ended (λ M. shares.clauses) (λ M. shares.spec) (λ κs a. a) (λ κs a r z. r)
+pub one-shares : OneAnswer shares.ended (λ M 𝓤 𝓛. shares.clauses 𝓛) (λ M 𝓤 𝓛. shares.spec 𝓛) (λ κs a. a) (λ κs a r z. r)
 one-shares = by_equation (result-set shares.ended) (λ w. refl) _ (λ w κs a r z p. said (λ h. h.0) p.holds)
 
-pub one-class_of : OneAnswer class_of.ended (λ M. class_of.clauses) (λ M. class_of.spec) (λ κs a. a) (λ κs a r z. r)
+pub one-class_of : OneAnswer class_of.ended (λ M 𝓤 𝓛. class_of.clauses 𝓛) (λ M 𝓤 𝓛. class_of.spec 𝓛) (λ κs a. a) (λ κs a r z. r)
 one-class_of = by_equation (result-set class_of.ended) (λ w. refl) _ (λ w κs a r z p. said (λ h. h) p.holds)
 
-pub one-idle : OneAnswer idle.ended (λ M. idle.clauses) (λ M. idle.spec) (λ κs a. a) (λ κs a r z. r)
+pub one-idle : OneAnswer idle.ended (λ M 𝓤 𝓛. idle.clauses 𝓛) (λ M 𝓤 𝓛. idle.spec 𝓛) (λ κs a. a) (λ κs a r z. r)
 one-idle = by_equation (result-set idle.ended) (λ w. refl) _ (λ w κs a r z p. said (λ h. h) p.holds)
 
-pub one-resolved : OneAnswer resolved.ended (λ M. resolved.clauses) (λ M. resolved.spec) (λ κs a. a) (λ κs a r z. r)
+pub one-resolved : OneAnswer resolved.ended (λ M 𝓤 𝓛. resolved.clauses 𝓛) (λ M 𝓤 𝓛. resolved.spec 𝓛) (λ κs a. a) (λ κs a r z. r)
 one-resolved = by_equation (result-set resolved.ended) (λ w. refl) _ (λ w κs a r z p. said (λ h. h) p.holds)
 
-pub one-update_of : OneAnswer update-of.ended (λ M. update-of.clauses) (λ M. update-of.spec) (λ κs a. a) (λ κs a r z. r)
+pub one-update_of : OneAnswer update-of.ended (λ M 𝓤 𝓛. update-of.clauses 𝓛) (λ M 𝓤 𝓛. update-of.spec 𝓛) (λ κs a. a) (λ κs a r z. r)
 one-update_of = by_equation (result-set update-of.ended) (λ w. refl) _ (λ w κs a r z p. said (λ h. h) p.holds)
 
-pub one-no_timing : OneAnswer no-timing.ended (λ M. no-timing.clauses) (λ M. no-timing.spec) (λ κs a. a) (λ κs a r z. r)
+pub one-no_timing : OneAnswer no-timing.ended (λ M 𝓤 𝓛. no-timing.clauses 𝓛) (λ M 𝓤 𝓛. no-timing.spec 𝓛) (λ κs a. a) (λ κs a r z. r)
 one-no_timing = by_equation (result-set no-timing.ended) (λ w. refl) (λ a. no_timing) (λ w κs a r z p. said (λ h. h) p.holds)
 
-pub one-gain_of : OneAnswer gain-of.ended (λ M. gain-of.clauses) (λ M. gain-of.spec) (λ κs a. a) (λ κs a r z. r)
+pub one-gain_of : OneAnswer gain-of.ended (λ M 𝓤 𝓛. gain-of.clauses 𝓛) (λ M 𝓤 𝓛. gain-of.spec 𝓛) (λ κs a. a) (λ κs a r z. r)
 one-gain_of = by_equation (result-set gain-of.ended) (λ w. refl) _ (λ w κs a r z p. said (λ h. h) p.holds)
 
-pub one-priority_of : OneAnswer priority-of.ended (λ M. priority-of.clauses) (λ M. priority-of.spec) (λ κs a. a) (λ κs a r z. r)
+pub one-priority_of : OneAnswer priority-of.ended (λ M 𝓤 𝓛. priority-of.clauses 𝓛) (λ M 𝓤 𝓛. priority-of.spec 𝓛) (λ κs a. a) (λ κs a r z. r)
 one-priority_of = by_equation (result-set priority-of.ended) (λ w. refl) _ (λ w κs a r z p. said (λ h. h) p.holds)
 
-pub one-distance_of : OneAnswer distance-of.ended (λ M. distance-of.clauses) (λ M. distance-of.spec) (λ κs a. a) (λ κs a r z. r)
+pub one-distance_of : OneAnswer distance-of.ended (λ M 𝓤 𝓛. distance-of.clauses 𝓛) (λ M 𝓤 𝓛. distance-of.spec 𝓛) (λ κs a. a) (λ κs a r z. r)
 one-distance_of = by_equation (result-set distance-of.ended) (λ w. refl) _ (λ w κs a r z p. said (λ h. h) p.holds)
 
-pub one-location_of : OneAnswer location-of.ended (λ M. location-of.clauses) (λ M. location-of.spec) (λ κs a. a) (λ κs a r z. r)
+pub one-location_of : OneAnswer location-of.ended (λ M 𝓤 𝓛. location-of.clauses 𝓛) (λ M 𝓤 𝓛. location-of.spec 𝓛) (λ κs a. a) (λ κs a r z. r)
 one-location_of = by_equation (result-set location-of.ended) (λ w. refl) _ (λ w κs a r z p. said (λ h. h) p.holds)
 
-pub one-volume_of : OneAnswer volume-of.ended (λ M. volume-of.clauses) (λ M. volume-of.spec) (λ κs a. a) (λ κs a r z. r)
+pub one-volume_of : OneAnswer volume-of.ended (λ M 𝓤 𝓛. volume-of.clauses 𝓛) (λ M 𝓤 𝓛. volume-of.spec 𝓛) (λ κs a. a) (λ κs a r z. r)
 one-volume_of = by_equation (result-set volume-of.ended) (λ w. refl) _ (λ w κs a r z p. said (λ h. h) p.holds)
 
-pub one-default_shown : OneAnswer default-shown.ended (λ M. default-shown.clauses) (λ M. default-shown.spec) (λ κs a. a) (λ κs a r z. r)
+pub one-default_shown : OneAnswer default-shown.ended (λ M 𝓤 𝓛. default-shown.clauses 𝓛) (λ M 𝓤 𝓛. default-shown.spec 𝓛) (λ κs a. a) (λ κs a r z. r)
 one-default_shown = by_equation (result-set default-shown.ended) (λ w. refl) (λ a. default_shown) (λ w κs a r z p. said (λ h. h) p.holds)
 
-pub one-shown_before : OneAnswer shown-before.ended (λ M. shown-before.clauses) (λ M. shown-before.spec) (λ κs a. a) (λ κs a r z. r)
+pub one-shown_before : OneAnswer shown-before.ended (λ M 𝓤 𝓛. shown-before.clauses 𝓛) (λ M 𝓤 𝓛. shown-before.spec 𝓛) (λ κs a. a) (λ κs a r z. r)
 one-shown_before = by_equation (result-set shown-before.ended) (λ w. refl) _ (λ w κs a r z p. said (λ h. h) p.holds)
 
-pub one-mixed_shown : OneAnswer mixed-shown.ended (λ M. mixed-shown.clauses) (λ M. mixed-shown.spec) (λ κs a. a) (λ κs a r z. r)
+pub one-mixed_shown : OneAnswer mixed-shown.ended (λ M 𝓤 𝓛. mixed-shown.clauses 𝓛) (λ M 𝓤 𝓛. mixed-shown.spec 𝓛) (λ κs a. a) (λ κs a r z. r)
 one-mixed_shown = by_equation (result-set mixed-shown.ended) (λ w. refl) _ (λ w κs a r z p. said (λ h. h) p.holds)

@@ -45,11 +45,11 @@ buffers-open one =
 abbrev refused : ℕ → Cur
 refused v = record { missing = 0; v = v; at = record { 0 = 0 }; no = 1 }
 
-pub value-open : OneAnswer take.ended (λ M. take.clauses) (λ M. take.spec) (λ κs a. a.0.now beside a.1) (λ κs a r z. r.v) → ⊥
+pub value-open : OneAnswer take.ended (λ M 𝓤 𝓛. take.clauses 𝓛) (λ M 𝓤 𝓛. take.spec 𝓛) (λ κs a. a.0.now beside a.1) (λ κs a r z. r.v) → ⊥
 value-open one =
     let κs : Lfts 1 = ([], tt) in
     let a : Args take.signature κs = (empty, (record { end = record { 0 = 0 }; inner = false }, (refused 0, (1, tt)))) in
     let z : Lasts take.ended κs a = (tt, (tt, (tt, (tt, tt)))) in
-    let free : (v : ℕ) → v < 2 → Ensured take.ended (λ M. take.clauses) w₀ κs a (refused v) z =
+    let free : (v : ℕ) → v < 2 → Ensured take.ended (λ M 𝓤 𝓛. take.clauses 𝓛) w₀ κs a (refused v) z =
     λ v l. record { ghost = tt; owned = w₀.𝓤.one; holds = ∣ (record { reads = record { same = refl; handed = λ z. refl }; small = l }, tt) ∣₁ } in
     none_is_one (one.once w₀ w₀ κs κs a a (refused 0) (refused 1) z z refl (free 0 (omega arith)) (free 1 (omega arith)))

@@ -23,10 +23,10 @@ use Rattle.reader.specs.Steps.{start_cur, whole_of}
 use Rattle.unique.specs.OneAnswer.{OneAnswer, by_equation, by_relation, said, result-set, ◌beside◌}
 use Rattle.unique.specs.Readings.{as_read, reading-set}
 
-pub one-limit_of : OneAnswer limit-of.ended (λ M. limit-of.clauses) (λ M. limit-of.spec) (λ κs a. a.0.now) (λ κs a r z. r)
+pub one-limit_of : OneAnswer limit-of.ended (λ M 𝓤 𝓛. limit-of.clauses 𝓛) (λ M 𝓤 𝓛. limit-of.spec 𝓛) (λ κs a. a.0.now) (λ κs a r z. r)
 one-limit_of = by_equation (result-set limit-of.ended) (λ w. refl) whole_of (λ w κs a r z p. said (λ h. h) p.holds)
 
-pub one-sift : OneAnswer sift.ended (λ M. sift.clauses) (λ M. sift.spec) (λ κs a. a.0.now) (λ κs a r z. r)
+pub one-sift : OneAnswer sift.ended (λ M 𝓤 𝓛. sift.clauses 𝓛) (λ M 𝓤 𝓛. sift.spec 𝓛) (λ κs a. a.0.now) (λ κs a r z. r)
 one-sift = by_equation (result-set sift.ended) (λ w. refl) sifted (λ w κs a r z p. said (λ h. h) p.holds)
 
 -- the cursor but for its value, and what was read
@@ -53,7 +53,7 @@ module _ {A B I : Type 0} (p : P A) (f : A → B) (bytes : I → List ℕ) (limi
       let value : as_read t.0 t.1 ≡ as_read t'.0 t'.1 = t.2.same ∙ sym t'.2.same in
       t.3 ∙ ap₂ (λ (d : Cur) (x : Res B). (d, x)) (one-reads t.2 t'.2).0 (made_of f t.0 t.1 ∙ ap (mapped f) value ∙ sym (made_of f t'.0 t'.1)) ∙ sym t'.3
 
-pub one-read_timing : OneAnswer read-timing.ended (λ M. read-timing.clauses) (λ M. read-timing.spec)
+pub one-read_timing : OneAnswer read-timing.ended (λ M 𝓤 𝓛. read-timing.clauses 𝓛) (λ M 𝓤 𝓛. read-timing.spec 𝓛)
     (λ κs a. a.0.now beside a.1) (λ κs a r z. read_as r.timing r.cur)
 one-read_timing =
     by_relation (λ κs. reading-set (timing.the_row).coded) (λ w. refl) (ReadBy md_update_info timing_of (λ i. i.0) (λ i. i.1.0) (λ i. i.1.1.0))
@@ -67,7 +67,7 @@ both_parts p alternate = (p, alternate)
 abbrev parts : Header → Programme × ℕ
 parts h = both_parts h.programme h.alternate
 
-pub one-read_head : OneAnswer read_head.ended (λ M. read_head.clauses) (λ M. read_head.spec)
+pub one-read_head : OneAnswer read_head.ended (λ M 𝓤 𝓛. read_head.clauses 𝓛) (λ M 𝓤 𝓛. read_head.spec 𝓛)
     (λ κs a. a.0.now) (λ κs a r z. read_as (both_parts r.programme r.alternate) r.cur)
 one-read_head =
     by_relation (λ κs. reading-set (coded× (programme.the_row).coded coded_ℕ)) (λ w. refl) (ReadBy header parts (λ i. i) whole_of (λ i. start_cur))

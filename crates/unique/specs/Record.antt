@@ -36,76 +36,76 @@ enough_or-fewer n m x y {r} enough fewer = go (leb n m) refl
     go true q = enough (leb-true n m q)
     go false q = fewer (leb-false n m q)
 
-pub one-carries : OneAnswer carries.ended (λ M. carries.clauses) (λ M. carries.spec) (λ κs a. a) (λ κs a r z. r)
+pub one-carries : OneAnswer carries.ended (λ M 𝓤 𝓛. carries.clauses 𝓛) (λ M 𝓤 𝓛. carries.spec 𝓛) (λ κs a. a) (λ κs a r z. r)
 one-carries = by_equation (result-set carries.ended) (λ w. refl) _ (λ w κs a r z p. said (λ h. h) p.holds)
 
-pub one-has_bytes : OneAnswer has-bytes.ended (λ M. has-bytes.clauses) (λ M. has-bytes.spec) (λ κs a. a.0.now beside a.1) (λ κs a r z. r)
+pub one-has_bytes : OneAnswer has-bytes.ended (λ M 𝓤 𝓛. has-bytes.clauses 𝓛) (λ M 𝓤 𝓛. has-bytes.spec 𝓛) (λ κs a. a.0.now beside a.1) (λ κs a r z. r)
 one-has_bytes =
     by_equation (result-set has-bytes.ended) (λ w. refl) (λ i. leb (i.1.0 + i.1.1.0) (length i.0)) (λ w κs a r z p. said (λ h. h) p.holds)
 
-pub one-carries_at : OneAnswer carries-at.ended (λ M. carries-at.clauses) (λ M. carries-at.spec) (λ κs a. a.0.now beside a.1) (λ κs a r z. r)
+pub one-carries_at : OneAnswer carries-at.ended (λ M 𝓤 𝓛. carries-at.clauses 𝓛) (λ M 𝓤 𝓛. carries-at.spec 𝓛) (λ κs a. a.0.now beside a.1) (λ κs a r z. r)
 one-carries_at =
     by_equation (result-set carries-at.ended) (λ w. refl) (λ i. Rattle.oamd.specs.Record.carries (scene_at i.0 i.1.0))
     (λ w κs a r z p. said (λ h. h) p.holds)
 
-pub one-gain_at : OneAnswer gain-at.ended (λ M. gain-at.clauses) (λ M. gain-at.spec) (λ κs a. a.0.now beside a.1) (λ κs a r z. r)
+pub one-gain_at : OneAnswer gain-at.ended (λ M 𝓤 𝓛. gain-at.clauses 𝓛) (λ M 𝓤 𝓛. gain-at.spec 𝓛) (λ κs a. a.0.now beside a.1) (λ κs a r z. r)
 one-gain_at = by_equation (result-set gain-at.ended) (λ w. refl) (λ i. (scene_at i.0 i.1.0).gain) (λ w κs a r z p. said (λ h. h) p.holds)
 
-pub one-scene_at : OneAnswer scene-at.ended (λ M. scene-at.clauses) (λ M. scene-at.spec) (λ κs a. a.0.now beside a.1) (λ κs a r z. r)
+pub one-scene_at : OneAnswer scene-at.ended (λ M 𝓤 𝓛. scene-at.clauses 𝓛) (λ M 𝓤 𝓛. scene-at.spec 𝓛) (λ κs a. a.0.now beside a.1) (λ κs a r z. r)
 one-scene_at =
     by_equation (result-set scene-at.ended) (λ w. refl) (λ i. pick (leb (i.1.0 + record_bytes) (length i.0)) (scene_at i.0 i.1.0) (idle 0))
     (λ w κs a r z p. both-said (enough_or-fewer _ _ _ _) p.holds)
 
-pub one-divergence_at : OneAnswer divergence-at.ended (λ M. divergence-at.clauses) (λ M. divergence-at.spec) (λ κs a. a.0.now beside a.1) (λ κs a r z. r)
+pub one-divergence_at : OneAnswer divergence-at.ended (λ M 𝓤 𝓛. divergence-at.clauses 𝓛) (λ M 𝓤 𝓛. divergence-at.spec 𝓛) (λ κs a. a.0.now beside a.1) (λ κs a r z. r)
 one-divergence_at =
     by_equation (result-set divergence-at.ended) (λ w. refl) (λ i. pick (leb (i.1.0 + record_bytes) (length i.0)) (divergence_at i.0 i.1.0) no_divergence)
     (λ w κs a r z p. both-said (enough_or-fewer _ _ _ _) p.holds)
 
-pub one-precise_at : OneAnswer precise-at.ended (λ M. precise-at.clauses) (λ M. precise-at.spec) (λ κs a. a.0.now beside a.1) (λ κs a r z. r)
+pub one-precise_at : OneAnswer precise-at.ended (λ M 𝓤 𝓛. precise-at.clauses 𝓛) (λ M 𝓤 𝓛. precise-at.spec 𝓛) (λ κs a. a.0.now beside a.1) (λ κs a r z. r)
 one-precise_at =
     by_equation (result-set precise-at.ended) (λ w. refl) (λ i. pick (leb (i.1.0 + record_bytes) (length i.0)) (precise_at i.0 i.1.0) no_precise)
     (λ w κs a r z p. both-said (enough_or-fewer _ _ _ _) p.holds)
 
-pub one-time_of : OneAnswer time-of.ended (λ M. time-of.clauses) (λ M. time-of.spec) (λ κs a. a) (λ κs a r z. r)
+pub one-time_of : OneAnswer time-of.ended (λ M 𝓤 𝓛. time-of.clauses 𝓛) (λ M 𝓤 𝓛. time-of.spec 𝓛) (λ κs a. a) (λ κs a r z. r)
 one-time_of =
     by_equation (result-set time-of.ended) (λ w. refl) (λ a. record { 0 = a.0 * frame_samples + a.1.0.0 })
     (λ w κs a r z p. said (λ h. ap (λ (n : ℕ). record { 0 = n }) h) p.holds)
 
-pub one-next_block : OneAnswer next-block.ended (λ M. next-block.clauses) (λ M. next-block.spec) (λ κs a. a) (λ κs a r z. r)
+pub one-next_block : OneAnswer next-block.ended (λ M 𝓤 𝓛. next-block.clauses 𝓛) (λ M 𝓤 𝓛. next-block.spec 𝓛) (λ κs a. a) (λ κs a r z. r)
 one-next_block = by_equation (result-set next-block.ended) (λ w. refl) _ (λ w κs a r z p. said (λ h. h) p.holds)
 
-pub one-has_time : OneAnswer has-time.ended (λ M. has-time.clauses) (λ M. has-time.spec) (λ κs a. a.0.now beside a.1) (λ κs a r z. r)
+pub one-has_time : OneAnswer has-time.ended (λ M 𝓤 𝓛. has-time.clauses 𝓛) (λ M 𝓤 𝓛. has-time.spec 𝓛) (λ κs a. a.0.now beside a.1) (λ κs a r z. r)
 one-has_time =
     by_equation (result-set has-time.ended) (λ w. refl) (λ i. same_bytes (time_at i.0 i.1.0) (time_bytes_of i.1.1.0.0))
     (λ w κs a r z p. said (λ h. h) p.holds)
 
-pub one-eight_at : OneAnswer eight-at.ended (λ M. eight-at.clauses) (λ M. eight-at.spec) (λ κs a. a.0.now beside a.1) (λ κs a r z. r)
+pub one-eight_at : OneAnswer eight-at.ended (λ M 𝓤 𝓛. eight-at.clauses 𝓛) (λ M 𝓤 𝓛. eight-at.spec 𝓛) (λ κs a. a.0.now beside a.1) (λ κs a r z. r)
 one-eight_at = by_equation (result-set eight-at.ended) (λ w. refl) (λ i. least_at 8 i.0 i.1.0) (λ w κs a r z p. said (λ h. h.is) p.holds)
 
 -- ---- what is stored: the bytes that are left in the lent buffer
 
-pub one-store_scene : OneAnswer store-scene.ended (λ M. store-scene.clauses) (λ M. store-scene.spec) (λ κs a. a.0.now beside a.1)
+pub one-store_scene : OneAnswer store-scene.ended (λ M 𝓤 𝓛. store-scene.clauses 𝓛) (λ M 𝓤 𝓛. store-scene.spec 𝓛) (λ κs a. a.0.now beside a.1)
     (λ κs a r z. z.0)
 one-store_scene =
     by_equation (λ κs. bytes-set) (λ w. refl) (λ i. set_from i.1.0 0 (record_bytes_of (record_of i.1.1.0 no_divergence no_precise)) i.0)
     (λ w κs a r z p. said (λ h. h) p.holds)
 
-pub one-store_divergence : OneAnswer store-divergence.ended (λ M. store-divergence.clauses) (λ M. store-divergence.spec) (λ κs a. a.0.now beside a.1)
+pub one-store_divergence : OneAnswer store-divergence.ended (λ M 𝓤 𝓛. store-divergence.clauses 𝓛) (λ M 𝓤 𝓛. store-divergence.spec 𝓛) (λ κs a. a.0.now beside a.1)
     (λ κs a r z. z.0)
 one-store_divergence =
     by_equation (λ κs. bytes-set) (λ w. refl) (λ i. set_from i.1.0 divergence_byte (divergence_bytes i.1.1.0) i.0)
     (λ w κs a r z p. said (λ h. h) p.holds)
 
-pub one-store_precise : OneAnswer store-precise.ended (λ M. store-precise.clauses) (λ M. store-precise.spec) (λ κs a. a.0.now beside a.1)
+pub one-store_precise : OneAnswer store-precise.ended (λ M 𝓤 𝓛. store-precise.clauses 𝓛) (λ M 𝓤 𝓛. store-precise.spec 𝓛) (λ κs a. a.0.now beside a.1)
     (λ κs a r z. z.0)
 one-store_precise =
     by_equation (λ κs. bytes-set) (λ w. refl) (λ i. set_from i.1.0 precise_byte (precise_bytes i.1.1.0) i.0)
     (λ w κs a r z p. said (λ h. h) p.holds)
 
-pub one-store_time : OneAnswer store-time.ended (λ M. store-time.clauses) (λ M. store-time.spec) (λ κs a. a.0.now beside a.1) (λ κs a r z. z.0)
+pub one-store_time : OneAnswer store-time.ended (λ M 𝓤 𝓛. store-time.clauses 𝓛) (λ M 𝓤 𝓛. store-time.spec 𝓛) (λ κs a. a.0.now beside a.1) (λ κs a r z. z.0)
 one-store_time =
     by_equation (λ κs. bytes-set) (λ w. refl) (λ i. set_from i.1.0 record_bytes (time_bytes_of i.1.1.0.0) i.0) (λ w κs a r z p. said (λ h. h) p.holds)
 
-pub one-store_eight : OneAnswer store-eight.ended (λ M. store-eight.clauses) (λ M. store-eight.spec) (λ κs a. a.0.now beside a.1) (λ κs a r z. z.0)
+pub one-store_eight : OneAnswer store-eight.ended (λ M 𝓤 𝓛. store-eight.clauses 𝓛) (λ M 𝓤 𝓛. store-eight.spec 𝓛) (λ κs a. a.0.now beside a.1) (λ κs a r z. z.0)
 one-store_eight =
     by_equation (λ κs. bytes-set) (λ w. refl) (λ i. set_from i.1.0 0 (least_first 8 i.1.1.0) i.0) (λ w κs a r z p. said (λ h. h) p.holds)

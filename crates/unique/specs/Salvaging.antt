@@ -17,5 +17,5 @@ abbrev pub OneSalvage : ClausesOf salvage.ended → SpecOf salvage.ended → Typ
 OneSalvage clauses spec =
     OneAnswer salvage.ended clauses spec (λ κs a. now a.0 beside now a.1.0) {O = Salvaged} (λ κs a r z. record { answer = r; out = z.1.0 })
 
-pub one-salvage : OneSalvage (λ M. salvage.clauses) (λ M. salvage.spec)
+pub one-salvage : OneSalvage (λ M 𝓤 𝓛. salvage.clauses 𝓛) (λ M 𝓤 𝓛. salvage.spec 𝓛)
 one-salvage = by_equation (λ κs. salvaged-set) (λ w. refl) (λ i. salvaging i.0 i.1) (λ w κs a r z p. said (λ h. h) p.holds)

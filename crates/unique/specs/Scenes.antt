@@ -6,7 +6,7 @@ use Rattle.scenes.specs.Resolved.{resolved_block}
 use Rattle.unique.specs.OneAnswer.{OneAnswer, by_relation, said, ◌beside◌}
 use Rattle.unique.specs.Readings.{giving, GaveBy, gave-once, reading-set}
 
-pub one-read_scene : OneAnswer read-scene.ended (λ M. read-scene.clauses) (λ M. read-scene.spec)
+pub one-read_scene : OneAnswer read-scene.ended (λ M 𝓤 𝓛. read-scene.clauses 𝓛) (λ M 𝓤 𝓛. read-scene.spec 𝓛)
     (λ κs a. a.0.now beside a.1) (λ κs a r z. giving r.scene r.cur)
 one-read_scene =
     by_relation (λ κs. reading-set (scene.the_row).coded) (λ w. refl) (GaveBy _)

@@ -29,7 +29,7 @@ abbrev pub OneText : ClausesOf list-text.ended → SpecOf list-text.ended → Ty
 OneText clauses spec =
     OneAnswer list-text.ended clauses spec (λ κs a. now a.0 beside now a.1.0) {O = Texted} (λ κs a r z. record { answer = r; buffer = z.1.0 })
 
-pub one-list_text : OneText (λ M. list-text.clauses) (λ M. list-text.spec)
+pub one-list_text : OneText (λ M 𝓤 𝓛. list-text.clauses 𝓛) (λ M 𝓤 𝓛. list-text.spec 𝓛)
 one-list_text = by_equation (λ κs. texted-set) (λ w. refl) (λ i. texted (listing i.0) i.1) (λ w κs a r z p. said (λ h. h) p.holds)
 
 -- The next position and the buffer behind it, from the buffer before it, the position and what is laid.
@@ -42,28 +42,28 @@ laid-set = Coded-set (coded× coded_ℕ (coded_list coded_ℕ))
 laid-once : {s t : List ℕ} {at r : ℕ} {l : List ℕ} → Laid s t at r l → (r beside t) ≡ laid_from s at l
 laid-once h = ap₂ (λ (n : ℕ) (b : List ℕ). n beside b) h.next h.same
 
-pub one-lay_byte : OneAnswer lay-byte.ended (λ M. lay-byte.clauses) (λ M. lay-byte.spec) (λ κs a. a.0.now beside a.1) (λ κs a r z. r beside z.0)
+pub one-lay_byte : OneAnswer lay-byte.ended (λ M 𝓤 𝓛. lay-byte.clauses 𝓛) (λ M 𝓤 𝓛. lay-byte.spec 𝓛) (λ κs a. a.0.now beside a.1) (λ κs a r z. r beside z.0)
 one-lay_byte = by_equation (λ κs. laid-set) (λ w. refl) (λ i. laid_from i.0 i.1.0 (i.1.1.0 ∷ [])) (λ w κs a r z p. said laid-once p.holds)
 
-pub one-lay_bytes : OneAnswer lay-bytes.ended (λ M. lay-bytes.clauses) (λ M. lay-bytes.spec) (λ κs a. a.0.now beside a.1.0 beside a.1.1.0.now)
+pub one-lay_bytes : OneAnswer lay-bytes.ended (λ M 𝓤 𝓛. lay-bytes.clauses 𝓛) (λ M 𝓤 𝓛. lay-bytes.spec 𝓛) (λ κs a. a.0.now beside a.1.0 beside a.1.1.0.now)
     (λ κs a r z. r beside z.0)
 one-lay_bytes = by_equation (λ κs. laid-set) (λ w. refl) (λ i. laid_from i.0 i.1.0 i.1.1) (λ w κs a r z p. said laid-once p.holds)
 
-pub one-lay_decimal : OneAnswer lay-decimal.ended (λ M. lay-decimal.clauses) (λ M. lay-decimal.spec) (λ κs a. a.0.now beside a.1)
+pub one-lay_decimal : OneAnswer lay-decimal.ended (λ M 𝓤 𝓛. lay-decimal.clauses 𝓛) (λ M 𝓤 𝓛. lay-decimal.spec 𝓛) (λ κs a. a.0.now beside a.1)
     (λ κs a r z. r beside z.0)
 one-lay_decimal = by_equation (λ κs. laid-set) (λ w. refl) (λ i. laid_from i.0 i.1.0 (decimal i.1.1.0)) (λ w κs a r z p. said laid-once p.holds)
 
-pub one-lay_hex : OneAnswer lay-hex.ended (λ M. lay-hex.clauses) (λ M. lay-hex.spec) (λ κs a. a.0.now beside a.1.0 beside a.1.1.0.now)
+pub one-lay_hex : OneAnswer lay-hex.ended (λ M 𝓤 𝓛. lay-hex.clauses 𝓛) (λ M 𝓤 𝓛. lay-hex.spec 𝓛) (λ κs a. a.0.now beside a.1.0 beside a.1.1.0.now)
     (λ κs a r z. r beside z.0)
 one-lay_hex = by_equation (λ κs. laid-set) (λ w. refl) (λ i. laid_from i.0 i.1.0 (hex i.1.1)) (λ w κs a r z p. said laid-once p.holds)
 
-pub one-lay_line : OneAnswer lay-line.ended (λ M. lay-line.clauses) (λ M. lay-line.spec)
+pub one-lay_line : OneAnswer lay-line.ended (λ M 𝓤 𝓛. lay-line.clauses 𝓛) (λ M 𝓤 𝓛. lay-line.spec 𝓛)
     (λ κs a. a.0.now beside a.1.0 beside a.1.1.0.now beside a.1.1.1) (λ κs a r z. r beside z.0)
 one-lay_line =
     by_equation (λ κs. laid-set) (λ w. refl) (λ i. laid_from i.0 i.1.0 (number_line i.1.1.0 i.1.1.1.0))
     (λ w κs a r z p. said laid-once p.holds)
 
-pub one-lay_number : OneAnswer lay-number.ended (λ M. lay-number.clauses) (λ M. lay-number.spec) (λ κs a. a.0.now beside a.1) (λ κs a r z. r beside z.0)
+pub one-lay_number : OneAnswer lay-number.ended (λ M 𝓤 𝓛. lay-number.clauses 𝓛) (λ M 𝓤 𝓛. lay-number.spec 𝓛) (λ κs a. a.0.now beside a.1) (λ κs a r z. r beside z.0)
 one-lay_number =
     by_equation (λ κs. laid-set) (λ w. refl) (λ i. laid_from i.0 i.1.0 (decimal i.1.1.0 ++ (i.1.1.1.0 ∷ [])))
     (λ w κs a r z p. said laid-once p.holds)
