@@ -4,7 +4,6 @@ use lib.ListN.{get_or-eq_default}
 use Rattle.oamd.specs.declared.Block.{Block}
 use Rattle.sources.specs.declared.Source.TheVariants.{ByNothing}
 use Rattle.sources.specs.Sources.{scene_sources}
-use Rattle.sources.proofs.Rows.{past}
 use Rattle.sources.proofs.finding.source_of_scene.Goals as goal
 
 long : (first : Bool) (b : Block) → length (scene_sources first b) ≡ 17

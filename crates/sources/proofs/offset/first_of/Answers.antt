@@ -1,6 +1,6 @@
 use Rattle.std.proofs.Common.{[], arith, ◌∷◌}
 use Rattle.sources.specs.Offsets.{sum_to}
-use Rattle.sources.proofs.Rows.{past, all_of}
+use Rattle.sources.proofs.Rows.{all_of}
 use Rattle.sources.proofs.offset.first_of.Goals as goal
 
 pub returns-in-0 : goal.returns-in-0
