@@ -10,7 +10,7 @@ use lib.Dec.{leb, eqb}
 use borrow.Author.Tests.{eqb-false}
 use Rattle.bits.specs.declared.Cur.{Cur}
 use Rattle.bits.specs.declared.Limit.{Limit}
-use Rattle.bits.specs.Language.{pick, Bits, Res, ok, no, P, give, ◌>>=◌, and_then, run, bits, for}
+use Rattle.bits.specs.Language.{pick, Bits, Res, ok, no, P, give, ◌>>=◌, and_then, run, for}
 use Rattle.bits.specs.Steps.{no_ok}
 use Rattle.bits.specs.Unique as unique
 use Rattle.bits.specs.View.{over_of, run_from, Reads}

@@ -56,7 +56,7 @@ Each k (o ∷ os) = (length o ≡ k) × Each k os
 pub length-scenes : (before : Scene) (above : List Scene) (o : List Block) → length (scenes_from before above o) ≡ length o
 unfolding scenes_from
 length-scenes before above [] = refl
-length-scenes before above (b ∷ bs) = ap suc (length-scenes _ (behind_first above) bs)
+length-scenes before above (b ∷ bs) = ap suc (length-scenes (resolve before (first_gain above) b) (behind_first above) bs)
 
 same_from : (k : ℕ) (os : List (List Block)) (ss above : List Scene) → Each k os → Above k ss above → with_objects k ss os ≡ ss ++ all_scenes above os
 unfolding with_objects all_scenes scenes_of

@@ -1,0 +1,31 @@
+use Rattle.std.proofs.Common.{arith}
+use Rattle.bits.proofs.Sticky.{bind, plain}
+use Rattle.oamd.specs.ObjectElement.{object_element}
+use Rattle.reader.proofs.ObjectLoop.{rooms}
+use Rattle.reader.proofs.objects.read_object_element.Goals as goal
+
+pub read_objects-cur-requires : goal.read_objects-cur-requires
+read_objects-cur-requires c =
+    let asked = c.requires in
+    let time = c.read_timing-step.ensures in
+    record {
+      many = asked.many;
+      some = time.some;
+      few = time.few;
+      fits = omega (arith, (rooms asked.many time.few).0, asked.fits);
+    }
+
+pub returns : goal.returns
+unfolding object_element
+returns c =
+    let time = c.read_timing-step.ensures in
+    let objects = c.read_objects-cur.ensures in
+    record {
+      value = record { timing = time.value; objects = objects.value };
+      reads = bind time.reads (bind c.take-absent.ensures.reads (bind c.take_if-reserved.ensures.reads (bind (rw (← time.counts) objects.reads) plain)));
+      holds = time.holds;
+      few = time.few;
+      size = objects.size;
+      many = objects.many;
+      stand = objects.stand;
+    }
