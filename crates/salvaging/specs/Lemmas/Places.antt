@@ -26,7 +26,7 @@ use Rattle.salvaging.specs.Promises.{Lies}
 use Rattle.salvaging.specs.Lemmas.Turns.{sift_next}
 
 -- what a reading comes to lies between its start and the end that it is then held to
-pub comes-within : {A B : Type 0} {p : P A} {b : Bits} {q : P B} {at e o to end over : ℕ} → Comes p b at e o q to end over → at ≤ e → (at ≤ to) × (to ≤ end)
+pub comes-within : {b : Bits} {B : Type 0} {q : P B} {to end over : ℕ} {A : Type 0} {p : P A} {at e o : ℕ} → Comes p b at e o q to end over → at ≤ e → (at ≤ to) × (to ≤ end)
 comes-within here l = omega arith
 comes-within (inside f x) l = comes-within x (omega arith)
 comes-within (first x) l = comes-within x l

@@ -1,0 +1,7 @@
+use Rattle.text.proofs.LineLaws.{block-laid}
+use Rattle.text.proofs.listing.lay_update.Goals as goal
+
+pub returns : goal.returns
+returns c =
+    block-laid _ _ _ c.args.u c.raw-start.ensures c.raw-ramp.ensures c.lay_bytes-to.ensures c.lay_number-to.ensures
+    c.lay_number-to-2.ensures c.lay_number.ensures

@@ -1,0 +1,15 @@
+use Rattle.std.proofs.Common.{arith}
+use Rattle.text.specs.Listing.{block_lines}
+use Rattle.text.proofs.LayLaws.{rest_step, rest_end}
+use Rattle.text.proofs.LineLaws.{count_more, count_none}
+use Rattle.text.proofs.listing.lay_updates.Goals as goal
+
+pub loop-blk-preserved : goal.loop-blk-preserved
+loop-blk-preserved c =
+    let h = c.loop-blk in
+    (omega arith, rest_step _ _ (count_more _ _ h.blk (omega arith)) h.invariant.1 c.lay_update-to.ensures)
+
+pub returns : goal.returns
+unfolding block_lines
+returns c =
+    let h = c.loop-blk in rest_end (count_none _ _ h.blk (omega arith)) h.invariant.1

@@ -1,0 +1,8 @@
+use Rattle.laying.proofs.Laws.{laid_on}
+use Rattle.writer.proofs.Around.{framed-laid}
+use Rattle.writer.proofs.element.put_trim_element.Goals as goal
+
+pub returns-then-on : goal.returns-then-on
+returns-then-on c =
+    laid_on c.if-on.true
+    (framed-laid c.requires.inside c.size_for-v.ensures 2 c.open_element-next.ensures c.put_trim_fields-next.ensures c.close_element.ensures)
