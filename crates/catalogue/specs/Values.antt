@@ -14,7 +14,7 @@ use Rattle.oamd.specs.Timing.{no_update, samples}
 use Rattle.oamd.specs.Record.{Record, record_bytes_of, onto}
 use Rattle.oamd.specs.Time.{time_of, timed_bytes_of, time_bytes_of}
 use Rattle.oamd.specs.Payload.{Tables, tables}
-use Rattle.oamd.specs.Answer.{Outcome, laid_records, accepted, reading}
+use Rattle.oamd.specs.Answer.{Outcome, laid_records, reading}
 use Rattle.demands.specs.Terms.{tables_of}
 use Rattle.demands.specs.Answers.{accepted_is}
 use Rattle.demands.specs.Numbers.{numbers, roomy}

@@ -18,7 +18,7 @@ use Rattle.oamd.specs.Time.{time_of, timed_bytes_of}
 use Rattle.oamd.specs.Lengths.{length-timed}
 use Rattle.oamd.specs.ObjectElement.{ObjectElement}
 use Rattle.oamd.specs.Payload.{Payload, timing, tables}
-use Rattle.oamd.specs.Answer.{Outcome, accepted, laid_records, needed, reading}
+use Rattle.oamd.specs.Answer.{Outcome, laid_records, needed, reading}
 use Rattle.record.specs.Bytes.{records_at}
 use Rattle.record.specs.Laws.{records-again}
 use Rattle.demands.specs.Terms.{parsed, tables_of}

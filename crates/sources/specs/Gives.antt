@@ -25,7 +25,7 @@ module _ (s : List ℕ) {q : Payload} {to : ℕ} (h : parsed s ≡ ok q to) wher
   pub gives : (byte j b : ℕ) → byte < record_bytes → j < objects_in q → b < blocks_in q → GivesAt s q byte j b
   gives byte j b n l m = by_part (λ byte. GivesAt s q byte j b) byte n
       (λ n. rw (source-scene s h j b byte n, value_made s h j b byte n l m)
-      (scene-gives _ _ (eqb j 0) _ (block_at q j b) _ _ (none_above _ j b) (read_at s h j b l m) byte n))
+      (scene-gives _ _ (eqb j 0) _ (block_at q j b) _ _ (none_above (λ j b. (record_at q j b).scene) j b) (read_at s h j b l m) byte n))
       (λ k n. rw (source-extra s h j b k, value-extra s h j b k, record-at s h j b)
       (by-extras (λ k x v. Gives (block_at q j b) (divergence_at q j b) (precise_at q j b) (class_of (shares q.programme) j) (scene_count + k) v x) (block_at q j b) _ _
       (divergence_at q j b) (precise_at q j b) (quiet_at s h j b l m) (λ k f own. sym (own _ _)) (λ k. refl) k n))

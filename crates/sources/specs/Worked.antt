@@ -1,6 +1,6 @@
 -- Payloads worked by hand, the first bits of fields in them, and answers, shown by computation. Every field is among them, so a line that is put into a clause of oamd/specs, and moves
 -- the lines behind it, is seen here.
-use Rattle.std.specs.Prelude.{◌≡◌, refl, List, [], ◌∷◌, ◌++◌, map, ℕ, ◌+◌, get_or, replicate}
+use Rattle.std.specs.Prelude.{◌≡◌, refl, List, [], ◌∷◌, ◌++◌, map, ℕ, get_or, replicate}
 use Rattle.bits.specs.Language.{slice, number, run, bit, each, from}
 use Rattle.bits.specs.Size.{size_from}
 use Rattle.oamd.specs.Programme.{bed_assignment, bed_instances, intermediate_spatial_format, num_dynamic_objects, reserved_data, program_assignment, labels, bed_objects}

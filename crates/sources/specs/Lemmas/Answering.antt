@@ -23,41 +23,39 @@ use Rattle.sources.specs.Given.{is_link, last_of, handed, amount, handed_told, a
 
 -- no field has the number 0
 named : (f : Field) → eqb (field_number f) 0 ≡ false
-named f = elim f [
-  | NotActive ↦ refl
-  | GainIdx ↦ refl
-  | GainBits ↦ refl
-  | DefaultPriority ↦ refl
-  | PriorityBits ↦ refl
-  | DiffX ↦ refl
-  | DiffY ↦ refl
-  | DiffZ ↦ refl
-  | PosX ↦ refl
-  | PosY ↦ refl
-  | PosZ ↦ refl
-  | DistanceSpecified ↦ refl
-  | AtInfinity ↦ refl
-  | DistanceIdx ↦ refl
-  | ZoneIdx ↦ refl
-  | Elevation ↦ refl
-  | SizeIdx ↦ refl
-  | SizeBits ↦ refl
-  | Width ↦ refl
-  | Depth ↦ refl
-  | Height ↦ refl
-  | ScreenRef ↦ refl
-  | ScreenFactor ↦ refl
-  | DepthIdx ↦ refl
-  | Snap ↦ refl
-  | ObjectDivergence ↦ refl
-  | DivMode ↦ refl
-  | DivTable ↦ refl
-  | DivCode ↦ refl
-  | Presence ↦ refl
-  | PreciseX ↦ refl
-  | PreciseY ↦ refl
-  | PreciseZ ↦ refl
-]
+named NotActive = refl
+named GainIdx = refl
+named GainBits = refl
+named DefaultPriority = refl
+named PriorityBits = refl
+named DiffX = refl
+named DiffY = refl
+named DiffZ = refl
+named PosX = refl
+named PosY = refl
+named PosZ = refl
+named DistanceSpecified = refl
+named AtInfinity = refl
+named DistanceIdx = refl
+named ZoneIdx = refl
+named Elevation = refl
+named SizeIdx = refl
+named SizeBits = refl
+named Width = refl
+named Depth = refl
+named Height = refl
+named ScreenRef = refl
+named ScreenFactor = refl
+named DepthIdx = refl
+named Snap = refl
+named ObjectDivergence = refl
+named DivMode = refl
+named DivTable = refl
+named DivCode = refl
+named Presence = refl
+named PreciseX = refl
+named PreciseY = refl
+named PreciseZ = refl
 
 -- ---- steps told
 

@@ -19,7 +19,7 @@ use Rattle.oamd.specs.Trim.{TrimTable}
 use Rattle.oamd.specs.Record.{all_carry}
 use Rattle.oamd.specs.Element.{kind, declared_length, back_to_id, framed, Known, nothing, there, scenes, is_second, is_early, with_object, with_trim, with_extended, fields, State}
 use Rattle.oamd.specs.Element.{pass_over, read_known, oa_element, oa_element_md, elements}
-use Rattle.oamd.specs.Payload.{Payload, header, object_audio_metadata_payload}
+use Rattle.oamd.specs.Payload.{Payload, object_audio_metadata_payload}
 use Rattle.demands.specs.Terms.{parsed}
 use Rattle.demands.specs.Lemmas.Frame.{frame-of}
 use Rattle.demands.specs.Lemmas.Elements.{by_kind, fields_of}

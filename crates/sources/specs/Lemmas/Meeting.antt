@@ -93,4 +93,4 @@ pub at_entry : {X A : Type 0} {s : List ℕ} {way : List ℕ → List ℕ} (f : 
     → Meets s way (each f xs) vs at e o to → (k : ℕ) → k < length xs → (x : X) (none : A) → Met s (λ l. way (entry k ++ l)) (f (get_or xs k x)) (get_or vs k none)
 at_entry f [] m k l x none = absurd (omega arith)
 at_entry f (y ∷ ys) m zero l x none = let t = loop f y ys m in rw t.is (met t.here)
-at_entry f (y ∷ ys) m (suc k) l x none = let t = loop f y ys m in rw t.is (at_entry f ys t.rest k (omega arith) x none)
+at_entry {way = way} f (y ∷ ys) m (suc k) l x none = let t = loop f y ys m in rw t.is (at_entry {way = λ l. way (1 ∷ l)} f ys t.rest k (omega arith) x none)

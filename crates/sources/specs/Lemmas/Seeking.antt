@@ -9,7 +9,7 @@ use native.Mathlib.Omega.{arith}
 use Rattle.std.proofs.Math.ListN.{length}
 use Rattle.bits.specs.declared.Refusal.TheVariants.{Second, Early}
 use Rattle.bits.specs.Refusals.{number_of}
-use Rattle.bits.specs.Language.{ok, pick, P, ◌>>=◌, run, bit, past_payload, past_declared}
+use Rattle.bits.specs.Language.{ok, pick, P, run, bit, past_payload, past_declared}
 use Rattle.bits.specs.Steps.{bind_ok, bind_is, give_ok, ok_at}
 use Rattle.oamd.specs.declared.Kind.{Kind}
 use Rattle.oamd.specs.declared.Kind.TheVariants.{Object, Extended}

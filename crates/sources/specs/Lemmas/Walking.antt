@@ -7,7 +7,7 @@ use native.Mathlib.Omega.{arith}
 use Rattle.bits.specs.declared.Cur.{Cur}
 use Rattle.bits.specs.declared.Limit.{Limit}
 use Rattle.bits.specs.declared.Size.{Size}
-use Rattle.bits.specs.Language.{Res, ok, no, pick, and_then, Bits, P, give, within, ◌>>=◌, run, bits, bits_if, bit, number, each, from, for, past_declared}
+use Rattle.bits.specs.Language.{Res, ok, no, pick, and_then, Bits, P, give, ◌>>=◌, run, bits, bits_if, bit, number, each, from, for, past_declared}
 use Rattle.bits.specs.Steps.{no_ok, ok_at, bind_ok, bind_is, give_ok, give_is, within_is, field_ok}
 use Rattle.bits.specs.Laws.{length_from, local}
 use Rattle.bits.specs.Size.{variable_bits_max}

@@ -2,18 +2,6 @@ use Rattle.std.proofs.Common.{arith}
 use Rattle.reader.proofs.ElementLoop.{framed-read}
 use Rattle.reader.proofs.element.read_element.Goals as goal
 
-pub overflow_add-back : goal.overflow_add-back
-overflow_add-back c =
-    let (value, groups, gave) = c.read_size-step.ensures in omega (arith, groups)
-
-pub overflow_add-back-2 : goal.overflow_add-back-2
-overflow_add-back-2 c =
-    let (value, groups, gave) = c.read_size-step.ensures in omega (arith, c.head_bits.ensures.few, groups)
-
-pub read_body-body-requires : goal.read_body-body-requires
-read_body-body-requires c =
-    c.requires
-
 pub returns : goal.returns
 returns c =
     let (value, groups, gave) = c.read_size-step.ensures in

@@ -1,15 +1,6 @@
-use Rattle.std.proofs.Common.{inl, inr, arith, rules}
+use Rattle.std.proofs.Common.{inl, inr, arith}
 use Rattle.reader.proofs.ElementLoop.{first, further, ended}
 use Rattle.reader.proofs.element.read_elements.Goals as goal
-
-pub read_element-step-requires : goal.read_element-step-requires
-read_element-step-requires c =
-    let ongoing = c.loop-i.invariant in
-    record {
-      ready = record { objects = search rules; alternate = search rules; sized = ongoing.sized };
-      blocks = ongoing.blocks;
-      unknown = omega (arith, ongoing.unknown);
-    }
 
 pub loop-i-preserved : goal.loop-i-preserved
 loop-i-preserved c =

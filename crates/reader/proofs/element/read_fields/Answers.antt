@@ -1,13 +1,6 @@
-use Rattle.std.proofs.Common.{arith, rules}
+use Rattle.std.proofs.Common.{rules}
 use Rattle.reader.proofs.ElementLoop.{unknown-fields, object-fields, trim-fields, extended-fields}
-use Rattle.reader.proofs.ObjectLoop.{rooms}
 use Rattle.reader.proofs.element.read_fields.Goals as goal
-
-pub read_extended-cur-requires : goal.read_extended-cur-requires
-read_extended-cur-requires c =
-    let asked = c.requires in
-    let most = rooms asked.ready.objects asked.blocks in
-    record { many = omega (arith, most.0, most.1); fits = omega (arith, most.0, asked.ready.sized.out.fits) }
 
 pub returns-in-Unknown : goal.returns-in-Unknown
 returns-in-Unknown c =

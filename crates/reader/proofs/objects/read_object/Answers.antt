@@ -12,14 +12,6 @@ pub loop-i-init : goal.loop-i-init
 loop-i-init c =
     rw c.idle-nothing_before.ensures (enter _ _ _ _ _ _ _)
 
-pub overflow_add-at : goal.overflow_add-at
-overflow_add-at c =
-    omega (arith, c.loop-i.invariant.place, c.requires.near)
-
-pub overflow_add-i : goal.overflow_add-i
-overflow_add-i c =
-    omega (arith, c.requires.few)
-
 pub loop-i-preserved : goal.loop-i-preserved
 loop-i-preserved c =
     rw c.store_scene.ensures

@@ -1,19 +1,6 @@
-use Rattle.std.proofs.Common.{arith}
 use Rattle.bits.proofs.Sticky.{bind, plain}
 use Rattle.oamd.specs.ObjectElement.{object_element}
-use Rattle.reader.proofs.ObjectLoop.{rooms}
 use Rattle.reader.proofs.objects.read_object_element.Goals as goal
-
-pub read_objects-cur-requires : goal.read_objects-cur-requires
-read_objects-cur-requires c =
-    let asked = c.requires in
-    let time = c.read_timing-step.ensures in
-    record {
-      many = asked.many;
-      some = time.some;
-      few = time.few;
-      fits = omega (arith, (rooms asked.many time.few).0, asked.fits);
-    }
 
 pub returns : goal.returns
 unfolding object_element

@@ -10,11 +10,3 @@ pub returns-then-count-ne0 : goal.returns-then-count-ne0
 returns-then-count-ne0 c =
     rw c.refused_at.ensures
     (uncounted c.read_head-head.ensures c.limit_of-l.ensures c.read_element_count-count.ensures.reads c.if-count-ne0.true)
-
-pub sift_elements-requires : goal.sift_elements-requires
-sift_elements-requires c =
-    record { headed = c.read_head-head.ensures; whole = c.limit_of-l.ensures; counts = c.read_element_count-count.ensures; clean = c.if-count-ne0.false }
-
-pub returns : goal.returns
-returns c =
-    c.sift_elements.ensures

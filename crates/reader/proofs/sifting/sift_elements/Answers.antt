@@ -1,5 +1,5 @@
 use Rattle.std.proofs.Common.{arith, inl, inr}
-use Rattle.reader.proofs.SiftLoop.{pass_start, pass-asks, pass_stops, pass_on, refused_there, sifted_there}
+use Rattle.reader.proofs.SiftLoop.{pass_start, pass_stops, pass_on, refused_there, sifted_there}
 use Rattle.reader.proofs.sifting.sift_elements.Goals as goal
 use Rattle.reader.proofs.sifting.sift_elements.Goals.{else-turn, then-turn}
 
@@ -7,20 +7,11 @@ pub loop-i-init : goal.loop-i-init
 loop-i-init c =
     pass_start c.requires c.nothing_read-state.ensures c.none_gone-gone.ensures c.all_room-scratch.ensures c.no_trim-table.ensures.0 c.no_trim-table.ensures.1
 
-pub sift_element-turn-requires : goal.sift_element-turn-requires
-sift_element-turn-requires c =
-    pass-asks c.requires c.loop-i.invariant c.loop-i-test.true c.scope_of-scope.ensures
-
 pub returns-then-cur-ne0 : goal.returns-then-cur-ne0
 returns-then-cur-ne0 c =
     let asked = c.requires in
     rw c.refused_at.ensures
     (refused_there asked (pass_stops asked c.loop-i.invariant c.loop-i-test.true c.scope_of-scope.ensures c.sift_element-turn.ensures c.if-cur-ne0.true))
-
--- there is room for one more
-pub bounds-gone-drops : goal.bounds-gone-drops
-bounds-gone-drops c =
-    omega (arith, c.loop-i.invariant.few, c.loop-i-test.true, c.requires.counts.small)
 
 pub loop-i-preserved : goal.loop-i-preserved
 loop-i-preserved c =

@@ -1,12 +1,8 @@
 use Rattle.std.proofs.Common.{arith, length, ◌+◌, ◌≡◌}
 use Rattle.bits.proofs.Sticky.{bind, done}
 use Rattle.oamd.specs.Timing.{md_update_info, timing_of}
-use Rattle.syntax.proofs.Filled.{filling_start, filling_step, filling-stop}
+use Rattle.syntax.proofs.Filled.{filling_step, filling-stop}
 use Rattle.reader.proofs.timing.read_timing.Goals as goal
-
-pub loop-i-init : goal.loop-i-init
-loop-i-init c =
-    (omega arith, rw c.no_timing-timing.ensures filling_start)
 
 pub loop-i-preserved : goal.loop-i-preserved
 loop-i-preserved c = (

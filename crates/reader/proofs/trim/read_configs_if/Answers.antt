@@ -3,10 +3,6 @@ use Rattle.oamd.specs.Trim.{configs_bytes_of}
 use Rattle.reader.proofs.TrimLoop.{absent}
 use Rattle.reader.proofs.trim.read_configs_if.Goals as goal
 
-pub returns-then-on : goal.returns-then-on
-returns-then-on c =
-    rw c.if-on.true c.read_configs.ensures
-
 pub returns-else-on : goal.returns-else-on
 unfolding configs_bytes_of
 returns-else-on c =

@@ -1,0 +1,9 @@
+use Rattle.std.proofs.Common.{ap₂, ℕ}
+use Rattle.text.proofs.LayLaws.{laid-bind, laid_is}
+use Rattle.catalogue.specs.Text.{update_line}
+use Rattle.catalogue.proofs.frames.lay_change.Goals as goal
+
+pub returns : goal.returns
+returns c =
+    laid-bind (laid_is (ap₂ (λ (start ramp : ℕ). update_line start ramp) c.raw-start.ensures c.raw-ramp.ensures) c.lay_update_line-to.ensures)
+    c.lay_entries.ensures

@@ -1,0 +1,12 @@
+use Rattle.sources.specs.Sources.{z_source}
+use Rattle.sources.proofs.finding.z_source.Goals as goal
+
+pub returns-in-Absolute : goal.returns-in-Absolute
+unfolding z_source
+returns-in-Absolute c =
+    rw c.in-Absolute.is
+
+pub returns-in-Moved : goal.returns-in-Moved
+unfolding z_source
+returns-in-Moved c =
+    rw c.in-Moved.is
