@@ -13,7 +13,7 @@ use Rattle.oamd.specs.Tables.{record_bytes, record_stride, room_bytes, most_trim
 use Rattle.oamd.specs.Timing.{no_update}
 use Rattle.oamd.specs.Answer.{Outcome}
 use Rattle.oamd.specs.Batch.{entry}
-use Rattle.demands.specs.Lemmas.Shelves.{entry-keeps}
+use Rattle.demands.proofs.Lemmas.Shelves.{entry-keeps}
 use Rattle.roundtrip.specs.Entries.{entry-alike, records_of, EntryInRange, entry-in_range}
 use Rattle.text.specs.Lines.{texts}
 use Rattle.catalogue.specs.Sheets.{Change, change_of, sheet_of, sheet_at, zeros}

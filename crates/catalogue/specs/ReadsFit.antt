@@ -8,7 +8,7 @@ use Rattle.bits.specs.Terms.{Every}
 use Rattle.oamd.specs.Tables.{record_bytes, record_stride, room_bytes, most_trim}
 use Rattle.oamd.specs.Answer.{Outcome}
 use Rattle.oamd.specs.Batch.{entry}
-use Rattle.demands.specs.Lemmas.Shelves.{entry-keeps}
+use Rattle.demands.proofs.Lemmas.Shelves.{entry-keeps}
 use Rattle.record.specs.Bytes.{scene_at}
 use Rattle.form.specs.Lemmas.Tests.{by_eq, below}
 use Rattle.roundtrip.specs.Promises.{most_byte, ReadInRange}

@@ -17,7 +17,7 @@ use Rattle.oamd.specs.Answer.{Outcome}
 use Rattle.oamd.specs.Batch.{each_bytes, update_bytes_of, entry}
 use Rattle.demands.specs.Promises.{Timed}
 use Rattle.demands.specs.Time.{time_when}
-use Rattle.demands.specs.Lemmas.Shelves.{entry-keeps, inside_is, outside_is}
+use Rattle.demands.proofs.Lemmas.Shelves.{entry-keeps, inside_is, outside_is}
 use Rattle.form.specs.Lemmas.Tests.{by_eq}
 use Rattle.roundtrip.specs.Entries.{records_of, EntryInRange}
 use Rattle.text.specs.Lines.{texts}

@@ -16,7 +16,7 @@ use Rattle.oamd.specs.Programme.{bed_assignment, bed_instances, intermediate_spa
 use Rattle.oamd.specs.Timing.{sample_offset, block_update_info, md_update_info}
 use Rattle.oamd.specs.Trim.{trim_element}
 use Rattle.demands.specs.Lemmas.Reading.{reading_long}
-use Rattle.demands.specs.Lemmas.Shelves.{inside_is, outside_is}
+use Rattle.demands.proofs.Lemmas.Shelves.{inside_is, outside_is}
 use Rattle.roundtrip.specs.Entries.{entry-in_range}
 use Rattle.catalogue.specs.Sheets.{zeros}
 use Rattle.catalogue.specs.Fit.{CanBe}

@@ -8,7 +8,7 @@ use Rattle.std.proofs.lemmas.List.{take-append-le, drop-append-le}
 use Rattle.std.proofs.Math.Seq.{drop-append-add}
 use Rattle.oamd.specs.Tables.{room_bytes, most_trim}
 use Rattle.oamd.specs.Answer.{reading}
-use Rattle.demands.specs.Lemmas.Shelves.{inside_is}
+use Rattle.demands.proofs.Lemmas.Shelves.{inside_is}
 use Rattle.catalogue.specs.Sheets.{Sheet, zeros, sheet_of, sheet_at, sheets_of}
 use Rattle.catalogue.specs.Answer.{cataloguing}
 

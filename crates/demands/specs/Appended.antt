@@ -11,8 +11,3 @@ pub appended : (frame : ℕ) (s t buffer trim : List ℕ) → (reading frame s b
 appended frame s t buffer trim accepted short =
     let r = read_of frame s buffer trim accepted in
     reading_ok frame (s ++ t) buffer trim (omega arith) (parsed-append s t r.ran) ∙ sym (reading_ok frame s buffer trim r.short r.ran)
-
--- So where both are accepted, the payload and the same with more data behind it, their tables are the same.
-pub never-others : (frame : ℕ) (s t buffer trim : List ℕ) → (reading frame s buffer trim).answer.refusal ≡ 0 → (reading frame (s ++ t) buffer trim).answer.refusal ≡ 0
-    → reading frame (s ++ t) buffer trim ≡ reading frame s buffer trim
-never-others frame s t buffer trim accepted accepted' = appended frame s t buffer trim accepted (read_of frame (s ++ t) buffer trim accepted').short

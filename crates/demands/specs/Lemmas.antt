@@ -5,7 +5,6 @@ pub mod Frame
 pub mod Elements
 pub mod Records
 pub mod Order
-pub mod Skeletons
 pub mod Assembled
 pub mod Limits
 pub mod Narrow
@@ -15,6 +14,5 @@ pub mod Codes
 pub mod Stopping
 pub mod Carried
 pub mod Arrays
-pub mod Shelves
 pub mod AnswerBytes
 pub mod Timed

@@ -7,14 +7,9 @@ pub mod Promises
 pub mod Lemmas
 pub mod Appended
 pub mod Cut
-pub mod Unknown
-pub mod Edited
-pub mod Demand3
 pub mod Refusals
 pub mod Buffers
 pub mod Answers
 pub mod Numbers
 pub mod ExactlyWhen
-pub mod Missing
-pub mod Batch
 pub mod Time

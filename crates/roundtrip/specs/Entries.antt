@@ -21,7 +21,7 @@ use Rattle.demands.specs.Promises.{BlocksBy}
 use Rattle.demands.specs.Time.{frame-aside}
 use Rattle.demands.specs.Lemmas.Reading.{Case, long, stopped, full, read, case, reading_ok, reading_no, reading_long, housed_fits, housed-lacks, refusal-of}
 use Rattle.demands.specs.Lemmas.Records.{length-needed}
-use Rattle.demands.specs.Lemmas.Shelves.{inside_is, outside_is}
+use Rattle.demands.proofs.Lemmas.Shelves.{inside_is, outside_is}
 use Rattle.roundtrip.specs.Promises.{ReadInRange}
 use Rattle.roundtrip.specs.Ranges.{read-in_range}
 

@@ -9,7 +9,7 @@ use Rattle.oamd.specs.Tables.{record_bytes, room_bytes, most_trim, answer_bytes}
 use Rattle.oamd.specs.Answer.{Outcome}
 use Rattle.oamd.specs.Batch.{answer_at}
 use Rattle.demands.specs.Promises.{Call, batched, Roomy, slot, start_of, length_of, frame_of, entry_of, InTypes}
-use Rattle.demands.specs.Batch.{batch-entry, place-says}
+use Rattle.demands.proofs.Batch.{batch-entry, place-says}
 use Rattle.summary.specs.Summary.{tallies, total, joined, zeros, alone, outcomes, refusal_of, accepted_of, records_of, column, used_updates, updates_of, is_late, ramp_length, summary_of}
 use Rattle.roundtrip.specs.Entries.{Alike, entry-alike}
 use Rattle.summary.specs.Entries.{column-alike}

@@ -14,7 +14,7 @@ use Rattle.oamd.specs.Element.{there}
 use Rattle.oamd.specs.Payload.{header, object_audio_metadata_payload, tables}
 use Rattle.oamd.specs.Answer.{Outcome, missing_of, reading}
 use Rattle.demands.specs.Answers.{accepted_is, place-within}
-use Rattle.demands.specs.Missing.{missing_most}
+use Rattle.demands.proofs.Missing.{missing_most}
 use Rattle.demands.specs.Numbers.{numbers, roomy}
 use Rattle.demands.specs.Lemmas.Reading.{Case, long, stopped, full, read, case, refusal-of}
 use Rattle.form.specs.Lemmas.Tests.{by-test}

@@ -5,7 +5,7 @@ use Rattle.std.proofs.Common.{ap, arith}
 use base.Logic.{emp}
 use contract.Lifetimes.{Lfts}
 use contract.Monad.{fact}
-use Rattle.std.specs.Borrow.{Bor}
+use Rattle.std.specs.Borrow.{Bor, MutBor}
 use denote.Triple.Clauses.{Lasts, closing}
 use denote.Triple.Entry.{Args}
 use borrow.Fn.World.{w₀}
@@ -19,9 +19,12 @@ use Rattle.unique.specs.OneAnswer.{ClausesOf, OneAnswer, Ensured, ◌beside◌}
 none_is_one : ◌≡◌ {A = ℕ} 0 1 → ⊥
 none_is_one h = omega arith
 
--- No bytes, lent.
+-- No bytes, lent; and lent to be changed.
 abbrev empty : Bor (List ℕ)
 empty = record { ref_ptr = (0, 0); now = [] }
+
+abbrev room : MutBor (List ℕ)
+room = record { ref_ptr = (0, 0); ghost_name = 0; now = [] }
 
 -- The clause of `read`, for the answer alone.
 abbrev answer_alone : ClausesOf read.ended
@@ -34,7 +37,7 @@ answer_alone M 𝓤 𝓛 mem run κs a = record {
 pub buffers-open : OneReading answer_alone (λ M 𝓤 𝓛 mem run. closing 𝓛 read.ended (answer_alone M 𝓤 𝓛 mem run)) → ⊥
 buffers-open one =
     let κs : Lfts 3 = ([], ([], ([], tt))) in
-    let a : Args read.signature κs = (empty, (0, (empty, (empty, tt)))) in
+    let a : Args read.signature κs = (empty, (0, (room, (room, tt)))) in
     let left : List ℕ → Lasts read.ended κs a = λ l. (tt, (tt, (l, ([], tt)))) in
     let free : (l : List ℕ) → Ensured read.ended answer_alone w₀ κs a (reading 0 [] [] []).answer (left l) =
     λ l. record { ghost = tt; owned = w₀.𝓤.one; holds = ∣ (refl, tt) ∣₁ } in

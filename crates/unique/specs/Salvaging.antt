@@ -15,7 +15,7 @@ salvaged-set =
 -- Two answers, each with the bytes that it leaves in the lent buffer, are the same, buffer too, if the payload's bytes and the bytes that stood in the buffer are.
 abbrev pub OneSalvage : ClausesOf salvage.ended → SpecOf salvage.ended → Type 2
 OneSalvage clauses spec =
-    OneAnswer salvage.ended clauses spec (λ κs a. now a.0 beside now a.1.0) {O = Salvaged} (λ κs a r z. record { answer = r; out = z.1.0 })
+    OneAnswer salvage.ended clauses spec (λ κs a. a.0.now beside a.1.0.now) {O = Salvaged} (λ κs a r z. record { answer = r; out = z.1.0 })
 
 pub one-salvage : OneSalvage (λ M 𝓤 𝓛. salvage.clauses 𝓛) (λ M 𝓤 𝓛. salvage.spec 𝓛)
 one-salvage = by_equation (λ κs. salvaged-set) (λ w. refl) (λ i. salvaging i.0 i.1) (λ w κs a r z p. said (λ h. h) p.holds)

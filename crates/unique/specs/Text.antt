@@ -27,7 +27,7 @@ texted-set =
 -- Two answers, each with the bytes that it leaves in the lent buffer, are the same, buffer too, if the payload's bytes and the bytes that stood in the buffer are.
 abbrev pub OneText : ClausesOf list-text.ended → SpecOf list-text.ended → Type 2
 OneText clauses spec =
-    OneAnswer list-text.ended clauses spec (λ κs a. now a.0 beside now a.1.0) {O = Texted} (λ κs a r z. record { answer = r; buffer = z.1.0 })
+    OneAnswer list-text.ended clauses spec (λ κs a. a.0.now beside a.1.0.now) {O = Texted} (λ κs a r z. record { answer = r; buffer = z.1.0 })
 
 pub one-list_text : OneText (λ M 𝓤 𝓛. list-text.clauses 𝓛) (λ M 𝓤 𝓛. list-text.spec 𝓛)
 one-list_text = by_equation (λ κs. texted-set) (λ w. refl) (λ i. texted (listing i.0) i.1) (λ w κs a r z p. said (λ h. h) p.holds)

@@ -15,7 +15,7 @@ use Rattle.oamd.specs.Element.{Known, nothing, fields}
 use Rattle.oamd.specs.Payload.{Payload, tables}
 use Rattle.demands.specs.Terms.{parsed, tables_of}
 use Rattle.demands.specs.Skeleton.{Body, Outline, outline, known, given}
-use Rattle.demands.specs.Lemmas.Skeletons.{Step, Steps, outlined}
+use Rattle.demands.proofs.Lemmas.Skeletons.{Step, Steps, outlined}
 use Rattle.own.specs.Own.{kinds_of, order_of}
 
 abbrev is_trim : Kind → Bool

@@ -19,7 +19,7 @@ use Rattle.oamd.specs.Sift.{Sifting, gone_at, sift, Sieve}
 use Rattle.demands.specs.Skeleton.{Body, body, bodies}
 use Rattle.demands.specs.Assembly.{Element, all_bits, all_bodies, count_bits}
 use Rattle.demands.specs.Lemmas.Frame.{body_at, end_at, frame-of}
-use Rattle.demands.specs.Lemmas.Skeletons.{body_is}
+use Rattle.demands.proofs.Lemmas.Skeletons.{body_is}
 use Rattle.demands.specs.Lemmas.Assembled.{count-writes, count-spells, piece}
 use Rattle.salvaging.specs.Salvage.{without, left}
 use Rattle.salvaging.specs.Promises.{Sieved, gone_of, InOrder, none, one, Kept, end, stays, goes}

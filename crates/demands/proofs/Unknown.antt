@@ -10,7 +10,7 @@ use Rattle.oamd.specs.Answer.{Outcome, housed, reading}
 use Rattle.demands.specs.Terms.{runs, tables_of}
 use Rattle.demands.specs.Skeleton.{Outline, outline_payload, outline, unknowns, given, taken_out, skeleton, tables_in, SameTables}
 use Rattle.demands.specs.Lemmas.Reading.{read_of, reading_ok, housed_fits}
-use Rattle.demands.specs.Lemmas.Skeletons.{Steps, outlined, from-outline, given_some, taken_some}
+use Rattle.demands.proofs.Lemmas.Skeletons.{Steps, outlined, from-outline, given_some, taken_some}
 
 -- Let a payload be accepted, and another have the same skeleton: the same header and the same known elements in the same order, whatever unknown ones
 -- stand before, between and behind them. Up to the length limit the other is accepted too, with the same tables and the same buffers.

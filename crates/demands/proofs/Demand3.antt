@@ -13,9 +13,9 @@ use Rattle.demands.specs.Skeleton.{Body, known, taken_out, skeleton, tables_in, 
 use Rattle.demands.specs.Assembly.{Element, all_bodies, payload_of, PutTogether}
 use Rattle.demands.specs.Appended.{appended}
 use Rattle.demands.specs.Cut.{cut_short}
-use Rattle.demands.specs.Unknown.{unknown-elements}
+use Rattle.demands.proofs.Unknown.{unknown-elements}
 use Rattle.demands.specs.Lemmas.Reading.{reading_long, refusal-of}
-use Rattle.demands.specs.Lemmas.Skeletons.{known-without}
+use Rattle.demands.proofs.Lemmas.Skeletons.{known-without}
 use Rattle.demands.specs.Lemmas.Assembled.{outline_is, outline-together, bodies-append}
 use Rattle.demands.specs.Promises.{Carries, Change, append, cut, add, remove, alter, After, same, ends-early, too_long}
 

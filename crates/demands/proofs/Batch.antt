@@ -11,9 +11,9 @@ use Rattle.oamd.specs.Answer.{Outcome, refused, reading}
 use Rattle.oamd.specs.Batch.{answer_at, entry, shelved, roomy, Batched, batched_with, batching}
 use Rattle.demands.specs.Promises.{Accepts, Refuses, Change, After, Call, batched, Roomy, slot, start_of, length_of, frame_of, payload_at, entry_of, Holds, Beyond, Stored, InTypes}
 use Rattle.demands.specs.Answers.{answers}
-use Rattle.demands.specs.Demand3.{demand_3}
+use Rattle.demands.proofs.Demand3.{demand_3}
 use Rattle.demands.specs.Lemmas.AnswerBytes.{answer_back}
-use Rattle.demands.specs.Lemmas.Shelves.{inside_is, outside_is, Room, entry-stands, rest-stays}
+use Rattle.demands.proofs.Lemmas.Shelves.{inside_is, outside_is, Room, entry-stands, rest-stays}
 
 -- ---- the call
 

@@ -13,9 +13,9 @@ use Rattle.oamd.specs.Element.{kind, framed}
 use Rattle.oamd.specs.Answer.{reading}
 use Rattle.demands.specs.Skeleton.{Body, body, known, taken_out, skeleton}
 use Rattle.demands.specs.Assembly.{Head, Element, all_bodies, payload_of, PutTogether}
-use Rattle.demands.specs.Unknown.{unknown-elements}
+use Rattle.demands.proofs.Unknown.{unknown-elements}
 use Rattle.demands.specs.Lemmas.Reading.{read_of}
-use Rattle.demands.specs.Lemmas.Skeletons.{outlined, known-without}
+use Rattle.demands.proofs.Lemmas.Skeletons.{outlined, known-without}
 use Rattle.demands.specs.Lemmas.Assembled.{outline_is, together_of, bodies-append}
 use Rattle.demands.specs.Promises.{Keeps}
 

@@ -1,0 +1,2 @@
+pub mod Skeletons
+pub mod Shelves

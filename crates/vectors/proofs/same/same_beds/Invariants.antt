@@ -1,0 +1,10 @@
+use Rattle.std.proofs.Common.{◌-◌, ◌≤◌}
+use Rattle.vectors.proofs.same.same_beds.Given as goal
+
+abbrev pub invariant-loop-i : goal.invariant-loop-i
+invariant-loop-i t =
+    t.i ≤ 9
+
+abbrev pub decreases-loop-i : goal.decreases-loop-i
+decreases-loop-i t =
+    9 - t.i
