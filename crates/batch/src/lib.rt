@@ -62,9 +62,9 @@ fn read_entries(
     answers: &mut [u8],
 )
     requires { Roomy (length starts.now) (length lengths.now) (length frames.now) recordslot trimslot records.old trims.old answers.old }
-    ensures { (record { records = records.exit.now; trims = trims.new; answers = answers.new })
+    ensures { (record { records = records.new; trims = trims.new; answers = answers.new })
         ≡ shelved store.now starts.now lengths.now frames.now recordslot trimslot
-        (record { records = records.entry.now; trims = trims.old; answers = answers.old }) }
+        (record { records = records.old; trims = trims.old; answers = answers.old }) }
 {
     let mut slot: usize = 0;
     let mut trim: usize = 0;
@@ -104,9 +104,9 @@ pub fn read_batch(
     trims: &mut [u8],
     answers: &mut [u8],
 ) -> BatchAnswer
-    ensures { (record { answer = result; shelf = record { records = records.exit.now; trims = trims.new; answers = answers.new } })
+    ensures { (record { answer = result; shelf = record { records = records.new; trims = trims.new; answers = answers.new } })
         ≡ batching store.now starts.now lengths.now frames.now recordslot trimslot
-        (record { records = records.entry.now; trims = trims.old; answers = answers.old }) }
+        (record { records = records.old; trims = trims.old; answers = answers.old }) }
 {
     let n = starts.len();
     if !is_roomy(

@@ -176,12 +176,12 @@ abbrev pub laid_records : Backed → List ℕ
 laid_records b = take b.answer.bytes b.records
 
 -- one call for both: lines and records of the first and then of the second, and the update before that the second left
-pub record JoinedBack (first second whole : Backed) (roomLines roomRecords : List ℕ) : Type 0 where
+pub record JoinedBack (first second whole : Backed) (room_lines room_records : List ℕ) : Type 0 where
   pub refusal : whole.answer.refusal ≡ 0
   pub frames : whole.answer.frames ≡ first.answer.frames + second.answer.frames
   pub bytes : whole.answer.bytes ≡ first.answer.bytes + second.answer.bytes
-  pub lines : whole.lines ≡ onto (laid_lines first ++ laid_lines second) roomLines
-  pub records : whole.records ≡ onto (laid_records first ++ laid_records second) roomRecords
+  pub lines : whole.lines ≡ onto (laid_lines first ++ laid_lines second) room_lines
+  pub records : whole.records ≡ onto (laid_records first ++ laid_records second) room_records
   pub before : SameBefore whole.before second.before
 
 front : (s buffer : List ℕ) (n : ℕ) → length s ≡ n → take n (onto s buffer) ≡ s
@@ -194,8 +194,8 @@ laid-lines before lines records xs = front (texts line_bytes xs) lines (line_len
 pub laid-records : (before lines records : List ℕ) (xs : List Sheet) → laid_records (read before lines records xs) ≡ texts records_bytes xs
 laid-records before lines records xs = front (texts records_bytes xs) records (length (texts records_bytes xs)) refl
 
-module _ (before lines records lines' records' roomLines roomRecords : List ℕ) (xs ys : List Sheet) (room : before_bytes ≤ length before) (fit : Every Fit xs) (fit' : Every Fit ys) where
-  read-joined : JoinedBack (read before lines records xs) (read (left before xs) lines' records' ys) (read before roomLines roomRecords (xs ++ ys)) roomLines roomRecords
+module _ (before lines records lines' records' room_lines room_records : List ℕ) (xs ys : List Sheet) (room : before_bytes ≤ length before) (fit : Every Fit xs) (fit' : Every Fit ys) where
+  read-joined : JoinedBack (read before lines records xs) (read (left before xs) lines' records' ys) (read before room_lines room_records (xs ++ ys)) room_lines room_records
   read-joined = record {
     refusal = refl;
     frames = length-append xs ys;
@@ -235,7 +235,7 @@ left_fits text before lines records fit h =
     rw (carried text before lines records r fit) ((whole-text text before lines records r).next fit)
 
 -- Two calls, the second with the update before that the first left: one call with the texts put together, and room for what both gave, comes to the same.
-module _ (a b before lines records lines' records' roomLines roomRecords : List ℕ) where
+module _ (a b before lines records lines' records' room_lines room_records : List ℕ) where
   abbrev first_back : Backed
   first_back = reading_back a before lines records
 
@@ -243,12 +243,12 @@ module _ (a b before lines records lines' records' roomLines roomRecords : List 
   second_back = reading_back b first_back.before lines' records'
 
   abbrev whole_back : Backed
-  whole_back = reading_back (a ++ b) before roomLines roomRecords
+  whole_back = reading_back (a ++ b) before room_lines room_records
 
   pub read-pieces : Fits (rows_in before) → first_back.answer.refusal ≡ 0 → second_back.answer.refusal ≡ 0
-      → first_back.answer.bytes + second_back.answer.bytes ≤ length roomRecords
-      → line_length * (first_back.answer.frames + second_back.answer.frames) ≤ length roomLines
-      → JoinedBack first_back second_back whole_back roomLines roomRecords
+      → first_back.answer.bytes + second_back.answer.bytes ≤ length room_records
+      → line_length * (first_back.answer.frames + second_back.answer.frames) ≤ length room_lines
+      → JoinedBack first_back second_back whole_back room_lines room_records
   read-pieces fit h h' room-records room-lines =
       let r = read_of a before lines records h in
       let r' = read_of b first_back.before lines' records' h' in
@@ -262,19 +262,19 @@ module _ (a b before lines records lines' records' roomLines roomRecords : List 
       let d : first_back ≡ read before lines records xs = comes_to a before lines records r in
       let d' : second_back ≡ read (left before xs) lines' records' ys =
       comes_to b first_back.before lines' records' r' ∙ ap (λ (o : Backed). read o.before lines' records' ys) d in
-      let j = read-joined before lines records lines' records' roomLines roomRecords xs ys r.before-room (t.fit fit) (t'.fit (t.next fit)) in
+      let j = read-joined before lines records lines' records' room_lines room_records xs ys r.before-room (t.fit fit) (t'.fit (t.next fit)) in
       let bytes = j.bytes in
       let frames = length-append xs ys in
-      read_as d d' (back_fits (a ++ b) before roomLines roomRecords (xs ++ ys) i r'.rest r.before-room whole
+      read_as d d' (back_fits (a ++ b) before room_lines room_records (xs ++ ys) i r'.rest r.before-room whole
       (omega (arith, ap (λ (o : Backed). o.answer.bytes) d, ap (λ (o : Backed). o.answer.bytes) d'))
       (omega (arith, lines_long (xs ++ ys), ap (λ (o : Backed). o.answer.frames) d, ap (λ (o : Backed). o.answer.frames) d'))) j
 
   -- The second text refused for line k, both are refused for the line k behind those of the first; if no entry begins the second, as where a frame's line does
   pub read-pieces-bad : Fits (rows_in before) → first_back.answer.refusal ≡ 0 → second_back.answer.refusal ≡ number_of BadLine
       → NoEntry b → length (a ++ b) < last_position
-      → whole_back ≡ not_backed before roomLines roomRecords (number_of BadLine) (lines_in a + second_back.answer.place)
+      → whole_back ≡ not_backed before room_lines room_records (number_of BadLine) (lines_in a + second_back.answer.place)
   read-pieces-bad fit h h' q l =
       let r = read_of a before lines records h in
       let e = ap (λ (x : List ℕ). back x b) (sym (carried a before lines records r fit)) ∙ bad_of b first_back.before lines' records' h' in
-      back-bad-line (a ++ b) before roomLines roomRecords _ r.before-room
+      back-bad-line (a ++ b) before room_lines room_records _ r.before-room
       (joined-bad (rows_in before) a b r.sheets r.line r.rest r.sheets-are fit q second_back.answer.place e l)

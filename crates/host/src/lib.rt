@@ -49,9 +49,9 @@ pub fn skriemelt_read_batch(
     trims: &mut [u8],
     answers: &mut [u8],
 ) -> BatchAnswer
-    ensures { (record { answer = result; shelf = record { records = records.exit.now; trims = trims.new; answers = answers.new } })
+    ensures { (record { answer = result; shelf = record { records = records.new; trims = trims.new; answers = answers.new } })
         ≡ batching store.now starts.now lengths.now frames.now recordslot trimslot
-        (record { records = records.entry.now; trims = trims.old; answers = answers.old }) }
+        (record { records = records.old; trims = trims.old; answers = answers.old }) }
 {
     batch::read_batch(
         store, starts, lengths, frames, recordslot, trimslot, records, trims, answers,

@@ -32,8 +32,8 @@ shown_of before n = record {
 
 -- what is sent, group by group
 abbrev pub sent_of : Location → Render → Shown
-sent_of locationBefore n = record {
-  location = location_of n.position (distance_of n.distance) locationBefore;
+sent_of location_before n = record {
+  location = location_of n.position (distance_of n.distance) location_before;
   volume = volume_of n.extent;
   zone = n.zone;
   screen = n.screen;

@@ -125,11 +125,11 @@ block_0-alone class =
 -- ---- the blocks of an object
 
 pub seed_not-looked_at : (n class : ℕ)
-    → Ensures (object_data n class) (λ bs. (s s' : Scene) (objectBefore : List Scene) → scenes_from s objectBefore bs ≡ scenes_from s' objectBefore bs)
+    → Ensures (object_data n class) (λ bs. (s s' : Scene) (object_before : List Scene) → scenes_from s object_before bs ≡ scenes_from s' object_before bs)
 unfolding object_data each from scenes_from
-seed_not-looked_at zero class = e-give _ _ λ s s' objectBefore. refl
+seed_not-looked_at zero class = e-give _ _ λ s s' object_before. refl
 seed_not-looked_at (suc n) class =
     e-bind _ _ _ (e-then _ _ _ (block_0-alone class) λ b h.
     e-bind _ _ _ (e-any _ _ λ bs.
-    e-give _ _ λ s s' objectBefore.
-    ap (λ (x : Scene). x ∷ scenes_from x (behind_first objectBefore) bs) (first_alone s s' (first_gain objectBefore) b h)))
+    e-give _ _ λ s s' object_before.
+    ap (λ (x : Scene). x ∷ scenes_from x (behind_first object_before) bs) (first_alone s s' (first_gain object_before) b h)))

@@ -21,10 +21,10 @@ use Rattle.oamd.specs.Block.{has_gain, has_priority, has_position, has_zone, has
 
 -- a value by its status: the default; as sent; that of the block before; as sent or else that of the block before (Tables 28 and 29)
 abbrev pub value_of : {A : Type 0} → Status → Bool → A → A → A → A
-value_of Default sent default valueBefore value = default
-value_of Full sent default valueBefore value = value
-value_of Reuse sent default valueBefore value = valueBefore
-value_of Mixed sent default valueBefore value = pick sent value valueBefore
+value_of Default sent default value_before value = default
+value_of Full sent default value_before value = value
+value_of Reuse sent default value_before value = value_before
+value_of Mixed sent default value_before value = pick sent value value_before
 
 -- 0 dB as a record has it: the gain in dB plus 50
 abbrev pub zero_db : ℕ
@@ -71,11 +71,11 @@ distance_of d = pick (set? d.given) (pick (set? d.infinite) 1 (get_or distance_c
 
 -- A moved position starts from that of the block before, and each coordinate stays within its range (5.6.1.1.12 to 5.6.1.1.14)
 unfoldable pub location_of : Position → ℕ → Location → Location
-location_of (Absolute x y sign z) distance locationBefore = record { x = across x; y = across y; z = upright (height_of sign z); distance = distance }
-location_of (Moved x y z) distance locationBefore = record {
-  x = across (moved_by locationBefore.x x);
-  y = across (moved_by locationBefore.y y);
-  z = upright (moved_by locationBefore.z z);
+location_of (Absolute x y sign z) distance location_before = record { x = across x; y = across y; z = upright (height_of sign z); distance = distance }
+location_of (Moved x y z) distance location_before = record {
+  x = across (moved_by location_before.x x);
+  y = across (moved_by location_before.y y);
+  z = upright (moved_by location_before.z z);
   distance = distance;
 }
 
@@ -139,21 +139,21 @@ behind_first (s ∷ ss) = ss
 
 -- the scenes of one object, by the scene of the block before and the scenes of the object before from this block on
 unfoldable pub scenes_from : Scene → List Scene → List Block → List Scene
-scenes_from block_before objectBefore [] = []
-scenes_from block_before objectBefore (b ∷ bs) =
-    let s = resolve block_before (first_gain objectBefore) b in
-    s ∷ scenes_from s (behind_first objectBefore) bs
+scenes_from block_before object_before [] = []
+scenes_from block_before object_before (b ∷ bs) =
+    let s = resolve block_before (first_gain object_before) b in
+    s ∷ scenes_from s (behind_first object_before) bs
 
 -- before block 0; no scene is made of it, since block 0 is full or by default and its position absolute (proofs/Seed.antt)
 abbrev pub nothing_before : Scene
 nothing_before = idle 0
 
 unfoldable pub scenes_of : List Scene → List Block → List Scene
-scenes_of objectBefore o = scenes_from nothing_before objectBefore o
+scenes_of object_before o = scenes_from nothing_before object_before o
 
 -- the scenes of all objects, one object after the other
 unfoldable pub all_scenes : List Scene → List (List Block) → List Scene
-all_scenes objectBefore [] = []
-all_scenes objectBefore (o ∷ os) =
-    let mine = scenes_of objectBefore o in
+all_scenes object_before [] = []
+all_scenes object_before (o ∷ os) =
+    let mine = scenes_of object_before o in
     mine ++ all_scenes mine os

@@ -196,9 +196,9 @@ too_early Trim st = false
 too_early Extended st = not st.object
 
 -- what a part of the state and the bytes hold of the object element and of the extended one, read or not, which stand in the same records
-pub record RecordsHeld (objects : ℕ) (object : Option ObjectElement) (extended : Option Extension) (t : List ℕ) (tm : Timing) (objectRead extendedRead : Bool) (out : List ℕ) : Type 0 where
-  pub object-told : objectRead ≡ there object
-  pub extended-told : extendedRead ≡ there extended
+pub record RecordsHeld (objects : ℕ) (object : Option ObjectElement) (extended : Option Extension) (t : List ℕ) (tm : Timing) (object_read extended_read : Bool) (out : List ℕ) : Type 0 where
+  pub object-told : object_read ≡ there object
+  pub extended-told : extended_read ≡ there extended
   pub ordered : object ≡ none → extended ≡ none
   pub timed : tm ≡ timing object
   pub many : length (scenes object) ≡ objects * tm.blocks

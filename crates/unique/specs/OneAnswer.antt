@@ -1,5 +1,5 @@
 -- What it is for a contract to admit one answer. It is said of the contract itself, as the checker makes it of the source, and not of a copy: of a function
--- `crate::f` the module `Rattle.crate.proofs.f` has the contract's types (`ended`), its clauses (`clauses`) and the contract that these make (`spec`), of which
+-- `crate::f` the module `Rattle.crate.specs.contracts.f` has the contract's types (`ended`), its clauses (`clauses`) and the contract that these make (`spec`), of which
 -- the function's theorem says that the function meets it.
 use Rattle.std.specs.Prelude.{◌≡◌}
 use Rattle.std.proofs.Common.{sym, ◌∙◌, subst}
