@@ -119,7 +119,7 @@ pub fn read_batch(
         trims.len(),
         answers.len(),
     ) {
-        return batched(bits::number(Refusal::Lists), n as u64);
+        return batched(Refusal::Lists.number(), n as u64);
     }
     read_entries(
         store, starts, lengths, frames, recordslot, trimslot, records, trims, answers,

@@ -17,7 +17,7 @@ fn refused(refusal: Refusal, place: u64) -> BackAnswer
         place,
         frames: 0,
         bytes: 0,
-        refusal: bits::number(refusal),
+        refusal: refusal.number(),
     }
 }
 

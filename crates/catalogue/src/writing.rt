@@ -19,7 +19,7 @@ fn refused(refusal: Refusal, place: u64) -> CatalogueAnswer
     CatalogueAnswer {
         place,
         length: 0,
-        refusal: bits::number(refusal),
+        refusal: refusal.number(),
     }
 }
 

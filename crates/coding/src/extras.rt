@@ -4,7 +4,6 @@ ghost use Rattle.coding.specs.Packing.{PacksIn, Room, Behind, axes_bits};
 
 use crate::Packed;
 use crate::packing::{nothing, pack_both, pack_if};
-use bits::as_flag;
 use oamd::{Divergence, Precise};
 
 pub fn divergence(sent: bool, d: Divergence) -> Packed
@@ -32,7 +31,7 @@ fn axes(p: Packed, precise: Precise) -> Packed
 pub fn precise(sent: bool, d: Precise) -> Packed
     ensures { PacksIn 0 10 result (precise_bits sent d) }
 {
-    let some = as_flag(0 < d.presence);
+    let some = u8::from(0 < d.presence);
     let p = nothing();
     let p = pack_if(sent, p, 1, some as u64);
     let p = pack_if(0 < d.presence, p, 3, d.presence as u64);

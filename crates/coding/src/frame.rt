@@ -6,7 +6,6 @@ ghost use Rattle.coding.specs.Packing.{PacksIn, Room, Behind};
 
 use crate::Packed;
 use crate::packing::{kept_if, nothing, pack};
-use bits::minus;
 
 fn group(p: Packed, digit: u32, more: u32) -> Packed
     requires { Room 5 p }
@@ -29,9 +28,9 @@ fn groups(p: Packed, v: u32) -> Packed
     requires { Room 20 p }
     ensures { Behind 5 20 p result (size_bits v) }
 {
-    let a = minus(v / 16, 1);
-    let b = minus(a / 16, 1);
-    let c = minus(b / 16, 1);
+    let a = (v / 16).saturating_sub(1);
+    let b = (a / 16).saturating_sub(1);
+    let c = (b / 16).saturating_sub(1);
     let p = group_if(4368 <= v, p, c);
     let p = group_if(272 <= v, p, b % 16);
     let p = group_if(16 <= v, p, a % 16);

@@ -6,7 +6,7 @@ ghost use Rattle.coding.specs.Packing.{PacksIn, Room, Behind, content_bits, bed_
 
 use crate::Packed;
 use crate::packing::{kept_if, nothing, pack, pack_both, pack_if};
-use bits::{choice, less};
+use bits::pick;
 use oamd::{Bed, Programme};
 
 // A count in 5 bits, and what it has above 31 in 7 more.
@@ -14,8 +14,8 @@ fn count(p: Packed, n: u8) -> Packed
     requires { Room 12 p }
     ensures { Behind 5 12 p result (count_bits n) }
 {
-    let low = choice(n < 31, n, 31);
-    let more = less(n, 31);
+    let low = pick(n < 31, n, 31);
+    let more = n.saturating_sub(31);
     let p = pack(p, 5, low as u64);
     pack_if(!(n < 31), p, 7, more as u64)
 }
@@ -53,7 +53,7 @@ fn bed_fields(p: Packed, programme: Programme) -> Packed
 pub fn head(programme: Programme) -> Packed
     ensures { PacksIn 1 25 result (head_bits programme) }
 {
-    let more = less(programme.objects, 1);
+    let more = programme.objects.saturating_sub(1);
     let p = nothing();
     let p = pack(p, 2, 0);
     let p = count(p, more);

@@ -8,7 +8,7 @@ ghost use Rattle.coding.specs.Packing.{Room, Whole, Behind};
 use crate::Packed;
 use crate::choices::{z_bits, z_sign};
 use crate::packing::{kept_if, pack, pack_both, pack_whole};
-use bits::{choice, less};
+use bits::pick;
 use oamd::{Location, Scene, Screen, Volume, Zone};
 
 // 0 dB, as a record has it.
@@ -38,10 +38,10 @@ fn gain(p: Packed, v: u8) -> Packed
     requires { Room 8 p }
     ensures { Behind 2 8 p result (gain_bits (coded_gain v)) }
 {
-    let most = choice(ZERO_DB < v, ZERO_DB + 15, ZERO_DB + 14);
-    let below = less(most, v);
-    let width = choice(v == 0, 2, 8);
-    let value = choice(v == 0, 1, 128 + below % 64);
+    let most = pick(ZERO_DB < v, ZERO_DB + 15, ZERO_DB + 14);
+    let below = most.saturating_sub(v);
+    let width = pick(v == 0, 2, 8);
+    let value = pick(v == 0, 1, 128 + below % 64);
     either(v == ZERO_DB, p, 2, 0, width as u32, value as u64)
 }
 
@@ -80,9 +80,9 @@ pub fn distance(p: Packed, v: u8) -> Packed
     requires { Room 6 p }
     ensures { Behind 1 6 p result (distance_bits (coded_distance v)) }
 {
-    let index = less(v, 2);
-    let width = choice(v == 1, 2, 6);
-    let value = choice(v == 1, 3, 32 + index % 16);
+    let index = v.saturating_sub(2);
+    let width = pick(v == 1, 2, 6);
+    let value = pick(v == 1, 3, 32 + index % 16);
     either(0 < v, p, width as u32, value as u64, 1, 0)
 }
 
@@ -100,8 +100,8 @@ pub fn extent(p: Packed, v: Volume) -> Packed
     ensures { Behind 2 22 p result (extent_bits (coded_extent v)) }
 {
     let even = bits::both(v.width == v.depth, v.width == v.height);
-    let width = choice(v.width == 0, 2, 7);
-    let value = choice(v.width == 0, 0, 32 + v.width % 32);
+    let width = pick(v.width == 0, 2, 7);
+    let value = pick(v.width == 0, 0, 32 + v.width % 32);
     let two = (64 + v.width as u64 % 32) * 32 + v.depth as u64 % 32;
     let three = two * 32 + v.height as u64 % 32;
     either(even, p, width as u32, value as u64, 17, three)

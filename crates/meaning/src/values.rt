@@ -2,7 +2,7 @@
 ghost use Rattle.std.specs.Prelude.{◌≡◌};
 ghost use Rattle.oamd.specs.Meaning.{gain_of, priority_of, moved_by, across, upright, height_of, distance_of, location_of, volume_of};
 
-use bits::{choice, less};
+use bits::pick;
 use oamd::{Distance, Extent, Gain, Location, Position, Priority, Volume};
 
 // 0 dB, as a record has it.
@@ -17,9 +17,9 @@ pub fn gain_of(g: Gain, gainbefore: u8) -> u8
 {
     let index = g.index;
     let bits = g.bits;
-    let fine = less(choice(bits < 15, ZERO_DB + 15, ZERO_DB + 14), bits);
-    let sent = choice(index == 2, fine, gainbefore);
-    choice(index == 0, ZERO_DB, choice(index == 1, 0, sent))
+    let fine = pick(bits < 15, ZERO_DB + 15, ZERO_DB + 14).saturating_sub(bits);
+    let sent = pick(index == 2, fine, gainbefore);
+    pick(index == 0, ZERO_DB, pick(index == 1, 0, sent))
 }
 
 // The priority in 32nds.
@@ -105,11 +105,11 @@ pub fn location_of(p: Position, distance: u8, locationbefore: Location) -> Locat
 pub fn volume_of(e: Extent) -> Volume
     ensures { result ≡ volume_of e }
 {
-    let all = choice(e.index == 1, e.all, 0);
+    let all = pick(e.index == 1, e.all, 0);
     let each = e.index == 2;
     Volume {
-        width: choice(each, e.width, all),
-        depth: choice(each, e.depth, all),
-        height: choice(each, e.height, all),
+        width: pick(each, e.width, all),
+        depth: pick(each, e.depth, all),
+        height: pick(each, e.height, all),
     }
 }

@@ -11,7 +11,7 @@ use oamd::{Bed, MOST_BEDS, Programme, ReadAnswer, Timing};
 pub fn missing_bits(refusal: u8, missing: u64) -> u32
     ensures { result ≡ missing_of refusal missing }
 {
-    if refusal != bits::number(Refusal::EndsEarly) {
+    if refusal != Refusal::EndsEarly.number() {
         return 0;
     }
     if 4294967295 < missing {
@@ -57,7 +57,7 @@ pub fn refused(refusal: u8, place: u64, missing: u32) -> ReadAnswer
 pub fn refused_with(refusal: Refusal, place: u64) -> ReadAnswer
     ensures { result ≡ refused_with (number_of refusal) place 0 }
 {
-    refused(bits::number(refusal), place, 0)
+    refused(refusal.number(), place, 0)
 }
 
 // Refusal 9, with the bytes that are needed: both lent buffers stay as they came.

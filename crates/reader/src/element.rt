@@ -47,12 +47,12 @@ fn read_fields(
     kind: Kind,
     out: &mut [u8],
     table: &mut [u8; MOST_TRIM],
-) -> StateStep
+) -> Step<State>
     requires { Underway 1 scope st (lent out.old table.old) }
     ensures { FieldsRead kind scope st (bit s.now) c l (lent out.old table.old) result (lent out.new table.new) }
 {
     match kind {
-        Kind::Unknown => StateStep { state: st, cur: c },
+        Kind::Unknown => Step { value: st, cur: c },
         Kind::Object => {
             let step = read_object_element(s, l, c, scope, out);
             let timing = step.timing;
@@ -60,20 +60,20 @@ fn read_fields(
             let mut state = st;
             state.timing = timing;
             state.object = true;
-            StateStep { state, cur }
+            Step { value: state, cur }
         }
         Kind::Trim => {
             let cur = read_trim(s, l, c, scope.objects, table);
             let mut state = st;
             state.trim = true;
-            StateStep { state, cur }
+            Step { value: state, cur }
         }
         Kind::Extended => {
             let timing = st.timing;
             let cur = read_extended(s, l, c, scope.objects * timing.blocks as usize, out);
             let mut state = st;
             state.extended = true;
-            StateStep { state, cur }
+            Step { value: state, cur }
         }
     }
 }
@@ -91,15 +91,15 @@ fn read_known(
     back: u32,
     out: &mut [u8],
     table: &mut [u8; MOST_TRIM],
-) -> StateStep
+) -> Step<State>
     requires { Underway 1 scope st (lent out.old table.old) }
     ensures { KnownRead kind back scope st (bit s.now) c l (lent out.old table.old) result (lent out.new table.new) }
 {
     let first = bits::refuse_if(is_second(kind, st), s, l, c, Refusal::Second, back);
     let timely = bits::refuse_if(is_early(kind, st), s, l, first, Refusal::Early, back);
     if timely.no != 0 {
-        return StateStep {
-            state: st,
+        return Step {
+            value: st,
             cur: timely,
         };
     }
@@ -117,14 +117,14 @@ fn read_body(
     back: u32,
     out: &mut [u8],
     table: &mut [u8; MOST_TRIM],
-) -> StateStep
+) -> Step<State>
     requires { Underway 1 scope st (lent out.old table.old) }
     ensures { BodyRead kind back scope st (bit s.now) c l (lent out.old table.old) result (lent out.new table.new) }
 {
     if let Kind::Unknown = kind {
         let mut state = st;
         state.unknown = st.unknown + 1;
-        return StateStep { state, cur: c };
+        return Step { value: state, cur: c };
     }
     read_known(s, l, c, scope, st, kind, back, out, table)
 }
@@ -145,7 +145,7 @@ pub fn read_element(
     st: State,
     out: &mut [u8],
     table: &mut [u8; MOST_TRIM],
-) -> StateStep
+) -> Step<State>
     requires { Underway 1 scope st (lent out.old table.old) }
     ensures { OneRead scope st (bit s.now) c l (lent out.old table.old) result (lent out.new table.new) }
 {
@@ -164,8 +164,8 @@ pub fn read_element(
     let body = read_body(s, held, discard, scope, st, kind, back, out, table);
     let state = body.state;
     let inside = body.cur;
-    StateStep {
-        state,
+    Step {
+        value: state,
         cur: bits::close(inside, held),
     }
 }
@@ -194,7 +194,7 @@ pub fn read_elements(
     n: u32,
     out: &mut [u8],
     table: &mut [u8; MOST_TRIM],
-) -> StateStep
+) -> Step<State>
     requires { Underway n scope st (lent out.old table.old) }
     ensures { ElementsRead n scope st (bit s.now) c l (lent out.old table.old) result (lent out.new table.new) }
 {
@@ -203,12 +203,12 @@ pub fn read_elements(
     let mut i: u32 = 0;
     while i < n {
         if cur.no != 0 {
-            return StateStep { state, cur };
+            return Step { value: state, cur };
         }
         let step = read_element(s, l, cur, scope, state, out, table);
         state = step.state;
         cur = step.cur;
         i = i + 1;
     }
-    StateStep { state, cur }
+    Step { value: state, cur }
 }

@@ -26,12 +26,6 @@ pub use payload::{limit_of, read_head};
 pub use sifting::sift;
 pub use timing::read_timing;
 
-#[derive(Clone, Copy)]
-pub struct TimingStep {
-    pub timing: Timing,
-    pub cur: Cur,
-}
-
 // What the elements are read by: the object count, the objects of each class, and whether alternate ids are sent.
 #[derive(Clone, Copy)]
 pub struct Scope {
@@ -48,12 +42,6 @@ pub struct State {
     pub trim: bool,
     pub extended: bool,
     pub unknown: u8,
-}
-
-#[derive(Clone, Copy)]
-pub struct StateStep {
-    pub state: State,
-    pub cur: Cur,
 }
 
 #[derive(Clone, Copy)]

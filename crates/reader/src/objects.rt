@@ -63,7 +63,7 @@ fn read_objects(s: &[u8], l: Limit, c: Cur, scope: Scope, blocks: usize, out: &m
 }
 
 // The object element: the records stand at the front of out, unless it is refused.
-pub fn read_object_element(s: &[u8], l: Limit, c: Cur, scope: Scope, out: &mut [u8]) -> TimingStep
+pub fn read_object_element(s: &[u8], l: Limit, c: Cur, scope: Scope, out: &mut [u8]) -> Step<Timing>
     requires { ElementRoom scope.objects out.old }
     ensures { ElementRead scope.objects scope.shares (bit s.now) c l out.old result out.new }
 {
@@ -72,5 +72,5 @@ pub fn read_object_element(s: &[u8], l: Limit, c: Cur, scope: Scope, out: &mut [
     let absent = bits::take(s, l, step.cur, 1);
     let reserved = bits::take_if(absent.v == 0, s, l, absent, 5);
     let cur = read_objects(s, l, reserved, scope, timing.blocks as usize, out);
-    TimingStep { timing, cur }
+    Step { value: timing, cur }
 }

@@ -67,7 +67,7 @@ fn drop_element(s: &[u8], l: Limit, c: Cur, d: Cur, alternate: u32, state: State
     requires { Refused l c d }
     ensures { Dropped alternate state (bit s.now) c l d result }
 {
-    if d.no == bits::number(Refusal::EndsEarly) {
+    if d.no == Refusal::EndsEarly.number() {
         let gone = no_gone();
         return Turn {
             state,
@@ -176,7 +176,7 @@ pub fn sift(payload: &[u8]) -> Sifted
 {
     let len = payload.len();
     if MOST_BYTES < len {
-        return refused(bits::number(Refusal::TooLong), len as u64, 0);
+        return refused(Refusal::TooLong.number(), len as u64, 0);
     }
     let head = read_head(payload);
     let l = limit_of(payload);

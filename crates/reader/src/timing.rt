@@ -5,7 +5,7 @@ ghost use Rattle.reader.specs.Steps.{TimingRead};
 use crate::TimingStep;
 use bits::{Cur, Limit};
 
-pub fn read_timing(s: &[u8], l: Limit, c: Cur) -> TimingStep
+pub fn read_timing(s: &[u8], l: Limit, c: Cur) -> Step<Timing>
     ensures { TimingRead (bit s.now) c l result }
 {
     let start = syntax::read_offset(s, l, c);
@@ -24,5 +24,5 @@ pub fn read_timing(s: &[u8], l: Limit, c: Cur) -> TimingStep
         i = i + 1;
     }
     timing.blocks = n as u8;
-    TimingStep { timing, cur }
+    Step { value: timing, cur }
 }

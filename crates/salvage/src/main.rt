@@ -45,7 +45,7 @@ fn show_drops<P: Print>(out: &P, a: SalvageAnswer) -> io::Result<()> {
 fn show<P: Print>(out: &P, a: SalvageAnswer) -> io::Result<()> {
     printing::line(out, &keys::REFUSAL, a.refusal as u64)?;
     printing::line(out, &keys::PLACE, a.place)?;
-    if a.refusal == bits::number(Refusal::EndsEarly) {
+    if a.refusal == Refusal::EndsEarly.number() {
         printing::line(out, &keys::MISSING, a.missing as u64)?;
     }
     if a.refusal == 0 {

@@ -48,7 +48,7 @@ fn finish(payload: &[u8], found: Sifted, out: &mut [u8]) -> SalvageAnswer
     let length = whole.bytes();
     let bytes = length.raw();
     if out.len() < bytes as usize {
-        return answer::refused(bits::number(Refusal::NoFit), bytes as u64, 0);
+        return answer::refused(Refusal::NoFit.number(), bytes as u64, 0);
     }
     let n = bytes as usize;
     left::fill(&mut out[..n], payload, found);

@@ -75,14 +75,14 @@ fn read_fields(
     blk: u32,
     before: Scene,
     gainbefore: u8,
-) -> SceneStep
+) -> Step<Scene>
     ensures { Gave (resolved_block class blk before gainbefore) (bit s.now) c l result.scene result.cur }
 {
     let step = syntax::read_block(s, l, c, class, blk);
     let block = step.block;
     let cur = step.cur;
-    SceneStep {
-        scene: meaning::resolved(before, gainbefore, block),
+    Step {
+        value: meaning::resolved(before, gainbefore, block),
         cur,
     }
 }
@@ -96,7 +96,7 @@ pub fn read_scene(
     blk: u32,
     blockbefore: Scene,
     gainbefore: u8,
-) -> SceneStep
+) -> Step<Scene>
     ensures { Gave (resolved_block class blk blockbefore gainbefore) (bit s.now) c l result.scene result.cur }
 {
     let at = c.at;
@@ -106,8 +106,8 @@ pub fn read_scene(
             if look.to <= l.end.raw() {
                 if look.good {
                     let scene = look.scene;
-                    return SceneStep {
-                        scene,
+                    return Step {
+                        value: scene,
                         cur: Cur {
                             missing: c.missing,
                             v: 0,

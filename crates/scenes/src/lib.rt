@@ -13,12 +13,6 @@ mod block; // block.rt: the whole block
 pub use block::read_scene;
 
 // The scene of a block, and where reading stands behind it.
-#[derive(Clone, Copy)]
-pub struct SceneStep {
-    pub scene: Scene,
-    pub cur: Cur,
-}
-
 // What object_basic_info gives of a scene.
 #[derive(Clone, Copy)]
 pub struct Levels {
@@ -27,12 +21,6 @@ pub struct Levels {
 }
 
 // Each look: what was found in the windows, and where in the window, or at which position, the next field begins; good, unless a reserved code was met.
-#[derive(Clone, Copy)]
-pub struct LevelsLook {
-    pub levels: Levels,
-    pub off: u32,
-}
-
 #[derive(Clone, Copy)]
 pub struct ShownLook {
     pub shown: Shown,

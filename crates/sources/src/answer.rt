@@ -11,7 +11,7 @@ ghost use Rattle.sources.specs.Asked.{payload_in, Asked, Recorded, link_of, step
 use crate::finding::{field_number, source_number};
 use crate::telling::{index_of, named_by, told_at};
 use crate::{Link, MOST_STEPS, Named, Told, WhyAnswer, WhyStep};
-use bits::{Refusal, minus};
+use bits::Refusal;
 use oamd::RECORD_STRIDE;
 
 // The sources behind which a chain goes on, by their numbers.
@@ -53,7 +53,7 @@ pub fn refused(refusal: u8, place: u64, missing: u32) -> WhyAnswer
 pub fn no_such(place: u64) -> WhyAnswer
     ensures { result ≡ unexplained (number_of NoSuch) place 0 }
 {
-    refused(bits::number(Refusal::NoSuch), place, 0)
+    refused(Refusal::NoSuch.number(), place, 0)
 }
 
 // Where a chain goes on behind a step whose source has a number, with so many steps left.
@@ -63,13 +63,13 @@ fn link_of(number: u8, object: u32, block: u32, left: u32) -> Link
     if number == BLOCK_BEFORE {
         return Link {
             object,
-            block: minus(block, 1),
+            block: block.saturating_sub(1),
             left,
         };
     }
     if number == OBJECT_BEFORE {
         return Link {
-            object: minus(object, 1),
+            object: object.saturating_sub(1),
             block,
             left,
         };

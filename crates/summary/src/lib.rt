@@ -46,7 +46,7 @@ fn refused(refusal: Refusal, place: u64) -> Summary
 {
     Summary {
         place,
-        refusal: bits::number(refusal),
+        refusal: refusal.number(),
         records: 0,
         gains: [0; GAINS],
         zones: [0; ZONES],

@@ -38,7 +38,7 @@ pub fn look_additional(s: &[u8], at: u32) -> u32
 }
 
 // Block blk of an object of a class, field by field, each held to the end.
-pub fn read_block(s: &[u8], l: Limit, c: Cur, class: u8, blk: u32) -> BlockStep
+pub fn read_block(s: &[u8], l: Limit, c: Cur, class: u8, blk: u32) -> Step<Block>
     ensures { Gave (object_info_block class blk) (bit s.now) c l result.block result.cur }
 {
     let first = blk == 0;
@@ -53,8 +53,8 @@ pub fn read_block(s: &[u8], l: Limit, c: Cur, class: u8, blk: u32) -> BlockStep
     let n = read_render(s, l, shown.cur, render_status, first);
     let render = n.render;
     let cur = pass_additional(s, l, n.cur);
-    BlockStep {
-        block: Block {
+    Step {
+        value: Block {
             class,
             active: (1 - idle.v) as u8,
             basic,

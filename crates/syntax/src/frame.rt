@@ -9,7 +9,7 @@ use oamd::Frame;
 use units::ByteCount;
 
 // What an element is known as, and its size; the cursor comes to its declared end.
-pub fn read_frame(s: &[u8], l: Limit, c: Cur, alternate: u32) -> FrameStep
+pub fn read_frame(s: &[u8], l: Limit, c: Cur, alternate: u32) -> Step<Frame>
     ensures { Gave (frame alternate) (bit s.now) c l result.frame result.cur }
 {
     let id = bits::take(s, l, c, 4);
@@ -24,8 +24,8 @@ pub fn read_frame(s: &[u8], l: Limit, c: Cur, alternate: u32) -> FrameStep
     let kind = oamd::kind_of(id.v, other.v);
     let passed = bits::close(discard, held);
     let cur = bits::with_value(passed, 0);
-    FrameStep {
-        frame: Frame { kind, size },
+    Step {
+        value: Frame { kind, size },
         cur,
     }
 }

@@ -10,26 +10,26 @@ use crate::{GainLook, PairLook, PriorityLook, StatusLook};
 use oamd::{Gain, Priority, Status};
 
 // Default where nothing can be sent, full in the first block, else 2 bits.
-pub fn look_status(x: u64, o: u32, none: bool, first: bool) -> StatusLook
+pub fn look_status(x: u64, o: u32, none: bool, first: bool) -> Sighted<Status>
     requires { o ≤ 62 }
     ensures { Seen (status_idx none first) 2 x o result.status result.off }
 {
     if none {
-        return StatusLook {
-            status: Status::Default,
+        return Sighted {
+            value: Status::Default,
             off: o,
         };
     }
     if first {
-        return StatusLook {
-            status: Status::Full,
+        return Sighted {
+            value: Status::Full,
             off: o,
         };
     }
     let code = bits::look(x, o, 2);
     let status = status_of(code.v);
-    StatusLook {
-        status,
+    Sighted {
+        value: status,
         off: code.off,
     }
 }
@@ -53,17 +53,17 @@ fn look_pair(x: u64, o: u32, w: u32, k: u32, which: u32) -> PairLook
     PairLook {
         code: code as u8,
         more: only(sent, q.v % (1 << k)),
-        off: bits::chosen(sent, q.off, o + w),
+        off: bits::pick(sent, q.off, o + w),
     }
 }
 
-pub fn look_gain(x: u64, o: u32) -> GainLook
+pub fn look_gain(x: u64, o: u32) -> Sighted<Gain>
     requires { o ≤ 56 }
     ensures { Pair (bits 2) (λ i. bits_if (eqb i 2) 6) 8 x o result.gain.index result.gain.bits result.off }
 {
     let p = look_pair(x, o, 2, 6, 2);
-    GainLook {
-        gain: Gain {
+    Sighted {
+        value: Gain {
             index: p.code,
             bits: p.more,
         },
@@ -71,13 +71,13 @@ pub fn look_gain(x: u64, o: u32) -> GainLook
     }
 }
 
-pub fn look_priority(x: u64, o: u32) -> PriorityLook
+pub fn look_priority(x: u64, o: u32) -> Sighted<Priority>
     requires { o ≤ 58 }
     ensures { Pair (bits 1) (λ d. bits_if (clear? d) 5) 6 x o result.priority.bydefault result.priority.bits result.off }
 {
     let p = look_pair(x, o, 1, 5, 0);
-    PriorityLook {
-        priority: Priority {
+    Sighted {
+        value: Priority {
             bydefault: p.code,
             bits: p.more,
         },

@@ -20,24 +20,24 @@ pub fn status_of(code: u32) -> Status
 }
 
 // Default where nothing can be sent, full in the first block, else 2 bits.
-pub fn read_status(s: &[u8], l: Limit, c: Cur, none: bool, first: bool) -> StatusStep
+pub fn read_status(s: &[u8], l: Limit, c: Cur, none: bool, first: bool) -> Step<Status>
     ensures { Reads (status_idx none first) (bit s.now) c l result.status result.cur }
 {
     if none {
-        return StatusStep {
-            status: Status::Default,
+        return Step {
+            value: Status::Default,
             cur: c,
         };
     }
     if first {
-        return StatusStep {
-            status: Status::Full,
+        return Step {
+            value: Status::Full,
             cur: c,
         };
     }
     let code = bits::take(s, l, c, 2);
     let status = status_of(code.v);
-    StatusStep { status, cur: code }
+    Step { value: status, cur: code }
 }
 
 // Which parts of a group are sent: all of them, as w bits say, or none.
@@ -53,7 +53,7 @@ pub fn read_parts(s: &[u8], l: Limit, c: Cur, status: Status, all: u32, w: u32) 
     }
 }
 
-pub fn read_basic(s: &[u8], l: Limit, c: Cur, status: Status) -> BasicStep
+pub fn read_basic(s: &[u8], l: Limit, c: Cur, status: Status) -> Step<Basic>
     ensures { Reads (object_basic_info status) (bit s.now) c l result.basic result.cur }
 {
     let parts = read_parts(s, l, c, status, 3, 2);
@@ -62,8 +62,8 @@ pub fn read_basic(s: &[u8], l: Limit, c: Cur, status: Status) -> BasicStep
     let ranked = oamd::has_priority(parts.v);
     let bydefault = bits::take_if(ranked, s, l, level, 1);
     let rank = bits::take_if(bits::both(ranked, bydefault.v == 0), s, l, bydefault, 5);
-    BasicStep {
-        basic: Basic {
+    Step {
+        value: Basic {
             status,
             parts: parts.v as u8,
             gain: Gain {

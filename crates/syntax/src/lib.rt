@@ -32,12 +32,6 @@ pub use view::{look_distance, look_extent, look_position, look_screen, look_zone
 
 // Each step: what was read, and where reading stands behind it.
 #[derive(Clone, Copy)]
-pub struct BedStep {
-    pub bed: Bed,
-    pub cur: Cur,
-}
-
-#[derive(Clone, Copy)]
 pub struct BedsStep {
     pub distribute: u8,
     pub multiple: u8,
@@ -47,113 +41,11 @@ pub struct BedsStep {
     pub cur: Cur,
 }
 
-#[derive(Clone, Copy)]
-pub struct ProgrammeStep {
-    pub programme: Programme,
-    pub cur: Cur,
-}
-
-#[derive(Clone, Copy)]
-pub struct OffsetStep {
-    pub offset: Offset,
-    pub cur: Cur,
-}
-
-#[derive(Clone, Copy)]
-pub struct UpdateStep {
-    pub update: BlockUpdate,
-    pub cur: Cur,
-}
-
-#[derive(Clone, Copy)]
-pub struct StatusStep {
-    pub status: Status,
-    pub cur: Cur,
-}
-
-#[derive(Clone, Copy)]
-pub struct BasicStep {
-    pub basic: Basic,
-    pub cur: Cur,
-}
-
-#[derive(Clone, Copy)]
-pub struct PositionStep {
-    pub position: Position,
-    pub cur: Cur,
-}
-
-#[derive(Clone, Copy)]
-pub struct DistanceStep {
-    pub distance: Distance,
-    pub cur: Cur,
-}
-
-#[derive(Clone, Copy)]
-pub struct ZoneStep {
-    pub zone: Zone,
-    pub cur: Cur,
-}
-
-#[derive(Clone, Copy)]
-pub struct ExtentStep {
-    pub extent: Extent,
-    pub cur: Cur,
-}
-
-#[derive(Clone, Copy)]
-pub struct ScreenStep {
-    pub screen: Screen,
-    pub cur: Cur,
-}
-
-#[derive(Clone, Copy)]
-pub struct RenderStep {
-    pub render: Render,
-    pub cur: Cur,
-}
-
-#[derive(Clone, Copy)]
-pub struct BlockStep {
-    pub block: Block,
-    pub cur: Cur,
-}
-
 // Each look: what was seen in a window, and where in it the next field begins; good, unless a reserved code was met.
-#[derive(Clone, Copy)]
-pub struct StatusLook {
-    pub status: Status,
-    pub off: u32,
-}
-
 #[derive(Clone, Copy)]
 pub struct PairLook {
     pub code: u8,
     pub more: u8,
-    pub off: u32,
-}
-
-#[derive(Clone, Copy)]
-pub struct GainLook {
-    pub gain: Gain,
-    pub off: u32,
-}
-
-#[derive(Clone, Copy)]
-pub struct PriorityLook {
-    pub priority: Priority,
-    pub off: u32,
-}
-
-#[derive(Clone, Copy)]
-pub struct PositionLook {
-    pub position: Position,
-    pub off: u32,
-}
-
-#[derive(Clone, Copy)]
-pub struct DistanceLook {
-    pub distance: Distance,
     pub off: u32,
 }
 
@@ -172,38 +64,9 @@ pub struct ExtentLook {
 }
 
 #[derive(Clone, Copy)]
-pub struct ScreenLook {
-    pub screen: Screen,
-    pub off: u32,
-}
-
-#[derive(Clone, Copy)]
-pub struct DivergenceStep {
-    pub divergence: Divergence,
-    pub cur: Cur,
-}
-
-#[derive(Clone, Copy)]
-pub struct PreciseStep {
-    pub precise: Precise,
-    pub cur: Cur,
-}
-
-#[derive(Clone, Copy)]
 pub struct BalanceStep {
     pub sign: u8,
     pub amount: u8,
     pub cur: Cur,
 }
 
-#[derive(Clone, Copy)]
-pub struct TrimConfigStep {
-    pub config: TrimConfig,
-    pub cur: Cur,
-}
-
-#[derive(Clone, Copy)]
-pub struct FrameStep {
-    pub frame: Frame,
-    pub cur: Cur,
-}

@@ -11,15 +11,15 @@ use bits::{Cur, Limit};
 use oamd::{Bed, MOST_BEDS, Programme};
 use units::ByteCount;
 
-fn read_bed(s: &[u8], l: Limit, c: Cur) -> BedStep
+fn read_bed(s: &[u8], l: Limit, c: Cur) -> Step<Bed>
     ensures { Reads bed_assignment (bit s.now) c l result.bed result.cur }
 {
     let lfe = bits::take(s, l, c, 1);
     let standard = bits::take_if(lfe.v == 0, s, l, lfe, 1);
     let usual = bits::take_if(standard.v == 1, s, l, standard, 10);
     let other = bits::take_if(bits::both(lfe.v == 0, standard.v == 0), s, l, usual, 17);
-    BedStep {
-        bed: Bed {
+    Step {
+        value: Bed {
             assignment: usual.v + other.v,
             lfeonly: lfe.v as u8,
             standard: standard.v as u8,
@@ -101,7 +101,7 @@ fn pass_reserved(s: &[u8], l: Limit, c: Cur, content: u32) -> Cur
     bits::skip_if(has, s, l, size, ByteCount::new(size.v + 1))
 }
 
-pub fn read_assignment(s: &[u8], l: Limit, c: Cur, objects: u8) -> ProgrammeStep
+pub fn read_assignment(s: &[u8], l: Limit, c: Cur, objects: u8) -> Step<Programme>
     ensures { (result.programme.objects ≡ objects) × Gave (program_assignment objects) (bit s.now) c l result.programme result.cur }
 {
     let dynonly = bits::take(s, l, c, 1);
@@ -113,8 +113,8 @@ pub fn read_assignment(s: &[u8], l: Limit, c: Cur, objects: u8) -> ProgrammeStep
     let isf = read_isf(s, l, behind, content.v);
     let dynamics = read_dynamics(s, l, isf, content.v);
     let cur = pass_reserved(s, l, dynamics, content.v);
-    ProgrammeStep {
-        programme: Programme {
+    Step {
+        value: Programme {
             objects,
             dynonly: dynonly.v as u8,
             lfe: lfe.v as u8,

@@ -7,14 +7,14 @@ use crate::{OffsetStep, UpdateStep};
 use bits::{Cur, Limit};
 use oamd::{BlockUpdate, Offset};
 
-pub fn read_offset(s: &[u8], l: Limit, c: Cur) -> OffsetStep
+pub fn read_offset(s: &[u8], l: Limit, c: Cur) -> Step<Offset>
     ensures { Gave sample_offset (bit s.now) c l result.offset result.cur }
 {
     let code = bits::take_unless(true, s, l, c, 2, 3, 3);
     let index = bits::take_if(code.v == 1, s, l, code, 2);
     let more = bits::take_if(code.v == 2, s, l, index, 5);
-    OffsetStep {
-        offset: Offset {
+    Step {
+        value: Offset {
             code: code.v as u8,
             index: index.v as u8,
             bits: more.v as u8,
@@ -23,7 +23,7 @@ pub fn read_offset(s: &[u8], l: Limit, c: Cur) -> OffsetStep
     }
 }
 
-pub fn read_update(s: &[u8], l: Limit, c: Cur) -> UpdateStep
+pub fn read_update(s: &[u8], l: Limit, c: Cur) -> Step<BlockUpdate>
     ensures { Gave block_update_info (bit s.now) c l result.update result.cur }
 {
     let factor = bits::take(s, l, c, 6);
@@ -31,8 +31,8 @@ pub fn read_update(s: &[u8], l: Limit, c: Cur) -> UpdateStep
     let indexed = bits::take_if(code.v == 3, s, l, code, 1);
     let index = bits::take_if(indexed.v == 1, s, l, indexed, 4);
     let ramp = bits::take_if(bits::both(code.v == 3, indexed.v == 0), s, l, index, 11);
-    UpdateStep {
-        update: BlockUpdate {
+    Step {
+        value: BlockUpdate {
             bits: ramp.v as u16,
             factor: factor.v as u8,
             code: code.v as u8,

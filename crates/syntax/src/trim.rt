@@ -21,7 +21,7 @@ fn read_balance(s: &[u8], l: Limit, c: Cur, on: bool) -> BalanceStep
     }
 }
 
-pub fn read_trim_config(s: &[u8], l: Limit, c: Cur) -> TrimConfigStep
+pub fn read_trim_config(s: &[u8], l: Limit, c: Cur) -> Step<TrimConfig>
     ensures { Gave trim_config (bit s.now) c l result.config result.cur }
 {
     let bydefault = bits::take(s, l, c, 1);
@@ -33,8 +33,8 @@ pub fn read_trim_config(s: &[u8], l: Limit, c: Cur) -> TrimConfigStep
     let height = bits::take_unless(oamd::has_height(presence.v), s, l, surround, 4, 0, 3);
     let tb = read_balance(s, l, height, oamd::has_tb(presence.v));
     let lis = read_balance(s, l, tb.cur, oamd::has_lis(presence.v));
-    TrimConfigStep {
-        config: TrimConfig {
+    Step {
+        value: TrimConfig {
             bydefault: bydefault.v as u8,
             disabled: disabled.v as u8,
             presence: presence.v as u8,

@@ -7,24 +7,24 @@ use crate::glance::only;
 use crate::{DistanceLook, ExtentLook, PositionLook, ScreenLook, ZoneLook};
 use oamd::{Distance, Extent, Position, Screen, Zone};
 
-fn look_differences(x: u64, o: u32) -> PositionLook
+fn look_differences(x: u64, o: u32) -> Sighted<Position>
     requires { o ≤ 55 }
     ensures { Seen differences 9 x o result.position result.off }
 {
     let q = bits::look(x, o, 9);
-    PositionLook {
-        position: Position::Moved((q.v / 64 % 8) as u8, (q.v / 8 % 8) as u8, (q.v % 8) as u8),
+    Sighted {
+        value: Position::Moved((q.v / 64 % 8) as u8, (q.v / 8 % 8) as u8, (q.v % 8) as u8),
         off: q.off,
     }
 }
 
-fn look_coordinates(x: u64, o: u32) -> PositionLook
+fn look_coordinates(x: u64, o: u32) -> Sighted<Position>
     requires { o ≤ 47 }
     ensures { Seen coordinates 17 x o result.position result.off }
 {
     let q = bits::look(x, o, 17);
-    PositionLook {
-        position: Position::Absolute(
+    Sighted {
+        value: Position::Absolute(
             (q.v / 2048 % 64) as u8,
             (q.v / 32 % 64) as u8,
             (q.v / 16 % 2) as u8,
@@ -35,7 +35,7 @@ fn look_coordinates(x: u64, o: u32) -> PositionLook
 }
 
 // In the first block as coordinates, else as a flag says.
-pub fn look_position(x: u64, o: u32, first: bool) -> PositionLook
+pub fn look_position(x: u64, o: u32, first: bool) -> Sighted<Position>
     requires { o ≤ 46 }
     ensures { Seen (position true first) 18 x o result.position result.off }
 {
@@ -47,7 +47,7 @@ pub fn look_position(x: u64, o: u32, first: bool) -> PositionLook
     }
 }
 
-pub fn look_distance(x: u64, o: u32) -> DistanceLook
+pub fn look_distance(x: u64, o: u32) -> Sighted<Distance>
     requires { o ≤ 58 }
     ensures { Seen (distance true) 6 x o result.distance result.off }
 {
@@ -56,8 +56,8 @@ pub fn look_distance(x: u64, o: u32) -> DistanceLook
     let infinite = q.v / 16 % 2;
     if given == 1 {
         if infinite == 0 {
-            DistanceLook {
-                distance: Distance {
+            Sighted {
+                value: Distance {
                     given: given as u8,
                     infinite: infinite as u8,
                     index: (q.v % 16) as u8,
@@ -65,8 +65,8 @@ pub fn look_distance(x: u64, o: u32) -> DistanceLook
                 off: q.off,
             }
         } else {
-            DistanceLook {
-                distance: Distance {
+            Sighted {
+                value: Distance {
                     given: given as u8,
                     infinite: infinite as u8,
                     index: 0,
@@ -75,8 +75,8 @@ pub fn look_distance(x: u64, o: u32) -> DistanceLook
             }
         }
     } else {
-        DistanceLook {
-            distance: Distance {
+        Sighted {
+            value: Distance {
                 given: given as u8,
                 infinite: 0,
                 index: 0,
@@ -118,20 +118,20 @@ pub fn look_extent(x: u64, o: u32) -> ExtentLook
             depth: only(each, q.v / 32 % 32),
             height: only(each, q.v % 32),
         },
-        off: bits::chosen(each, q.off, bits::chosen(even, o + 7, o + 2)),
+        off: bits::pick(each, q.off, bits::pick(even, o + 7, o + 2)),
         good: index < 3,
     }
 }
 
-pub fn look_screen(x: u64, o: u32) -> ScreenLook
+pub fn look_screen(x: u64, o: u32) -> Sighted<Screen>
     requires { o ≤ 58 }
     ensures { Seen (screen true) 6 x o result.screen result.off }
 {
     let q = bits::look(x, o, 6);
     let used = q.v / 32 % 2;
     if used == 1 {
-        return ScreenLook {
-            screen: Screen {
+        return Sighted {
+            value: Screen {
                 used: used as u8,
                 factor: (q.v / 4 % 8) as u8,
                 depth: (q.v % 4) as u8,
@@ -139,8 +139,8 @@ pub fn look_screen(x: u64, o: u32) -> ScreenLook
             off: q.off,
         };
     }
-    ScreenLook {
-        screen: Screen {
+    Sighted {
+        value: Screen {
             used: used as u8,
             factor: 0,
             depth: 0,

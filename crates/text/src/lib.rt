@@ -57,7 +57,7 @@ fn list_answer(a: ReadAnswer, records: &[u8], text: &mut [u8]) -> TextAnswer
     let mut none = [0u8; 1];
     let needed = listing::lay_listing(&mut none, 0, a, records);
     if text.len() < needed {
-        return answered(bits::number(Refusal::ShortText), needed as u64, 0);
+        return answered(Refusal::ShortText.number(), needed as u64, 0);
     }
     listing::lay_listing(text, 0, a, records);
     answered(0, 0, needed as u32)

@@ -129,7 +129,7 @@ fn lay_tables(text: &mut [u8], at: usize, a: ReadAnswer, records: &[u8]) -> usiz
 fn ended_early(refusal: u8) -> bool
     ensures { result ≡ eqb refusal (number_of EndsEarly) }
 {
-    refusal == bits::number(Refusal::EndsEarly)
+    refusal == Refusal::EndsEarly.number()
 }
 
 // The whole listing.

@@ -41,7 +41,7 @@ fn show_steps<P: Print>(out: &P, a: WhyAnswer) -> io::Result<()> {
 fn show<P: Print>(out: &P, a: WhyAnswer) -> io::Result<()> {
     printing::line(out, &keys::REFUSAL, a.refusal as u64)?;
     printing::line(out, &keys::PLACE, a.place)?;
-    if a.refusal == bits::number(Refusal::EndsEarly) {
+    if a.refusal == Refusal::EndsEarly.number() {
         printing::line(out, &keys::MISSING, a.missing as u64)?;
     }
     show_steps(out, a)

@@ -11,7 +11,6 @@ ghost use Rattle.writer.specs.Parts.{extra_bits, extras_bits, Stand, Needed, Wid
 
 use crate::Groups;
 use crate::putting::{put, put_some};
-use bits::as_flag;
 use laying::Pen;
 use oamd::{Divergence, Precise};
 use record::{divergence_at, precise_at, scene_at};
@@ -108,8 +107,8 @@ pub fn put_extended_fields(
     requires needed { Needed (records_at records.now n 0) groups }
     ensures { Laid (most_extended_fields n) out.old out.new pen result (extended_element_bits (records_at records.now n 0)) }
 {
-    let one = as_flag(groups.diverges);
-    let two = as_flag(groups.refines);
+    let one = u8::from(groups.diverges);
+    let two = u8::from(groups.refines);
     let next = put(out, pen, 1, one as u32);
     let next = put_extras_if(groups.diverges, true, out, next, records, n);
     let next = put(out, next, 1, two as u32);

@@ -57,7 +57,7 @@ fn refused(refusal: Refusal, place: u64) -> WriteAnswer
     WriteAnswer {
         place,
         length: ByteCount::new(0),
-        refusal: bits::number(refusal),
+        refusal: refusal.number(),
     }
 }
 
