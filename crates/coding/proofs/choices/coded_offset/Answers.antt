@@ -4,4 +4,4 @@ use Rattle.coding.proofs.choices.coded_offset.Goals as goal
 pub returns : goal.returns
 unfolding coded_offset
 returns c =
-    rw c.choice-code.ensures
+    rw c.pick-code.ensures

@@ -4,4 +4,4 @@ use Rattle.coding.proofs.choices.ramp_code.Goals as goal
 pub returns : goal.returns
 unfolding ramp_code
 returns c =
-    rw (c.choice.ensures, c.choice-more.ensures, c.choice-long.ensures)
+    rw (c.pick.ensures, c.pick-more.ensures, c.pick-long.ensures)

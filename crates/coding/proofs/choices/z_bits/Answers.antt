@@ -4,4 +4,4 @@ use Rattle.coding.proofs.choices.z_bits.Goals as goal
 pub returns : goal.returns
 unfolding z_bits
 returns c =
-    rw (c.choice.ensures, c.less-down.ensures, c.less-up.ensures)
+    rw (c.pick.ensures, c.saturating_sub-down.ensures, c.saturating_sub-up.ensures)

@@ -4,4 +4,4 @@ use Rattle.coding.proofs.choices.z_sign.Goals as goal
 pub returns : goal.returns
 unfolding z_sign
 returns c =
-    rw c.as_flag.ensures
+    rw c.from.ensures

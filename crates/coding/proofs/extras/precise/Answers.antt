@@ -8,4 +8,4 @@ pub returns : goal.returns
 unfolding precise_bits
 returns c =
     let sent = c.args.sent in
-    c.nothing-p.ensures ▹ behind_is (ap (λ (k : ℕ). only sent (to_bits 1 k)) c.as_flag-some.ensures) c.pack_if-p.ensures ▸ c.pack_if-p-2.ensures ▸ c.axes.ensures
+    c.nothing-p.ensures ▹ behind_is (ap (λ (k : ℕ). only sent (to_bits 1 k)) c.from-some.ensures) c.pack_if-p.ensures ▸ c.pack_if-p-2.ensures ▸ c.axes.ensures

@@ -3,4 +3,4 @@ use Rattle.coding.proofs.parts.extent.Goals as goal
 
 pub returns : goal.returns
 returns c =
-    group-behind (extent_is c.args.v c.both-even.ensures c.choice-width.ensures c.choice-value.ensures) c.either.ensures
+    group-behind (extent_is c.args.v c.both-even.ensures c.pick-width.ensures c.pick-value.ensures) c.either.ensures

@@ -8,4 +8,4 @@ pub returns : goal.returns
 unfolding offset_bits
 returns c =
     nonempty (packs_is (ap offset_bits c.coded_offset-offset.ensures) (c.nothing-p.ensures ▹ c.pack-p.ensures ▸ c.pack_if-p.ensures ▸ c.pack_if-p-2.ensures)
-    ▹ behind_is (ap (to_bits 3) c.less-more.ensures) c.pack.ensures)
+    ▹ behind_is (ap (to_bits 3) c.saturating_sub-more.ensures) c.pack.ensures)

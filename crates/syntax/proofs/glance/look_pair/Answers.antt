@@ -13,7 +13,7 @@ returns c =
     let w = c.args.w in
     let k = c.args.k in
     let sent = eqb (c.look-q.result.v / 2 ^ k) c.args.which in
-    rw (c.only.ensures, c.chosen.ensures, unit k (omega arith))
+    rw (c.only.ensures, c.pick.ensures, unit k (omega arith))
     (record {
       mid = o + w;
       first = lead o w k e (omega arith);

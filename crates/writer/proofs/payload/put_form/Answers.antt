@@ -61,6 +61,6 @@ returns c =
     let n = ap (λ (k : ℕ). only c.either-some.result (element_bits 5 (extended_element_bits (records_at records k 0)))) m.count in
     laid-within (omega (arith, m.few))
     (form-laid (tables_of a.programme a.timing records a.trim.now) _ _ (extended_there m.needed c.either-some.ensures)
-    (trim_there a.programme.objects a.trim.now) c.start-start.ensures c.as_flag-one.ensures c.as_flag-two.ensures c.as_flag-three.ensures
+    (trim_there a.programme.objects a.trim.now) c.start-start.ensures c.from-one.ensures c.from-two.ensures c.from-three.ensures
     c.put_header-header.ensures c.put-count.ensures c.put_object_element-object.ensures
     (laid_is n c.put_extended_element-extended.ensures) c.put_trim_element.ensures)
