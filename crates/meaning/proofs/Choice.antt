@@ -2,7 +2,7 @@
 -- Assumes nothing.
 use mathlib.Core.Path.{◌≡◌}
 use mathlib.Core.Bool.{Bool, true, false}
-use Prim.Native.Nat.{ℕ, ◌-◌, ◌<◌}
+use Prim.Native.Nat.{ℕ, ◌-◌, ◌<◌, ◌≤◌}
 use native.Mathlib.Omega.{arith}
 use borrow.Author.Tests.{eq-eqb, ne_eqb, lt-ltb, le-ltb}
 use borrow.Author.Rules.{rules}
@@ -15,6 +15,11 @@ module _ {A : Type 0} (t u : Bool) (a b r : A) where
 
   pub passed : u ≡ t → u ≡ false → r ≡ b → r ≡ pick t a b
   passed q h e = rw (← q, h) e
+
+-- what holds of both that a test picks from
+pub within : (t : Bool) {a b n : ℕ} → a ≤ n → b ≤ n → pick t a b ≤ n
+within true p q = p
+within false p q = q
 
 -- a difference that the code gives as 0
 pub none_left : (a b : ℕ) → a < b → a - b ≡ 0
