@@ -92,27 +92,15 @@ fn by_status<T: Copy>(status: Status, sent: bool, default: T, valuebefore: T, va
 fn gain_after(valuebefore: u8, gainbefore: u8, b: Basic) -> u8
     ensures { result ≡ value_of b.status (has_gain b.parts) 0 valuebefore (gain_of b.gain gainbefore) }
 {
-    let value = gain_of(b.gain, gainbefore);
-    by_status(
-        b.status,
-        oamd::has_gain(b.parts as u32),
-        0,
-        valuebefore,
-        value,
-    )
+    let sent = oamd::has_gain(b.parts as u32);
+    by_status(b.status, sent, 0, valuebefore, gain_of(b.gain, gainbefore))
 }
 
 fn priority_after(valuebefore: u8, b: Basic) -> u8
     ensures { result ≡ value_of b.status (has_priority b.parts) 0 valuebefore (priority_of b.priority) }
 {
-    let value = priority_of(b.priority);
-    by_status(
-        b.status,
-        oamd::has_priority(b.parts as u32),
-        0,
-        valuebefore,
-        value,
-    )
+    let sent = oamd::has_priority(b.parts as u32);
+    by_status(b.status, sent, 0, valuebefore, priority_of(b.priority))
 }
 
 // What is sent, group by group.
