@@ -2,7 +2,7 @@
 // nothing is read, and the cursor keeps that refusal.
 #![tactic(auto)]
 
-use oamd::{Bed, Extent, MOST_BEDS, Zone};
+use oamd::{Bed, MOST_BEDS};
 
 mod header; // header.rt: what stands before the elements
 mod programme; // programme.rt: the program assignment
@@ -48,19 +48,4 @@ pub struct Balance {
 pub struct Coded {
     pub code: u8,
     pub more: u8,
-}
-
-// What was seen in a window, and where in it the next field begins; good, unless a reserved code was met.
-#[derive(Clone, Copy)]
-pub struct ZoneLook {
-    pub zone: Zone,
-    pub off: u32,
-    pub good: bool,
-}
-
-#[derive(Clone, Copy)]
-pub struct ExtentLook {
-    pub extent: Extent,
-    pub off: u32,
-    pub good: bool,
 }

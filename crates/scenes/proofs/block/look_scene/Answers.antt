@@ -29,13 +29,13 @@ returns-then-idle-eq1 c =
     let seen = sees (goal.at.returns-then-idle-eq1 c).After-window-x in
     record {
       coded = _;
-      held = λ g.
+      held =
           there (told c.if-idle-eq1.true look.1.looks) seen (omega (arith, c.raw-p.ensures)) refl
           ⊳ free-give
           ⊳ there (no-basic Default looks-give) seen refl refl
           ⊳ free-give
           ⊳ there (no-render Default _ looks-give looks-give) seen refl (omega (arith, ap (λ (s : Sighted ℕ). s.off) look.0))
-          ⊳ c.look_additional.ensures.freely refl
+          ⊳ c.look_additional.ensures.freely
           ⊳ free-give;
       means = c.idle.ensures;
     }
@@ -46,16 +46,16 @@ returns c =
     let seen = sees (goal.at.returns c).After-window-x in
     let zero : c.look-idle.result.value ≡ 0 = omega (arith, c.look-idle.ensures.1.small, c.if-idle-eq1.false) in
     let low = c.levels_in-b.ensures in
-    let high = c.shown_in-n.ensures in
+    let high = c.in_ok-n.ensures in
     record {
       coded = _;
-      held = λ g.
+      held =
           there (told zero c.look-idle.ensures.1.looks) seen (omega (arith, c.raw-p.ensures)) refl
           ⊳ there c.look_status-basic.ensures.looks seen refl refl
           ⊳ there low.held.looks seen refl refl
           ⊳ there c.look_status-render.ensures.looks seen refl refl
-          ⊳ high.held.freely g
-          ⊳ c.look_additional-2.ensures.freely refl
+          ⊳ high.held.freely
+          ⊳ c.look_additional-2.ensures.freely
           ⊳ free-give;
       means = rw (c.active_scene.ensures, low.means, high.means);
     }
