@@ -1,9 +1,8 @@
 -- A group that was looked at as if it were sent, and is taken only where it is: u is the definition's test, t the code's own.
 use mathlib.Core.Path.{◌≡◌, refl}
-use mathlib.Core.Bool.{Bool, true, false, false≢true}
+use mathlib.Core.Bool.{Bool, true, false, not, ◌&&◌, ◌||◌, false≢true}
 use Prim.Native.Nat.{ℕ, ◌+◌, ◌≤◌}
 use native.Mathlib.Omega.{arith}
-use Rattle.std.specs.Prelude.{Option, Some}
 use Rattle.bits.specs.Language.{P, pick, bits, bits_if}
 use Rattle.bits.specs.View.{Looks}
 use Rattle.bits.proofs.Free.{looks-give}
@@ -27,9 +26,14 @@ pair_where : (k : Bool → ℕ → P ℕ) {w n x o v z off : ℕ} (u : Bool) →
 pair_where k true s n = s
 pair_where k {o = o} false s n = record { mid = o; first = looks-give; second = n; near = omega arith }
 
-given_where : {A : Type 0} (u : Bool) (s : Option A) {r : Option A} {v : A} → pick u r s ≡ Some v → u ≡ true → r ≡ Some v
-given_where true s h e = h
-given_where false s h e = absurd (false≢true e)
+-- both tests hold
+pub each-good : (a b : Bool) → (a && b) ≡ true → (a ≡ true) × (b ≡ true)
+each-good true b e = (refl, e)
+each-good false b e = absurd (false≢true e)
+
+good_where : (u : Bool) {g : Bool} → (not u || g) ≡ true → u ≡ true → g ≡ true
+good_where true h e = h
+good_where false h e = absurd (false≢true e)
 
 -- its value, by one part or by two, or else that of the block before: parts that are not sent, i and j, make no difference
 pub value_where : {A B : Type 0} (f : A → B) (a i : A) (before : B) (u : Bool) → pick u (f a) before ≡ pick u (f (pick u a i)) before
@@ -47,8 +51,8 @@ module _ {t u : Bool} (q : t ≡ u) where
   near_if o n e h = rw e (whichever t h (omega arith))
 
   -- no reserved code was met in what is sent
-  pub given_if : {A : Type 0} (s : Option A) {r f : Option A} {v : A} → f ≡ pick t r s → f ≡ Some v → u ≡ true → r ≡ Some v
-  given_if s e h = given_where u s (rw (e, q) at h)
+  pub good_if : {g : Bool} → (not t || g) ≡ true → u ≡ true → g ≡ true
+  good_if h = good_where u (rw q at h)
 
   -- what is read, and where the next field begins
   pub taken : {A : Type 0} (p : Bool → P A) {x o off to : ℕ} {v none : A} → to ≡ pick t off o → (u ≡ true → Looks (p true) x o v off)

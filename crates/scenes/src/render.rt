@@ -7,17 +7,8 @@ ghost use Rattle.scenes.specs.Found.{Opened, ShownFound};
 
 use bits::{Sighted, pick};
 use meaning::Shown;
-use oamd::{Extent, Scene, Status};
+use oamd::{Scene, Status};
 use units::BitPos;
-
-// A size that is not sent; nothing is taken of it.
-const UNSENT: Extent = Extent {
-    index: 0,
-    all: 0,
-    width: 0,
-    depth: 0,
-    height: 0,
-};
 
 fn full_shown(
     s: &[u8],
@@ -38,13 +29,15 @@ fn full_shown(
     let e = syntax::look_extent(y, z.off);
     let n = syntax::look_screen(y, e.off);
     let snap = bits::look(y, n.off, 1);
-    let zone = z.value?;
-    let extent = e.value?;
+    let good = z.good & e.good;
+    if !good {
+        return None;
+    }
     Some(Sighted {
         value: Shown {
             location: meaning::location_of(p.value, meaning::distance_of(d.value), before.location),
-            volume: meaning::volume_of(extent),
-            zone,
+            volume: meaning::volume_of(e.value),
+            zone: z.value,
             screen: n.value,
             snap: snap.value as u8,
         },
@@ -78,12 +71,14 @@ fn mixed_shown(
     let n = syntax::look_screen(y, screen_off);
     let snap_off = pick(oamd::has_screen(parts.value), n.off, screen_off);
     let snap = bits::look(y, snap_off, 1);
-    let zone = pick(zoned, z.value, Some(before.zone))?;
-    let extent = pick(sized, e.value, Some(UNSENT))?;
+    let good = (!zoned | z.good) & (!sized | e.good);
+    if !good {
+        return None;
+    }
     let sent = Shown {
         location: meaning::location_of(p.value, meaning::distance_of(d.value), before.location),
-        volume: meaning::volume_of(extent),
-        zone,
+        volume: meaning::volume_of(e.value),
+        zone: z.value,
         screen: n.value,
         snap: snap.value as u8,
     };

@@ -1,5 +1,5 @@
 -- Windows looked at: laws for fields that are there or not, for several fields of one look, and for what stands in several windows.
-use mathlib.Core.Path.{◌≡◌, refl, sym, ap, subst, subst₂, ◌∙◌}
+use mathlib.Core.Path.{◌≡◌, sym, ap, subst, subst₂, ◌∙◌}
 use mathlib.Core.Bool.{Bool, true, false, true≢false}
 use Prim.Native.Nat.{ℕ, ◌+◌, ◌-◌, ◌*◌, ◌/◌, ◌%◌, ◌^◌, ◌≤◌}
 use native.Mathlib.Omega.{arith}
@@ -7,9 +7,6 @@ use native.Mathlib.Nat.{mul_assoc}
 use lib.Dec.{ltb}
 use lib.Pow.{pow-add, shl-shr, shr-shr, field, mod-mod-pow}
 use borrow.Author.Tests.{ltb-true, ltb-false, le-leb}
-use Rattle.std.specs.Prelude.{Option}
-use Rattle.std.specs.Bool.{then_some}
-use Rattle.std.proofs.lemmas.Option.{none-some, same_Some}
 use Rattle.bits.specs.declared.Refusal.TheVariants.{Reserved}
 use Rattle.bits.specs.declared.Sighted.{Sighted}
 use Rattle.bits.specs.Refusals.{number_of}
@@ -18,7 +15,7 @@ use Rattle.bits.specs.Steps.{no_ok, below_free, bind_ok, field_ok}
 use Rattle.bits.specs.View.{looked, Sees, Freely, Looks, sight_of}
 use Rattle.bits.proofs.Free.{free-bind, looks-give, looks-bits, looks-unless, ◌▹◌}
 use Rattle.oamd.specs.Reserved.{Field, width_of, first_reserved, last_reserved, is_reserved, unreserved}
-use Rattle.syntax.specs.Looks.{Shut, SeenIf}
+use Rattle.syntax.specs.Looks.{Shut}
 
 -- ---- a field of which values are reserved, those at the end of its range
 
@@ -43,17 +40,6 @@ module _ (f : Field) {x o v to : ℕ} (s : Looks (bits (width_of f)) x o v to) w
             let same : n ≡ v = sym (field_ok w number b (base + o) e r h).1 ∙ seen in
             refused (is_reserved f n) (number_of Reserved) w n b at e r (ap (is_reserved f) same ∙ reserved) y;
       }
-
--- what was seen, given where no reserved code was met
-pub seen_where : {A : Type 0} {p : P A} {n x o off : ℕ} {v : A} {r : Option A} (t : Bool) → r ≡ then_some t v
-    → (t ≡ true → Looks p x o v off) → (t ≡ false → Shut p x o) → off ≤ o + n → SeenIf p n x o r off
-seen_where {v = v} true e s m h =
-    record {
-      looks = λ w q. rw (← same_Some v w (sym e ∙ q)) (s refl);
-      met = λ q. absurd (none-some v (sym q ∙ e));
-      near = h;
-    }
-seen_where false e s m h = record { looks = λ w q. absurd (none-some w (sym e ∙ q)); met = λ q. m refl; near = h }
 
 -- ---- positions, and tests
 

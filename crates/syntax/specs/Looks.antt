@@ -1,5 +1,5 @@
 -- What a function promises that looks at a window: what it read of it, and that it came at most so many bits further.
-use Rattle.std.specs.Prelude.{◌≡◌, Option, Some, None, ℕ, ◌+◌, ◌≤◌}
+use Rattle.std.specs.Prelude.{◌≡◌, Bool, true, false, ℕ, ◌+◌, ◌≤◌}
 use Rattle.bits.specs.Language.{ok, Bits, P, run}
 use Rattle.bits.specs.View.{Sees, Freely, Looks}
 
@@ -12,9 +12,9 @@ pub record Seen {A : Type 0} (p : P A) (n x o : ℕ) (v : A) (off : ℕ) : Type 
   pub near : off ≤ o + n
 
 -- the same, unless a reserved code was met: then nothing is read there
-pub record SeenIf {A : Type 0} (p : P A) (n x o : ℕ) (r : Option A) (off : ℕ) : Type 0 where
-  pub looks : (v : A) → r ≡ Some v → Looks p x o v off
-  pub met : r ≡ None → Shut p x o
+pub record SeenIf {A : Type 0} (good : Bool) (p : P A) (n x o : ℕ) (v : A) (off : ℕ) : Type 0 where
+  pub looks : good ≡ true → Looks p x o v off
+  pub met : good ≡ false → Shut p x o
   pub near : off ≤ o + n
 
 -- from one position to another, at most n bits further

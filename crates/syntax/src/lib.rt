@@ -43,6 +43,15 @@ pub struct Balance {
     pub amount: u8,
 }
 
+// What was seen in a window, and where in it the next field begins; good, unless a reserved code was met.
+// No Option: a group that is not sent is looked at all the same, and a choice of Options is branched to, which made blocks of mixed status a fifth slower to read.
+#[derive(Clone, Copy)]
+pub struct Checked<T> {
+    pub value: T,
+    pub off: u32,
+    pub good: bool,
+}
+
 // A code, and what stands behind it.
 #[derive(Clone, Copy)]
 pub struct Coded {

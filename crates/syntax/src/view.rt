@@ -3,6 +3,7 @@ ghost use Rattle.std.specs.Prelude.{true, ◌≤◌};
 ghost use Rattle.oamd.specs.Block.{differences, coordinates, position, distance, zone, extent, screen};
 ghost use Rattle.syntax.specs.Looks.{Seen, SeenIf};
 
+use crate::Checked;
 use crate::glance::only;
 use bits::Sighted;
 use oamd::{Distance, Extent, Position, Screen, Zone};
@@ -90,42 +91,41 @@ pub fn look_distance(x: u64, o: u32) -> Sighted<Distance>
     }
 }
 
-// None where a reserved code was met.
-pub fn look_zone(x: u64, o: u32) -> Sighted<Option<Zone>>
+pub fn look_zone(x: u64, o: u32) -> Checked<Zone>
     requires { o ≤ 60 }
-    ensures { SeenIf (zone true) 4 x o result.value result.off }
+    ensures { SeenIf result.good (zone true) 4 x o result.value result.off }
 {
     let q = bits::look(x, o, 4);
     let index = q.value / 2 % 8;
-    let zone = Zone {
-        index: index as u8,
-        elevation: (q.value % 2) as u8,
-    };
-    Sighted {
-        value: (index < 6).then_some(zone),
+    Checked {
+        value: Zone {
+            index: index as u8,
+            elevation: (q.value % 2) as u8,
+        },
         off: q.off,
+        good: index < 6,
     }
 }
 
-// One size for all, one for each, or none; None where a reserved code was met.
-pub fn look_extent(x: u64, o: u32) -> Sighted<Option<Extent>>
+// One size for all, one for each, or none.
+pub fn look_extent(x: u64, o: u32) -> Checked<Extent>
     requires { o ≤ 47 }
-    ensures { SeenIf (extent true) 17 x o result.value result.off }
+    ensures { SeenIf result.good (extent true) 17 x o result.value result.off }
 {
     let q = bits::look(x, o, 17);
     let index = q.value / 32768 % 4;
     let even = index == 1;
     let each = index == 2;
-    let extent = Extent {
-        index: index as u8,
-        all: only(even, q.value / 1024 % 32),
-        width: only(each, q.value / 1024 % 32),
-        depth: only(each, q.value / 32 % 32),
-        height: only(each, q.value % 32),
-    };
-    Sighted {
-        value: (index < 3).then_some(extent),
+    Checked {
+        value: Extent {
+            index: index as u8,
+            all: only(even, q.value / 1024 % 32),
+            width: only(each, q.value / 1024 % 32),
+            depth: only(each, q.value / 32 % 32),
+            height: only(each, q.value % 32),
+        },
         off: bits::pick(each, q.off, bits::pick(even, o + 7, o + 2)),
+        good: index < 3,
     }
 }
 

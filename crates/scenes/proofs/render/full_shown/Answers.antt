@@ -3,6 +3,7 @@ use Rattle.bits.proofs.Free.{free-give}
 use Rattle.oamd.specs.Block.{object_render_info}
 use Rattle.syntax.proofs.Glances.{entered, behind, there, ◌⊳◌}
 use Rattle.scenes.proofs.Far.{more, whole}
+use Rattle.scenes.proofs.Taken.{each-good}
 use Rattle.scenes.proofs.render.full_shown.Goals as goal
 use Rattle.scenes.proofs.render.full_shown.Goals.{After-look-snap}
 
@@ -22,6 +23,7 @@ returns c =
     let distance = c.look_distance-d.ensures in
     let sees = c.requires.sees in
     let sees-2 = c.window-y.ensures.1 in
+    let good = each-good _ _ c.if-not-good.false in
     record {
       coded = _;
       held = record {
@@ -29,8 +31,8 @@ returns c =
             free-give
             ⊳ there position.looks sees refl refl
             ⊳ there distance.looks sees refl refl
-            ⊳ there (c.look_zone-z.ensures.looks _ c.in_ok-zone.was) sees-2 (entered new) refl
-            ⊳ there (c.look_extent-e.ensures.looks _ c.in_ok-extent.was) sees-2 refl refl
+            ⊳ there (c.look_zone-z.ensures.looks good.0) sees-2 (entered new) refl
+            ⊳ there (c.look_extent-e.ensures.looks good.1) sees-2 refl refl
             ⊳ there c.look_screen-n.ensures.looks sees-2 refl refl
             ⊳ there c.look-snap.ensures.1.looks sees-2 refl (behind _ new)
             ⊳ free-give;

@@ -5,7 +5,7 @@ use Rattle.oamd.specs.declared.Status.TheVariants.{Mixed}
 use Rattle.oamd.specs.Block.{position, distance, zone, extent, screen, object_render_info}
 use Rattle.syntax.proofs.Glances.{entered, behind, there, ◌⊳◌}
 use Rattle.scenes.proofs.Far.{more, whole}
-use Rattle.scenes.proofs.Taken.{near_if, given_if, taken, taken-behind}
+use Rattle.scenes.proofs.Taken.{each-good, near_if, good_if, taken, taken-behind}
 use Rattle.scenes.proofs.Unsent.{no-position, no_distance_lem, no-zone, no-extent, no-screen, sent_alone, mixed-means}
 use Rattle.scenes.proofs.render.mixed_shown.Goals as goal
 use Rattle.scenes.proofs.render.mixed_shown.Goals.{After-look-snap}
@@ -53,11 +53,12 @@ returns c =
       parts = c.look-parts.result.value;
       position = c.look_position-p.result.value;
       distance = c.look_distance-d.result.value;
-      zone = c.in_ok-zone.zone;
-      extent = c.in_ok-extent.extent;
+      zone = c.look_zone-z.result.value;
+      extent = c.look_extent-e.result.value;
       screen = c.look_screen-n.result.value;
       snap = c.look-snap.result.value;
     } in
+    let good = each-good _ _ c.if-not-good.false in
     record {
       coded = sent_alone looked;
       held = record {
@@ -65,9 +66,9 @@ returns c =
             there parts.looks sees refl refl
             ⊳ there (taken told (λ (on : Bool). position on c.args.first) refl (λ h. position-seen.looks) (no-position _)) sees refl refl
             ⊳ there (taken-behind told distance c.pick.ensures c.look_distance-d.ensures.looks no_distance_lem) sees refl refl
-            ⊳ there (taken zone-told zone c.pick-extent_off.ensures (λ h. c.look_zone-z.ensures.looks _ (given_if zone-told _ c.pick-2.ensures c.in_ok-zone.was h)) no-zone)
+            ⊳ there (taken zone-told zone c.pick-extent_off.ensures (λ h. c.look_zone-z.ensures.looks (good_if zone-told good.0 h)) no-zone)
             sees-2 (entered new) refl
-            ⊳ there (taken size-told extent c.pick-screen_off.ensures (λ h. c.look_extent-e.ensures.looks _ (given_if size-told _ c.pick-3.ensures c.in_ok-extent.was h)) no-extent)
+            ⊳ there (taken size-told extent c.pick-screen_off.ensures (λ h. c.look_extent-e.ensures.looks (good_if size-told good.1 h)) no-extent)
             sees-2 refl refl
             ⊳ there (taken screen-told screen c.pick-snap_off.ensures (λ h. c.look_screen-n.ensures.looks) no-screen) sees-2 refl refl
             ⊳ there c.look-snap.ensures.1.looks sees-2 refl (behind _ new)

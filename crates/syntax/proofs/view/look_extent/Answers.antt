@@ -5,7 +5,7 @@ use Rattle.bits.proofs.Free.{looks-give, ◌▹◌}
 use Rattle.oamd.specs.declared.Extent.{Extent}
 use Rattle.oamd.specs.Block.{extent}
 use Rattle.oamd.specs.Reserved.{ObjectSizeIdx}
-use Rattle.syntax.proofs.Glances.{fair, shut, seen_where, slot, last, whichever}
+use Rattle.syntax.proofs.Glances.{fair, shut, slot, last, whichever}
 use Rattle.syntax.proofs.view.look_extent.Goals as goal
 
 -- the sizes behind the index: one for all, or one for each, or none
@@ -33,13 +33,14 @@ returns c =
     let e = c.look-q.ensures.0 in
     let v = c.look-q.result.value / 32768 % 4 in
     let code = slot o 0 2 15 o (o + 2) e (omega arith) (omega arith) (omega arith) in
-    rw (c.pick-2.ensures, c.pick.ensures)
-    (seen_where _ (rw (c.only.ensures, c.only-2.ensures, c.only-3.ensures, c.only-4.ensures) at c.then_some.ensures)
-    (λ g.
-    fair ObjectSizeIdx code g
-    ▹ sizes (eqb v 1) (eqb v 2) (not-both v)
-    (slot o 2 5 10 (o + 2) (o + 7) e (omega arith) (omega arith) (omega arith))
-    (slot o 7 5 5 (o + 7) (o + 12) e (omega arith) (omega arith) (omega arith))
-    (last o 12 5 (o + 12) e (omega arith) (omega arith)))
-    (λ g. shut ObjectSizeIdx code _ g (omega arith))
-    (whichever (eqb v 2) (omega arith) (whichever (eqb v 1) (omega arith) (omega arith))))
+    rw (c.only.ensures, c.only-2.ensures, c.only-3.ensures, c.only-4.ensures, c.pick-2.ensures, c.pick.ensures)
+    (record {
+      looks = λ g.
+          fair ObjectSizeIdx code g
+          ▹ sizes (eqb v 1) (eqb v 2) (not-both v)
+          (slot o 2 5 10 (o + 2) (o + 7) e (omega arith) (omega arith) (omega arith))
+          (slot o 7 5 5 (o + 7) (o + 12) e (omega arith) (omega arith) (omega arith))
+          (last o 12 5 (o + 12) e (omega arith) (omega arith));
+      met = λ g. shut ObjectSizeIdx code _ g (omega arith);
+      near = whichever (eqb v 2) (omega arith) (whichever (eqb v 1) (omega arith) (omega arith));
+    })

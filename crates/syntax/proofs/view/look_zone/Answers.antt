@@ -2,7 +2,7 @@ use Rattle.std.proofs.Common.{arith, ◌+◌}
 use Rattle.bits.proofs.Free.{looks-give, ◌▹◌}
 use Rattle.oamd.specs.Block.{zone}
 use Rattle.oamd.specs.Reserved.{ZoneConstraintsIdx}
-use Rattle.syntax.proofs.Glances.{fair, shut, seen_where, slot, last}
+use Rattle.syntax.proofs.Glances.{fair, shut, slot, last}
 use Rattle.syntax.proofs.view.look_zone.Goals as goal
 
 pub returns : goal.returns
@@ -11,7 +11,8 @@ returns c =
     let o = c.args.o in
     let e = c.look-q.ensures.0 in
     let code = slot o 0 3 1 o (o + 3) e (omega arith) (omega arith) (omega arith) in
-    seen_where _ c.then_some.ensures
-    (λ g. fair ZoneConstraintsIdx code g ▹ last o 3 1 (o + 3) e (omega arith) (omega arith) ▹ looks-give)
-    (λ g. shut ZoneConstraintsIdx code _ g (omega arith))
-    c.look-q.ensures.1.near
+    record {
+      looks = λ g. fair ZoneConstraintsIdx code g ▹ last o 3 1 (o + 3) e (omega arith) (omega arith) ▹ looks-give;
+      met = λ g. shut ZoneConstraintsIdx code _ g (omega arith);
+      near = c.look-q.ensures.1.near;
+    }
