@@ -9,6 +9,7 @@ use Rattle.oamd.specs.declared.Scene.{Scene}
 use Rattle.oamd.specs.declared.Status.{Status}
 use Rattle.oamd.specs.Block.{object_basic_info, object_render_info, object_info_block}
 use Rattle.oamd.specs.Meaning.{resolve}
+use Rattle.syntax.specs.declared.Checked.{Checked}
 use Rattle.syntax.specs.Looks.{Seen, Passed}
 use Rattle.scenes.specs.declared.Levels.{Levels}
 use Rattle.scenes.specs.Resolved.{levels_of}
@@ -29,12 +30,11 @@ pub record Opened (b : Bits) (x base o : ℕ) : Type 0 where
   pub few : base ≤ 4000000000
   pub sees : Sees x b base
 
--- object_render_info of a status, from a position on, unless a reserved code was met
-abbrev pub ShownFound : Status → Bool → Scene → Bits → ℕ → Option (Sighted Shown) → Type 0
-ShownFound status first before b at r =
-    IfSome r (λ q. Made (shown_of before) q.value (λ n. Passed (object_render_info status first) 56 b at n q.off))
+-- object_render_info of a status, from a position on
+abbrev pub ShownFound : Status → Bool → Scene → Bits → ℕ → Checked Shown → Type 0
+ShownFound status first before b at r = Made (shown_of before) r.value (λ n. Passed r.good (object_render_info status first) 56 b at n r.off)
 
--- a block, likewise
+-- a block from a position on, unless a reserved code was met
 abbrev pub SceneFound : ℕ → ℕ → Scene → ℕ → Bits → ℕ → Option (Sighted Scene) → Type 0
 SceneFound class blk before gain_before b at r =
     IfSome r (λ q. Made (resolve before gain_before) q.value (λ n. Freely (object_info_block class blk) b at n q.off))

@@ -54,11 +54,15 @@ fn look_scene(
     let basic = syntax::look_status(x, idle.off, false, first);
     let b = levels_in(x, basic.off, basic.value, before, gainbefore);
     let render = syntax::look_status(x, b.off, class != 2, first);
-    let n = shown_in(s, p - p % 8, x, render.off, render.value, first, before)?;
-    Some(Sighted {
-        value: active_scene(class, b.value, n.value),
-        off: syntax::look_additional(s, n.off),
-    })
+    let n = shown_in(s, p - p % 8, x, render.off, render.value, first, before);
+    if n.good {
+        Some(Sighted {
+            value: active_scene(class, b.value, n.value),
+            off: syntax::look_additional(s, n.off),
+        })
+    } else {
+        None
+    }
 }
 
 // A block, field by field, each held to the end.

@@ -5,19 +5,13 @@ ghost use Rattle.bits.specs.Language.{bit};
 ghost use Rattle.oamd.specs.declared.Status.TheVariants.{Full, Mixed};
 ghost use Rattle.scenes.specs.Found.{Opened, ShownFound};
 
-use bits::{Sighted, pick};
+use bits::pick;
 use meaning::Shown;
 use oamd::{Scene, Status};
+use syntax::Checked;
 use units::BitPos;
 
-fn full_shown(
-    s: &[u8],
-    base: u32,
-    x: u64,
-    o: u32,
-    first: bool,
-    before: Scene,
-) -> Option<Sighted<Shown>>
+fn full_shown(s: &[u8], base: u32, x: u64, o: u32, first: bool, before: Scene) -> Checked<Shown>
     requires { Opened (bit s.now) x base o }
     ensures { ShownFound Full first before (bit s.now) (base + o) result }
 {
@@ -29,11 +23,7 @@ fn full_shown(
     let e = syntax::look_extent(y, z.off);
     let n = syntax::look_screen(y, e.off);
     let snap = bits::look(y, n.off, 1);
-    let good = z.good & e.good;
-    if !good {
-        return None;
-    }
-    Some(Sighted {
+    Checked {
         value: Shown {
             location: meaning::location_of(p.value, meaning::distance_of(d.value), before.location),
             volume: meaning::volume_of(e.value),
@@ -42,18 +32,12 @@ fn full_shown(
             snap: snap.value as u8,
         },
         off: at - at % 8 + snap.off,
-    })
+        good: z.good & e.good,
+    }
 }
 
 // Each group is looked at as if it were sent, and taken only where it is.
-fn mixed_shown(
-    s: &[u8],
-    base: u32,
-    x: u64,
-    o: u32,
-    first: bool,
-    before: Scene,
-) -> Option<Sighted<Shown>>
+fn mixed_shown(s: &[u8], base: u32, x: u64, o: u32, first: bool, before: Scene) -> Checked<Shown>
     requires { Opened (bit s.now) x base o }
     ensures { ShownFound Mixed first before (bit s.now) (base + o) result }
 {
@@ -71,10 +55,6 @@ fn mixed_shown(
     let n = syntax::look_screen(y, screen_off);
     let snap_off = pick(oamd::has_screen(parts.value), n.off, screen_off);
     let snap = bits::look(y, snap_off, 1);
-    let good = (!zoned | z.good) & (!sized | e.good);
-    if !good {
-        return None;
-    }
     let sent = Shown {
         location: meaning::location_of(p.value, meaning::distance_of(d.value), before.location),
         volume: meaning::volume_of(e.value),
@@ -82,13 +62,13 @@ fn mixed_shown(
         screen: n.value,
         snap: snap.value as u8,
     };
-    Some(Sighted {
+    Checked {
         value: meaning::mixed_shown(before, parts.value, sent),
         off: at - at % 8 + snap.off,
-    })
+        good: (!zoned | z.good) & (!sized | e.good),
+    }
 }
 
-// None where a reserved code was met.
 pub fn shown_in(
     s: &[u8],
     base: u32,
@@ -97,20 +77,22 @@ pub fn shown_in(
     status: Status,
     first: bool,
     before: Scene,
-) -> Option<Sighted<Shown>>
+) -> Checked<Shown>
     requires { Opened (bit s.now) x base o }
     ensures { ShownFound status first before (bit s.now) (base + o) result }
 {
     match status {
-        Status::Default => Some(Sighted {
+        Status::Default => Checked {
             value: meaning::default_shown(),
             off: base + o,
-        }),
+            good: true,
+        },
         Status::Full => full_shown(s, base, x, o, first, before),
-        Status::Reuse => Some(Sighted {
+        Status::Reuse => Checked {
             value: meaning::shown_before(before),
             off: base + o,
-        }),
+            good: true,
+        },
         Status::Mixed => mixed_shown(s, base, x, o, first, before),
     }
 }

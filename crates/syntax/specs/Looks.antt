@@ -17,9 +17,9 @@ pub record SeenIf {A : Type 0} (good : Bool) (p : P A) (n x o : ℕ) (v : A) (of
   pub met : good ≡ false → Shut p x o
   pub near : off ≤ o + n
 
--- from one position to another, at most n bits further
-pub record Passed {A : Type 0} (p : P A) (n : ℕ) (b : Bits) (at : ℕ) (v : A) (to : ℕ) : Type 0 where
-  pub freely : Freely p b at v to
+-- from one position to another, at most n bits further, unless a reserved code was met
+pub record Passed {A : Type 0} (good : Bool) (p : P A) (n : ℕ) (b : Bits) (at : ℕ) (v : A) (to : ℕ) : Type 0 where
+  pub freely : good ≡ true → Freely p b at v to
   pub near : to ≤ at + n
 
 -- two fields, the second of which may hang on the first

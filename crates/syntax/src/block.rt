@@ -23,7 +23,7 @@ fn pass_additional(s: &[u8], l: Limit, c: Cur) -> Cur
 // Where additional table data ends.
 pub fn look_additional(s: &[u8], at: u32) -> u32
     requires { at ≤ 4000000200 }
-    ensures { Passed additional_table_data 133 (bit s.now) at 0 result }
+    ensures { Passed true additional_table_data 133 (bit s.now) at 0 result }
 {
     let x = bits::window(s, BitPos::new(at));
     let exists = bits::look(x, at % 8, 1);

@@ -35,18 +35,18 @@ returns-then-idle-eq1 c =
           ⊳ there (no-basic Default looks-give) seen refl refl
           ⊳ free-give
           ⊳ there (no-render Default _ looks-give looks-give) seen refl (omega (arith, ap (λ (s : Sighted ℕ). s.off) look.0))
-          ⊳ c.look_additional.ensures.freely
+          ⊳ c.look_additional.ensures.freely refl
           ⊳ free-give;
       means = c.idle.ensures;
     }
 
-pub returns : goal.returns
+pub returns-then-n : goal.returns-then-n
 unfolding object_info_block resolve
-returns c =
-    let seen = sees (goal.at.returns c).After-window-x in
+returns-then-n c =
+    let seen = sees (goal.at.returns-then-n c).After-window-x in
     let zero : c.look-idle.result.value ≡ 0 = omega (arith, c.look-idle.ensures.1.small, c.if-idle-eq1.false) in
     let low = c.levels_in-b.ensures in
-    let high = c.in_ok-n.ensures in
+    let high = c.shown_in-n.ensures in
     record {
       coded = _;
       held =
@@ -54,8 +54,8 @@ returns c =
           ⊳ there c.look_status-basic.ensures.looks seen refl refl
           ⊳ there low.held.looks seen refl refl
           ⊳ there c.look_status-render.ensures.looks seen refl refl
-          ⊳ high.held.freely
-          ⊳ c.look_additional-2.ensures.freely
+          ⊳ high.held.freely c.if-n.true
+          ⊳ c.look_additional-then-n.ensures.freely refl
           ⊳ free-give;
       means = rw (c.active_scene.ensures, low.means, high.means);
     }

@@ -23,11 +23,11 @@ returns c =
     let distance = c.look_distance-d.ensures in
     let sees = c.requires.sees in
     let sees-2 = c.window-y.ensures.1 in
-    let good = each-good _ _ c.if-not-good.false in
     record {
       coded = _;
       held = record {
-        freely =
+        freely = λ g.
+            let good = each-good _ _ g in
             free-give
             ⊳ there position.looks sees refl refl
             ⊳ there distance.looks sees refl refl

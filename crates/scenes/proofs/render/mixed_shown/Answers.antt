@@ -58,11 +58,11 @@ returns c =
       screen = c.look_screen-n.result.value;
       snap = c.look-snap.result.value;
     } in
-    let good = each-good _ _ c.if-not-good.false in
     record {
       coded = sent_alone looked;
       held = record {
-        freely =
+        freely = λ g.
+            let good = each-good _ _ g in
             there parts.looks sees refl refl
             ⊳ there (taken told (λ (on : Bool). position on c.args.first) refl (λ h. position-seen.looks) (no-position _)) sees refl refl
             ⊳ there (taken-behind told distance c.pick.ensures c.look_distance-d.ensures.looks no_distance_lem) sees refl refl

@@ -10,7 +10,7 @@ returns-in-Default c =
     rw c.in-Default.is
     (record {
       coded = no_render Default;
-      held = record { freely = there (no-render Default _ looks-give looks-give) c.requires.sees refl refl; near = omega arith };
+      held = record { freely = λ g. there (no-render Default _ looks-give looks-give) c.requires.sees refl refl; near = omega arith };
       means = c.default_shown.ensures;
     })
 
@@ -19,6 +19,6 @@ returns-in-Reuse c =
     rw c.in-Reuse.is
     (record {
       coded = no_render Reuse;
-      held = record { freely = there (no-render Reuse _ looks-give looks-give) c.requires.sees refl refl; near = omega arith };
+      held = record { freely = λ g. there (no-render Reuse _ looks-give looks-give) c.requires.sees refl refl; near = omega arith };
       means = c.shown_before.ensures;
     })

@@ -12,7 +12,7 @@ returns-then-exists-eq1 c =
     let e0 = c.look-exists.ensures.1 in
     let e1 = c.look_if-size.ensures.1 in
     record {
-      freely =
+      freely = λ g.
           there e0.looks sees (entered new) refl
           ⊳ there e1.looks sees refl (behind _ new)
           ⊳ rw (eq-eqb _ _ c.if-exists-eq1.true) (free-field refl);
@@ -27,7 +27,7 @@ returns-else-exists-eq1 c =
     let e0 = c.look-exists.ensures.1 in
     let e1 = c.look_if-size.ensures.1 in
     record {
-      freely =
+      freely = λ g.
           there e0.looks sees (entered new) refl
           ⊳ there e1.looks sees refl (behind _ new)
           ⊳ rw (ne_eqb _ _ c.if-exists-eq1.false) free-give;
