@@ -13,6 +13,7 @@ use Rattle.units.specs.declared.BitPos.{BitPos}
 use Rattle.bits.specs.declared.Cur.{Cur}
 use Rattle.bits.specs.declared.Limit.{Limit}
 use Rattle.bits.specs.declared.Refusal.TheVariants.{TooLong}
+use Rattle.bits.specs.declared.Step.{Step}
 use Rattle.bits.specs.Language.{Res, ok, no, pick, Bits, bits, bit, slice, number, P, run, and_then, past_payload}
 use Rattle.bits.specs.Refusals.{number_of}
 use Rattle.bits.specs.Steps.{no_ok, value, bind_ok, field_ok}
@@ -28,10 +29,9 @@ use Rattle.oamd.specs.Element.{Known, nothing, framed, frame}
 use Rattle.oamd.specs.Payload.{oa_element_count, header}
 use Rattle.oamd.specs.Sift.{Sifting, stopped, dropping, behind, gone_at, sift, Sieve, sieve}
 use Rattle.oamd.specs.Answer.{missing_of}
-use Rattle.reader.specs.declared.HeaderStep.{HeaderStep}
+use Rattle.reader.specs.declared.Header.{Header}
 use Rattle.reader.specs.declared.Scope.{Scope}
 use Rattle.reader.specs.declared.State.{State}
-use Rattle.reader.specs.declared.StateStep.{StateStep}
 use Rattle.reader.specs.declared.Turn.{Turn}
 use Rattle.reader.specs.Layout.{no_trim_bytes}
 use Rattle.reader.specs.Sifts.{no_gone, filled, unsifted, sifted_by, sifted_from, sifted}
@@ -86,10 +86,10 @@ module _ {alternate : ℕ} {st : State} {b : Bits} {c d : Cur} {l : Limit} (aske
 
 -- ---- an element
 
-module _ {scope : Scope} {st : State} {b : Bits} {c : Cur} {l : Limit} {held held' : Buffers} {step : StateStep} (asked : Turning l c scope st held)
+module _ {scope : Scope} {st : State} {b : Bits} {c : Cur} {l : Limit} {held held' : Buffers} {step : Step State} (asked : Turning l c scope st held)
     (read : OneRead scope st b c l held step held') where
   pub kept-turn : {gone : Gone} → step.cur.no ≡ 0
-      → TurnRead scope st b c l held (record { state = step.state; cur = step.cur; dropped = false; gone = gone }) held'
+      → TurnRead scope st b c l held (record { state = step.value; cur = step.cur; dropped = false; gone = gone }) held'
   unfolding sift
   kept-turn z = record {
     sized = read.sized;
@@ -129,18 +129,18 @@ Stored r gone drops gone' drops' =
     ((r.dropped ≡ true) × (gone' ≡ set gone drops r.gone) × (drops' ≡ drops + 1)) ⊎ ((r.dropped ≡ false) × (gone' ≡ gone) × (drops' ≡ drops))
 
 -- the elements behind a header, before the one at a bit, where st has been read
-abbrev rest : List ℕ → HeaderStep → ℕ → element.State → ℕ → Sifting
-rest s h n st at = sift h.programme h.alternate n st (bit s) at (8 * length s)
+abbrev rest : List ℕ → Step Header → ℕ → element.State → ℕ → Sifting
+rest s h n st at = sift h.value.programme h.value.alternate n st (bit s) at (8 * length s)
 
 -- all of them
-abbrev all : List ℕ → HeaderStep → Cur → Sifting
+abbrev all : List ℕ → Step Header → Cur → Sifting
 all s h count = rest s h count.v (state_of nothing 0) count.at.0
 
-module _ (s : List ℕ) (h : HeaderStep) (count : Cur) (t : List ℕ) where
+module _ (s : List ℕ) (h : Step Header) (count : Cur) (t : List ℕ) where
   -- before element i: list is dropped of those before it
   pub record Passing (i : ℕ) (st : State) (gone : List Gone) (drops : ℕ) (cur : Cur) (held : Buffers) : Type 0 where
     pub within : i ≤ count.v
-    pub sized : Sized h.programme.objects held
+    pub sized : Sized h.value.programme.objects held
     pub blocks : st.timing.blocks ≤ most_blocks
     pub unknown : st.unknown ≤ i
     pub clean : cur.no ≡ 0
@@ -149,10 +149,10 @@ module _ (s : List ℕ) (h : HeaderStep) (count : Cur) (t : List ℕ) where
     pub few : drops ≤ i
     pub holds : gone ≡ filled list
     pub known : Known
-    pub holding : Holding h.programme.objects known t st held
+    pub holding : Holding h.value.programme.objects known t st held
     pub same : all s h count ≡ prepend list (rest s h (count.v - i) (state_of known st.unknown) cur.at.0)
 
-module _ {s : List ℕ} {l : Limit} {h : HeaderStep} {count : Cur} (asked : Counted s l h count) where
+module _ {s : List ℕ} {l : Limit} {h : Step Header} {count : Cur} (asked : Counted s l h count) where
   pub pass_start : {st : State} {gone : List Gone} {t table : List ℕ} → st ≡ nothing_read → gone ≡ replicate most_elements no_gone → length t ≡ scratch_bytes
       → table ≡ no_trim_bytes → length table ≡ most_trim → Passing s h count t 0 st gone 0 count (lent t table)
   pass_start e g room empty size =
@@ -167,12 +167,12 @@ module _ {s : List ℕ} {l : Limit} {h : HeaderStep} {count : Cur} (asked : Coun
         few = omega arith;
         holds = refl;
         known = nothing;
-        holding = nothing-held h.programme.objects asked.headed.head.few empty;
+        holding = nothing-held h.value.programme.objects asked.headed.head.few empty;
         same = rw (sub-zero count.v);
       })
 
   module _ {t : List ℕ} {i : ℕ} {st : State} {gone : List Gone} {drops : ℕ} {cur : Cur} {held : Buffers} (x : Passing s h count t i st gone drops cur held) where
-    module _ (less : i < count.v) {scope : Scope} (es : scope ≡ scope_of h) where
+    module _ (less : i < count.v) {scope : Scope} (es : scope ≡ scope_of h.value) where
       pub pass-asks : Turning l cur scope st held
       pass-asks = rw (es, asked.whole) (record {
         whole = refl;
@@ -185,11 +185,11 @@ module _ {s : List ℕ} {l : Limit} {h : HeaderStep} {count : Cur} (asked : Coun
       })
 
       module _ {r : Turn} {held' : Buffers} (read : TurnRead scope st (bit s) cur l held r held') where
-        turn : TurnRead (scope_of h) st (bit s) cur (whole_of s) held r held'
+        turn : TurnRead (scope_of h.value) st (bit s) cur (whole_of s) held r held'
         turn = rw (es, asked.whole) at read
 
-        turned : Turned (scope_of h) h.programme x.known st (bit s) cur (whole_of s) t r held'
-        turned = turn.went h.programme x.known t (refl, refl) x.holding
+        turned : Turned (scope_of h.value) h.value.programme x.known st (bit s) cur (whole_of s) t r held'
+        turned = turn.went h.value.programme x.known t (refl, refl) x.holding
 
         goes_on : all s h count
             ≡ prepend x.list (unless_refused r.cur (prepend (drops_of r)
@@ -237,7 +237,7 @@ module _ {s : List ℕ} {l : Limit} {h : HeaderStep} {count : Cur} (asked : Coun
 
   abbrev sieved : Sieve
   sieved = record {
-    header = record { programme = h.programme; alternate = h.alternate };
+    header = record { programme = h.value.programme; alternate = h.value.alternate };
     head = h.cur.at.0;
     count = count.v;
     body = count.at.0;
@@ -266,7 +266,7 @@ pub too_long : (s : List ℕ) → most_bytes < length s → unsifted (number_of 
 unfolding sifted
 too_long s h = rw (lt-leb (length s) most_bytes h)
 
-pub uncounted : {s : List ℕ} {l : Limit} {h : HeaderStep} {n : ℕ} {count : Cur} → Headed s h → l ≡ whole_of s → Reads oa_element_count (bit s) h.cur l n count
+pub uncounted : {s : List ℕ} {l : Limit} {h : Step Header} {n : ℕ} {count : Cur} → Headed s h → l ≡ whole_of s → Reads oa_element_count (bit s) h.cur l n count
     → (count.no ≡ 0 → ⊥) → unsifted count.no count.at.0 (missing_of count.no count.missing) ≡ sifted s
 unfolding sifted sieve run
 uncounted {s} {count = count} opened el r z =

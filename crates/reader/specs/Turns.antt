@@ -2,6 +2,7 @@
 use Rattle.std.specs.Prelude.{◌≡◌, true, false, List, [], ◌∷◌, ◌++◌, ℕ, suc, ◌+◌, ◌≤◌, eqb}
 use Rattle.bits.specs.declared.Cur.{Cur}
 use Rattle.bits.specs.declared.Limit.{Limit}
+use Rattle.bits.specs.declared.Step.{Step}
 use Rattle.bits.specs.Language.{pick, Bits, run, bit, past_payload}
 use Rattle.bits.specs.View.{Took}
 use Rattle.oamd.specs.declared.Gone.{Gone}
@@ -10,7 +11,7 @@ use Rattle.oamd.specs.Tables.{most_blocks}
 use Rattle.oamd.specs.Element.{Known, frame}
 use Rattle.oamd.specs.Payload.{oa_element_count}
 use Rattle.oamd.specs.Sift.{Sifting, stopped, dropping, behind, gone_at, sift}
-use Rattle.reader.specs.declared.HeaderStep.{HeaderStep}
+use Rattle.reader.specs.declared.Header.{Header}
 use Rattle.reader.specs.declared.Scope.{Scope}
 use Rattle.reader.specs.declared.State.{State}
 use Rattle.reader.specs.declared.Turn.{Turn}
@@ -63,7 +64,7 @@ pub record TurnRead (scope : Scope) (st : State) (b : Bits) (c : Cur) (l : Limit
   pub went : (q : Programme) (known : Known) (t : List ℕ) → Scoped q scope → Holding scope.objects known t st held → Turned scope q known st b c l t r held'
 
 -- a payload of which the header and the element count have been read
-pub record Counted (s : List ℕ) (l : Limit) (h : HeaderStep) (count : Cur) : Type 0 where
+pub record Counted (s : List ℕ) (l : Limit) (h : Step Header) (count : Cur) : Type 0 where
   pub headed : Headed s h
   pub whole : l ≡ whole_of s
   pub counts : Took oa_element_count 47 (bit s) h.cur l count

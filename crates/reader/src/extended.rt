@@ -22,8 +22,7 @@ fn read_divergences(s: &[u8], l: Limit, c: Cur, n: usize, out: &mut [u8]) -> Cur
         }
         let carries = record::carries_at(out, at);
         let step = syntax::read_divergence(s, l, cur, carries);
-        let divergence = step.divergence;
-        record::store_divergence(out, at, divergence);
+        record::store_divergence(out, at, step.value);
         cur = step.cur;
         at = at + RECORD_BYTES;
         i = i + 1;
@@ -45,8 +44,7 @@ fn read_precises(s: &[u8], l: Limit, c: Cur, n: usize, out: &mut [u8]) -> Cur
         }
         let carries = record::carries_at(out, at);
         let step = syntax::read_precise(s, l, cur, carries);
-        let precise = step.precise;
-        record::store_precise(out, at, precise);
+        record::store_precise(out, at, step.value);
         cur = step.cur;
         at = at + RECORD_BYTES;
         i = i + 1;

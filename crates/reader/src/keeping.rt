@@ -9,19 +9,20 @@ use crate::layout::{all_room, little_room};
 use crate::lending::lend_records;
 use crate::payload::read_payload;
 use crate::trim::no_trim;
-use crate::{HeaderStep, answers};
+use crate::{Header, answers};
+use bits::Step;
 use oamd::{RECORD_STRIDE, ReadAnswer, TRIM_FIXED};
 
 // Behind the header, with a scratch that has room for the records.
 fn read_kept(
     payload: &[u8],
-    head: HeaderStep,
+    head: Step<Header>,
     frame: u32,
     scratch: &mut [u8],
     records: &mut [u8],
     trim: &mut [u8],
 ) -> ReadAnswer
-    requires { Headed payload.now head × ElementRoom head.programme.objects scratch.old }
+    requires { Headed payload.now head × ElementRoom head.value.programme.objects scratch.old }
     ensures { (record { answer = result; buffer = records.new; trim = trim.new })
         ≡ reading frame payload.now records.old trim.old }
 {
@@ -32,8 +33,8 @@ fn read_kept(
         let missing = answers::missing_bits(cur.no, cur.missing);
         return answers::refused(cur.no, cur.at.raw() as u64, missing);
     }
-    let programme = step.programme;
-    let state = step.state;
+    let programme = step.value.programme;
+    let state = step.value.state;
     let timing = state.timing;
     let count = programme.objects as usize * timing.blocks as usize;
     let need = RECORD_STRIDE * count;
@@ -52,12 +53,12 @@ fn read_kept(
 // A payload of few objects.
 pub fn read_few(
     payload: &[u8],
-    head: HeaderStep,
+    head: Step<Header>,
     frame: u32,
     records: &mut [u8],
     trim: &mut [u8],
 ) -> ReadAnswer
-    requires { Headed payload.now head × (head.programme.objects ≤ few_objects) }
+    requires { Headed payload.now head × (head.value.programme.objects ≤ few_objects) }
     ensures { (record { answer = result; buffer = records.new; trim = trim.new })
         ≡ reading frame payload.now records.old trim.old }
 {
@@ -68,7 +69,7 @@ pub fn read_few(
 // One of any number of objects.
 pub fn read_many(
     payload: &[u8],
-    head: HeaderStep,
+    head: Step<Header>,
     frame: u32,
     records: &mut [u8],
     trim: &mut [u8],

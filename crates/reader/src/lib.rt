@@ -44,18 +44,18 @@ pub struct State {
     pub unknown: u8,
 }
 
+// What stands before the element count.
 #[derive(Clone, Copy)]
-pub struct HeaderStep {
+pub struct Header {
     pub programme: Programme,
     pub alternate: u32,
-    pub cur: Cur,
 }
 
+// What the whole payload gives.
 #[derive(Clone, Copy)]
-pub struct PayloadStep {
+pub struct Parsed {
     pub programme: Programme,
     pub state: State,
-    pub cur: Cur,
 }
 
 // An element of a pass that drops what is refused: what has been read behind it, where the next one begins or the refusal that ends the pass, and whether and as what
@@ -93,8 +93,7 @@ pub fn read(payload: &[u8], frame: u32, records: &mut [u8], trim: &mut [u8]) -> 
         return answers::refused_with(Refusal::TooLong, len as u64);
     }
     let head = payload::read_head(payload);
-    let programme = head.programme;
-    if programme.objects <= FEW_OBJECTS {
+    if head.value.programme.objects <= FEW_OBJECTS {
         keeping::read_few(payload, head, frame, records, trim)
     } else {
         keeping::read_many(payload, head, frame, records, trim)

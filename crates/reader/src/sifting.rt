@@ -12,8 +12,8 @@ use crate::element::{nothing_read, read_element};
 use crate::layout::all_room;
 use crate::payload::{limit_of, read_head, scope_of};
 use crate::trim::no_trim;
-use crate::{HeaderStep, Scope, Sifted, State, Turn};
-use bits::{Cur, Limit, Refusal};
+use crate::{Header, Scope, Sifted, State, Turn};
+use bits::{Cur, Limit, Refusal, Step};
 use oamd::{Gone, MOST_BYTES, MOST_ELEMENTS, MOST_TRIM, SCRATCH_BYTES};
 use units::BitPos;
 
@@ -115,7 +115,7 @@ fn sift_element(
     let step = read_element(s, l, c, scope, st, out, table);
     let cur = step.cur;
     if cur.no == 0 {
-        let state = step.state;
+        let state = step.value;
         let gone = no_gone();
         return Turn {
             state,
@@ -130,11 +130,11 @@ fn sift_element(
 }
 
 // All elements, behind the header and their count.
-fn sift_elements(s: &[u8], l: Limit, head: HeaderStep, count: Cur) -> Sifted
+fn sift_elements(s: &[u8], l: Limit, head: Step<Header>, count: Cur) -> Sifted
     requires { Counted s.now l head count }
     ensures { result ≡ sifted s.now }
 {
-    let scope = scope_of(head);
+    let scope = scope_of(head.value);
     let mut scratch = all_room();
     let mut table = no_trim();
     let mut state = nothing_read();

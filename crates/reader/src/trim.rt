@@ -44,8 +44,7 @@ fn read_configs(s: &[u8], l: Limit, c: Cur, out: &mut [u8; MOST_TRIM]) -> Cur
     let mut i: usize = 0;
     while i < TRIM_CONFIGS {
         let step = syntax::read_trim_config(s, l, cur);
-        let config = step.config;
-        store_config(out, at, config);
+        store_config(out, at, step.value);
         cur = step.cur;
         at = at + CONFIG_BYTES;
         i = i + 1;

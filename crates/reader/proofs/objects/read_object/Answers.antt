@@ -10,7 +10,7 @@ fits c = omega (arith, c.loop-i.invariant.place, c.loop-i.invariant.size, c.requ
 
 pub loop-i-init : goal.loop-i-init
 loop-i-init c =
-    rw c.idle-nothing_before.ensures (enter _ _ _ _ _ _ _)
+    rw c.idle-scene.ensures (enter _ _ _ _ _ _ _)
 
 pub loop-i-preserved : goal.loop-i-preserved
 loop-i-preserved c =

@@ -9,7 +9,7 @@ use Rattle.reader.proofs.timing.read_timing.Given as goal
 -- before block i of n, of which each update counts from the offset
 abbrev pub invariant-loop-i : goal.invariant-loop-i
 invariant-loop-i t =
-    (t.i ≤ t.n) × Filling t.n (λ blk. block_update_info) (λ bs. give {A = MdUpdateInfo} (record { offset = t.offset; blocks = bs })) (update_of (offset_of t.offset)) most_blocks no_update
+    (t.i ≤ t.n) × Filling t.n (λ blk. block_update_info) (λ bs. give {A = MdUpdateInfo} (record { offset = t.start.value; blocks = bs })) (update_of (offset_of t.start.value)) most_blocks no_update
     (bit t.s) t.initial.cur t.l t.timing.updates t.cur t.i
 
 abbrev pub decreases-loop-i : goal.decreases-loop-i
