@@ -4,7 +4,8 @@ ghost use Rattle.oamd.specs.declared.Scene.{Scene};
 ghost use Rattle.oamd.specs.declared.Status.TheVariants.{Full, Mixed};
 ghost use Rattle.scenes.specs.Found.{LevelsFound};
 
-use crate::{Levels, LevelsLook};
+use crate::Levels;
+use bits::Sighted;
 use oamd::{Scene, Status};
 
 fn full_levels(x: u64, o: u32, gainbefore: u8) -> Sighted<Levels>
@@ -12,13 +13,11 @@ fn full_levels(x: u64, o: u32, gainbefore: u8) -> Sighted<Levels>
     ensures { (before : Scene) → LevelsFound Full before gainbefore x o result }
 {
     let g = syntax::look_gain(x, o);
-    let gain = g.gain;
     let p = syntax::look_priority(x, g.off);
-    let priority = p.priority;
     Sighted {
         value: Levels {
-            gain: meaning::gain_of(gain, gainbefore),
-            priority: meaning::priority_of(priority),
+            gain: meaning::gain_of(g.value, gainbefore),
+            priority: meaning::priority_of(p.value),
         },
         off: p.off,
     }
@@ -30,17 +29,15 @@ fn mixed_levels(x: u64, o: u32, before: Scene, gainbefore: u8) -> Sighted<Levels
     ensures { LevelsFound Mixed before gainbefore x o result }
 {
     let parts = bits::look(x, o, 2);
-    let gained = oamd::has_gain(parts.v);
-    let ranked = oamd::has_priority(parts.v);
+    let gained = oamd::has_gain(parts.value);
+    let ranked = oamd::has_priority(parts.value);
     let g = syntax::look_gain(x, parts.off);
-    let gain = g.gain;
     let priority_off = bits::pick(gained, g.off, parts.off);
     let p = syntax::look_priority(x, priority_off);
-    let priority = p.priority;
     Sighted {
         value: Levels {
-            gain: bits::pick(gained, meaning::gain_of(gain, gainbefore), before.gain),
-            priority: bits::pick(ranked, meaning::priority_of(priority), before.priority),
+            gain: bits::pick(gained, meaning::gain_of(g.value, gainbefore), before.gain),
+            priority: bits::pick(ranked, meaning::priority_of(p.value), before.priority),
         },
         off: bits::pick(ranked, p.off, priority_off),
     }

@@ -9,8 +9,8 @@ ghost use Rattle.scenes.specs.Resolved.{active_scene, resolved_block};
 
 use crate::basic::levels_in;
 use crate::render::shown_in;
-use crate::{Levels, SceneLook, SceneStep};
-use bits::{Cur, Limit};
+use crate::{Levels, SceneLook};
+use bits::{Cur, Limit, Step};
 use meaning::Shown;
 use oamd::Scene;
 use units::BitPos;
@@ -18,19 +18,15 @@ use units::BitPos;
 fn active_scene(class: u8, levels: Levels, shown: Shown) -> Scene
     ensures { result ≡ active_scene class levels shown }
 {
-    let location = shown.location;
-    let volume = shown.volume;
-    let zone = shown.zone;
-    let screen = shown.screen;
     Scene {
         active: 1,
         class,
         gain: levels.gain,
         priority: levels.priority,
-        location,
-        volume,
-        zone,
-        screen,
+        location: shown.location,
+        volume: shown.volume,
+        zone: shown.zone,
+        screen: shown.screen,
         snap: shown.snap,
     }
 }
@@ -43,7 +39,7 @@ fn look_scene(s: &[u8], at: BitPos, class: u8, blk: u32, before: Scene, gainbefo
     let p = at.raw();
     let x = bits::window(s, at);
     let idle = bits::look(x, p % 8, 1);
-    if idle.v == 1 {
+    if idle.value == 1 {
         return SceneLook {
             scene: meaning::idle(class),
             to: syntax::look_additional(s, p + 1),
@@ -52,15 +48,11 @@ fn look_scene(s: &[u8], at: BitPos, class: u8, blk: u32, before: Scene, gainbefo
     }
     let first = blk == 0;
     let basic = syntax::look_status(x, idle.off, false, first);
-    let basic_status = basic.status;
-    let b = levels_in(x, basic.off, basic_status, before, gainbefore);
-    let levels = b.levels;
+    let b = levels_in(x, basic.off, basic.value, before, gainbefore);
     let render = syntax::look_status(x, b.off, class != 2, first);
-    let render_status = render.status;
-    let n = shown_in(s, p - p % 8, x, render.off, render_status, first, before);
-    let shown = n.shown;
+    let n = shown_in(s, p - p % 8, x, render.off, render.value, first, before);
     SceneLook {
-        scene: active_scene(class, levels, shown),
+        scene: active_scene(class, b.value, n.shown),
         to: syntax::look_additional(s, n.to),
         good: n.good,
     }
@@ -76,14 +68,12 @@ fn read_fields(
     before: Scene,
     gainbefore: u8,
 ) -> Step<Scene>
-    ensures { Gave (resolved_block class blk before gainbefore) (bit s.now) c l result.scene result.cur }
+    ensures { Gave (resolved_block class blk before gainbefore) (bit s.now) c l result.value result.cur }
 {
     let step = syntax::read_block(s, l, c, class, blk);
-    let block = step.block;
-    let cur = step.cur;
     Step {
-        value: meaning::resolved(before, gainbefore, block),
-        cur,
+        value: meaning::resolved(before, gainbefore, step.value),
+        cur: step.cur,
     }
 }
 
@@ -97,7 +87,7 @@ pub fn read_scene(
     blockbefore: Scene,
     gainbefore: u8,
 ) -> Step<Scene>
-    ensures { Gave (resolved_block class blk blockbefore gainbefore) (bit s.now) c l result.scene result.cur }
+    ensures { Gave (resolved_block class blk blockbefore gainbefore) (bit s.now) c l result.value result.cur }
 {
     let at = c.at;
     if c.no == 0 {
@@ -105,9 +95,8 @@ pub fn read_scene(
             let look = look_scene(s, at, class, blk, blockbefore, gainbefore);
             if look.to <= l.end.raw() {
                 if look.good {
-                    let scene = look.scene;
                     return Step {
-                        value: scene,
+                        value: look.scene,
                         cur: Cur {
                             missing: c.missing,
                             v: 0,

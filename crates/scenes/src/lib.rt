@@ -2,7 +2,6 @@
 // reserved code, is read field by field, and then resolved.
 #![tactic(auto)]
 
-use bits::Cur;
 use meaning::Shown;
 use oamd::Scene;
 
@@ -12,7 +11,6 @@ mod block; // block.rt: the whole block
 
 pub use block::read_scene;
 
-// The scene of a block, and where reading stands behind it.
 // What object_basic_info gives of a scene.
 #[derive(Clone, Copy)]
 pub struct Levels {

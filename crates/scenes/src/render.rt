@@ -15,27 +15,21 @@ fn full_shown(s: &[u8], base: u32, x: u64, o: u32, first: bool, before: Scene) -
     ensures { ShownFound Full first before (bit s.now) (base + o) result }
 {
     let p = syntax::look_position(x, o, first);
-    let position = p.position;
     let d = syntax::look_distance(x, p.off);
-    let distance = d.distance;
-    let location = before.location;
     let at = base + d.off;
     let y = bits::window(s, BitPos::new(at));
     let z = syntax::look_zone(y, at % 8);
-    let zone = z.zone;
     let e = syntax::look_extent(y, z.off);
-    let extent = e.extent;
     let n = syntax::look_screen(y, e.off);
-    let screen = n.screen;
     let snap = bits::look(y, n.off, 1);
     let to = at - at % 8 + snap.off;
     ShownLook {
         shown: Shown {
-            location: meaning::location_of(position, meaning::distance_of(distance), location),
-            volume: meaning::volume_of(extent),
-            zone,
-            screen,
-            snap: snap.v as u8,
+            location: meaning::location_of(p.value, meaning::distance_of(d.value), before.location),
+            volume: meaning::volume_of(e.extent),
+            zone: z.zone,
+            screen: n.value,
+            snap: snap.value as u8,
         },
         to,
         good: bits::both(z.good, e.good),
@@ -49,34 +43,28 @@ fn mixed_shown(s: &[u8], base: u32, x: u64, o: u32, first: bool, before: Scene) 
 {
     let parts = bits::look(x, o, 4);
     let p = syntax::look_position(x, parts.off, first);
-    let position = p.position;
     let d = syntax::look_distance(x, p.off);
-    let distance = d.distance;
-    let location = before.location;
-    let at = base + bits::pick(oamd::has_position(parts.v), d.off, parts.off);
+    let at = base + bits::pick(oamd::has_position(parts.value), d.off, parts.off);
     let y = bits::window(s, BitPos::new(at));
-    let zoned = oamd::has_zone(parts.v);
+    let zoned = oamd::has_zone(parts.value);
     let z = syntax::look_zone(y, at % 8);
-    let zone = z.zone;
-    let sized = oamd::has_size(parts.v);
+    let sized = oamd::has_size(parts.value);
     let extent_off = bits::pick(zoned, z.off, at % 8);
     let e = syntax::look_extent(y, extent_off);
-    let extent = e.extent;
     let screen_off = bits::pick(sized, e.off, extent_off);
     let n = syntax::look_screen(y, screen_off);
-    let screen = n.screen;
-    let snap_off = bits::pick(oamd::has_screen(parts.v), n.off, screen_off);
+    let snap_off = bits::pick(oamd::has_screen(parts.value), n.off, screen_off);
     let snap = bits::look(y, snap_off, 1);
     let to = at - at % 8 + snap.off;
     let sent = Shown {
-        location: meaning::location_of(position, meaning::distance_of(distance), location),
-        volume: meaning::volume_of(extent),
-        zone,
-        screen,
-        snap: snap.v as u8,
+        location: meaning::location_of(p.value, meaning::distance_of(d.value), before.location),
+        volume: meaning::volume_of(e.extent),
+        zone: z.zone,
+        screen: n.value,
+        snap: snap.value as u8,
     };
     ShownLook {
-        shown: meaning::mixed_shown(before, parts.v, sent),
+        shown: meaning::mixed_shown(before, parts.value, sent),
         to,
         good: bits::both(bits::either(!zoned, z.good), bits::either(!sized, e.good)),
     }

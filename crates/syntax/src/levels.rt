@@ -4,8 +4,7 @@ ghost use Rattle.bits.specs.Language.{bit, widest_field};
 ghost use Rattle.bits.specs.View.{Reads, Took};
 ghost use Rattle.oamd.specs.Block.{status_of, status_idx, parts_of, object_basic_info};
 
-use crate::{BasicStep, StatusStep};
-use bits::{Cur, Limit};
+use bits::{Cur, Limit, Step};
 use oamd::{Basic, Gain, Priority, Status};
 
 pub fn status_of(code: u32) -> Status
@@ -21,7 +20,7 @@ pub fn status_of(code: u32) -> Status
 
 // Default where nothing can be sent, full in the first block, else 2 bits.
 pub fn read_status(s: &[u8], l: Limit, c: Cur, none: bool, first: bool) -> Step<Status>
-    ensures { Reads (status_idx none first) (bit s.now) c l result.status result.cur }
+    ensures { Reads (status_idx none first) (bit s.now) c l result.value result.cur }
 {
     if none {
         return Step {
@@ -36,8 +35,10 @@ pub fn read_status(s: &[u8], l: Limit, c: Cur, none: bool, first: bool) -> Step<
         };
     }
     let code = bits::take(s, l, c, 2);
-    let status = status_of(code.v);
-    Step { value: status, cur: code }
+    Step {
+        value: status_of(code.v),
+        cur: code,
+    }
 }
 
 // Which parts of a group are sent: all of them, as w bits say, or none.
@@ -54,7 +55,7 @@ pub fn read_parts(s: &[u8], l: Limit, c: Cur, status: Status, all: u32, w: u32) 
 }
 
 pub fn read_basic(s: &[u8], l: Limit, c: Cur, status: Status) -> Step<Basic>
-    ensures { Reads (object_basic_info status) (bit s.now) c l result.basic result.cur }
+    ensures { Reads (object_basic_info status) (bit s.now) c l result.value result.cur }
 {
     let parts = read_parts(s, l, c, status, 3, 2);
     let index = bits::take_if(oamd::has_gain(parts.v), s, l, parts, 2);

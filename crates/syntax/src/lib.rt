@@ -2,11 +2,7 @@
 // nothing is read, and the cursor keeps that refusal.
 #![tactic(auto)]
 
-use bits::Cur;
-use oamd::{
-    Basic, Bed, Block, BlockUpdate, Distance, Divergence, Extent, Frame, Gain, MOST_BEDS, Offset,
-    Position, Precise, Priority, Programme, Render, Screen, Status, TrimConfig, Zone,
-};
+use oamd::{Bed, Extent, MOST_BEDS, Zone};
 
 mod header; // header.rt: what stands before the elements
 mod programme; // programme.rt: the program assignment
@@ -30,25 +26,31 @@ pub use timing::{read_offset, read_update};
 pub use trim::read_trim_config;
 pub use view::{look_distance, look_extent, look_position, look_screen, look_zone};
 
-// Each step: what was read, and where reading stands behind it.
+// The beds of a programme, as many of the array as the count says.
 #[derive(Clone, Copy)]
-pub struct BedsStep {
+pub struct Beds {
     pub distribute: u8,
     pub multiple: u8,
     pub instances: u8,
     pub count: u8,
     pub beds: [Bed; MOST_BEDS],
-    pub cur: Cur,
 }
 
-// Each look: what was seen in a window, and where in it the next field begins; good, unless a reserved code was met.
+// A balance of a trim configuration.
 #[derive(Clone, Copy)]
-pub struct PairLook {
+pub struct Balance {
+    pub sign: u8,
+    pub amount: u8,
+}
+
+// A code, and what stands behind it.
+#[derive(Clone, Copy)]
+pub struct Coded {
     pub code: u8,
     pub more: u8,
-    pub off: u32,
 }
 
+// What was seen in a window, and where in it the next field begins; good, unless a reserved code was met.
 #[derive(Clone, Copy)]
 pub struct ZoneLook {
     pub zone: Zone,
@@ -62,11 +64,3 @@ pub struct ExtentLook {
     pub off: u32,
     pub good: bool,
 }
-
-#[derive(Clone, Copy)]
-pub struct BalanceStep {
-    pub sign: u8,
-    pub amount: u8,
-    pub cur: Cur,
-}
-

@@ -5,12 +5,11 @@ ghost use Rattle.std.specs.Prelude.{◌≡◌};
 ghost use Rattle.oamd.specs.Block.{differences, coordinates, position, distance, zone, extent, screen, sends, object_render_info};
 
 use crate::levels::read_parts;
-use crate::{DistanceStep, ExtentStep, PositionStep, RenderStep, ScreenStep, ZoneStep};
-use bits::{Cur, Limit};
+use bits::{Cur, Limit, Step};
 use oamd::{Distance, Extent, Position, Render, Screen, Status, Zone};
 
 fn read_differences(s: &[u8], l: Limit, c: Cur) -> Step<Position>
-    ensures { Reads differences (bit s.now) c l result.position result.cur }
+    ensures { Reads differences (bit s.now) c l result.value result.cur }
 {
     let x = bits::take(s, l, c, 3);
     let y = bits::take(s, l, x, 3);
@@ -22,7 +21,7 @@ fn read_differences(s: &[u8], l: Limit, c: Cur) -> Step<Position>
 }
 
 fn read_coordinates(s: &[u8], l: Limit, c: Cur) -> Step<Position>
-    ensures { Reads coordinates (bit s.now) c l result.position result.cur }
+    ensures { Reads coordinates (bit s.now) c l result.value result.cur }
 {
     let x = bits::take(s, l, c, 6);
     let y = bits::take(s, l, x, 6);
@@ -35,7 +34,7 @@ fn read_coordinates(s: &[u8], l: Limit, c: Cur) -> Step<Position>
 }
 
 fn read_position(s: &[u8], l: Limit, c: Cur, on: bool, first: bool) -> Step<Position>
-    ensures { Reads (position on first) (bit s.now) c l result.position result.cur }
+    ensures { Reads (position on first) (bit s.now) c l result.value result.cur }
 {
     let moved = bits::take_if(bits::both(on, !first), s, l, c, 1);
     if on {
@@ -53,7 +52,7 @@ fn read_position(s: &[u8], l: Limit, c: Cur, on: bool, first: bool) -> Step<Posi
 }
 
 fn read_distance(s: &[u8], l: Limit, c: Cur, on: bool) -> Step<Distance>
-    ensures { Reads (distance on) (bit s.now) c l result.distance result.cur }
+    ensures { Reads (distance on) (bit s.now) c l result.value result.cur }
 {
     let given = bits::take_if(on, s, l, c, 1);
     let infinite = bits::take_if(given.v == 1, s, l, given, 1);
@@ -69,7 +68,7 @@ fn read_distance(s: &[u8], l: Limit, c: Cur, on: bool) -> Step<Distance>
 }
 
 fn read_zone(s: &[u8], l: Limit, c: Cur, on: bool) -> Step<Zone>
-    ensures { Reads (zone on) (bit s.now) c l result.zone result.cur }
+    ensures { Reads (zone on) (bit s.now) c l result.value result.cur }
 {
     let index = bits::take_unless(on, s, l, c, 3, 6, 7);
     let elevation = bits::take_if(on, s, l, index, 1);
@@ -83,7 +82,7 @@ fn read_zone(s: &[u8], l: Limit, c: Cur, on: bool) -> Step<Zone>
 }
 
 fn read_extent(s: &[u8], l: Limit, c: Cur, on: bool) -> Step<Extent>
-    ensures { Reads (extent on) (bit s.now) c l result.extent result.cur }
+    ensures { Reads (extent on) (bit s.now) c l result.value result.cur }
 {
     let index = bits::take_unless(on, s, l, c, 2, 3, 3);
     let all = bits::take_if(index.v == 1, s, l, index, 5);
@@ -103,7 +102,7 @@ fn read_extent(s: &[u8], l: Limit, c: Cur, on: bool) -> Step<Extent>
 }
 
 fn read_screen(s: &[u8], l: Limit, c: Cur, on: bool) -> Step<Screen>
-    ensures { Reads (screen on) (bit s.now) c l result.screen result.cur }
+    ensures { Reads (screen on) (bit s.now) c l result.value result.cur }
 {
     let used = bits::take_if(on, s, l, c, 1);
     let factor = bits::take_if(used.v == 1, s, l, used, 3);
@@ -131,30 +130,25 @@ pub fn sends_any(status: Status) -> bool
 }
 
 pub fn read_render(s: &[u8], l: Limit, c: Cur, status: Status, first: bool) -> Step<Render>
-    ensures { Reads (object_render_info status first) (bit s.now) c l result.render result.cur }
+    ensures { Reads (object_render_info status first) (bit s.now) c l result.value result.cur }
 {
     let parts = read_parts(s, l, c, status, 15, 4);
     let positioned = oamd::has_position(parts.v);
     let p = read_position(s, l, parts, positioned, first);
-    let position = p.position;
     let d = read_distance(s, l, p.cur, positioned);
-    let distance = d.distance;
     let z = read_zone(s, l, d.cur, oamd::has_zone(parts.v));
-    let zone = z.zone;
     let e = read_extent(s, l, z.cur, oamd::has_size(parts.v));
-    let extent = e.extent;
     let n = read_screen(s, l, e.cur, oamd::has_screen(parts.v));
-    let screen = n.screen;
     let snap = bits::take_if(sends_any(status), s, l, n.cur, 1);
     Step {
         value: Render {
             status,
             parts: parts.v as u8,
-            position,
-            distance,
-            zone,
-            extent,
-            screen,
+            position: p.value,
+            distance: d.value,
+            zone: z.value,
+            extent: e.value,
+            screen: n.value,
             snap: snap.v as u8,
         },
         cur: snap,

@@ -3,12 +3,11 @@ ghost use Rattle.bits.specs.Language.{bit};
 ghost use Rattle.bits.specs.View.{Gave};
 ghost use Rattle.oamd.specs.Timing.{sample_offset, block_update_info};
 
-use crate::{OffsetStep, UpdateStep};
-use bits::{Cur, Limit};
+use bits::{Cur, Limit, Step};
 use oamd::{BlockUpdate, Offset};
 
 pub fn read_offset(s: &[u8], l: Limit, c: Cur) -> Step<Offset>
-    ensures { Gave sample_offset (bit s.now) c l result.offset result.cur }
+    ensures { Gave sample_offset (bit s.now) c l result.value result.cur }
 {
     let code = bits::take_unless(true, s, l, c, 2, 3, 3);
     let index = bits::take_if(code.v == 1, s, l, code, 2);
@@ -24,7 +23,7 @@ pub fn read_offset(s: &[u8], l: Limit, c: Cur) -> Step<Offset>
 }
 
 pub fn read_update(s: &[u8], l: Limit, c: Cur) -> Step<BlockUpdate>
-    ensures { Gave block_update_info (bit s.now) c l result.update result.cur }
+    ensures { Gave block_update_info (bit s.now) c l result.value result.cur }
 {
     let factor = bits::take(s, l, c, 6);
     let code = bits::take(s, l, factor, 2);

@@ -4,25 +4,27 @@ ghost use Rattle.bits.specs.View.{Gave};
 ghost use Rattle.oamd.specs.Trim.{trim_config};
 ghost use Rattle.syntax.specs.Trim.{BalanceRead};
 
-use crate::{BalanceStep, TrimConfigStep};
-use bits::{Cur, Limit};
+use crate::Balance;
+use bits::{Cur, Limit, Step};
 use oamd::TrimConfig;
 
 // A balance, if it is sent: its sign and its amount.
-fn read_balance(s: &[u8], l: Limit, c: Cur, on: bool) -> BalanceStep
+fn read_balance(s: &[u8], l: Limit, c: Cur, on: bool) -> Step<Balance>
     ensures { BalanceRead on (bit s.now) c l result }
 {
     let sign = bits::take_if(on, s, l, c, 1);
     let amount = bits::take_if(on, s, l, sign, 4);
-    BalanceStep {
-        sign: sign.v as u8,
-        amount: amount.v as u8,
+    Step {
+        value: Balance {
+            sign: sign.v as u8,
+            amount: amount.v as u8,
+        },
         cur: amount,
     }
 }
 
 pub fn read_trim_config(s: &[u8], l: Limit, c: Cur) -> Step<TrimConfig>
-    ensures { Gave trim_config (bit s.now) c l result.config result.cur }
+    ensures { Gave trim_config (bit s.now) c l result.value result.cur }
 {
     let bydefault = bits::take(s, l, c, 1);
     let disabled = bits::take_if(bydefault.v == 0, s, l, bydefault, 1);
@@ -41,10 +43,10 @@ pub fn read_trim_config(s: &[u8], l: Limit, c: Cur) -> Step<TrimConfig>
             centre: centre.v as u8,
             surround: surround.v as u8,
             height: height.v as u8,
-            tbsign: tb.sign,
-            tbamount: tb.amount,
-            lissign: lis.sign,
-            lisamount: lis.amount,
+            tbsign: tb.value.sign,
+            tbamount: tb.value.amount,
+            lissign: lis.value.sign,
+            lisamount: lis.value.amount,
         },
         cur: bits::with_value(lis.cur, 0),
     }

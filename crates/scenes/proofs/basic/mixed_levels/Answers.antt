@@ -19,7 +19,7 @@ returns c =
     let gain-sent = c.has_gain-gained.ensures in
     let rank-sent = c.has_priority-ranked.ensures in
     let gain = pair-taken gain-sent (λ u i. bits_if (eqb i 2) 6) c.pick-priority_off.ensures c.look_gain-g.ensures looks-give in
-    let rank = pair-taken rank-sent (λ u d. bits_if (both u (clear? d)) 5) c.pick.ensures c.look_priority-p.ensures looks-give in
+    let rank = pair-taken rank-sent (λ u d. bits_if (both u (clear? d)) 5) c.pick-3.ensures c.look_priority-p.ensures looks-give in
     record {
       coded = _;
       held = record {

@@ -50,13 +50,13 @@ returns c =
     let screen-told = c.has_screen.ensures in
     let looked : Render = record {
       status = Mixed;
-      parts = c.look-parts.result.v;
-      position = c.look_position-p.result.position;
-      distance = c.look_distance-d.result.distance;
+      parts = c.look-parts.result.value;
+      position = c.look_position-p.result.value;
+      distance = c.look_distance-d.result.value;
       zone = c.look_zone-z.result.zone;
       extent = c.look_extent-e.result.extent;
-      screen = c.look_screen-n.result.screen;
-      snap = c.look-snap.result.v;
+      screen = c.look_screen-n.result.value;
+      snap = c.look-snap.result.value;
     } in
     record {
       coded = sent_alone looked;

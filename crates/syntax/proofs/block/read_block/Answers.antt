@@ -19,10 +19,10 @@ returns c =
     record {
       reads = c.take-idle.ensures.reads
           ▸ c.read_status-level.ensures
-          ▸ c.read_basic-b.ensures
+          ▸ c.read_basic-basic.ensures
           ▸ (rw e at c.read_status-shown.ensures)
-          ▸ c.read_render-n.ensures
-          ▸ c.pass_additional-cur.ensures.reads
+          ▸ c.read_render-render.ensures
+          ▸ c.pass_additional.ensures.reads
           ▸ plain;
-      empty = c.pass_additional-cur.ensures.empty;
+      empty = c.pass_additional.ensures.empty;
     }
