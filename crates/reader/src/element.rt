@@ -124,7 +124,10 @@ fn read_body(
     if let Kind::Unknown = kind {
         let mut state = st;
         state.unknown += 1;
-        return Step { value: state, cur: c };
+        return Step {
+            value: state,
+            cur: c,
+        };
     }
     read_known(s, l, c, scope, st, kind, back, out, table)
 }

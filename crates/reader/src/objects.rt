@@ -3,9 +3,9 @@ ghost use Rattle.bits.specs.Language.{bit};
 ghost use Rattle.reader.specs.Rooms.{ObjectRoom, ObjectsRoom, ElementRoom};
 ghost use Rattle.reader.specs.Steps.{ObjectRead, ObjectsRead, ElementRead};
 
+use crate::Scope;
 use crate::layout::gain_of_object_before;
 use crate::timing::read_timing;
-use crate::Scope;
 use bits::{Cur, Limit, Step};
 use oamd::{RECORD_BYTES, Timing};
 
