@@ -200,15 +200,13 @@ pub fn read_elements(
 {
     let mut state = st;
     let mut cur = c;
-    let mut i: u32 = 0;
-    while i < n {
+    for i in 0..n {
         if cur.no != 0 {
             return Step { value: state, cur };
         }
         let step = read_element(s, l, cur, scope, state, out, table);
         state = step.value;
         cur = step.cur;
-        i = i + 1;
     }
     Step { value: state, cur }
 }

@@ -4,9 +4,9 @@
 ghost use Rattle.std.specs.Prelude.{◌≡◌};
 ghost use Rattle.oamd.specs.Answer.{reading};
 
-use crate::layout::FEW_OBJECTS;
+use crate::layout::{FEW_BYTES, FEW_OBJECTS};
 use bits::{Cur, Refusal};
-use oamd::{Gone, MOST_BYTES, MOST_ELEMENTS, Programme, ReadAnswer, Shares, Timing};
+use oamd::{Gone, MOST_BYTES, MOST_ELEMENTS, Programme, ReadAnswer, SCRATCH_BYTES, Shares, Timing};
 use units::BitPos;
 
 mod timing; // timing.rt: starts and ramps of all blocks
@@ -94,8 +94,8 @@ pub fn read(payload: &[u8], frame: u32, records: &mut [u8], trim: &mut [u8]) -> 
     }
     let head = payload::read_head(payload);
     if head.value.programme.objects <= FEW_OBJECTS {
-        keeping::read_few(payload, head, frame, records, trim)
+        keeping::read_in::<FEW_BYTES>(payload, head, frame, records, trim)
     } else {
-        keeping::read_many(payload, head, frame, records, trim)
+        keeping::read_in::<SCRATCH_BYTES>(payload, head, frame, records, trim)
     }
 }

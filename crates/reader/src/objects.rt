@@ -25,16 +25,13 @@ fn read_object(
     let back = RECORD_BYTES * blocks;
     let mut scene = meaning::idle(0);
     let mut cur = c;
-    let mut at = from;
-    let mut i: usize = 0;
-    while i < blocks {
+    for i in 0..blocks {
+        let at = from + RECORD_BYTES * i;
         let gain = gain_of_object_before(out, at, back);
         let step = scenes::read_scene(s, l, cur, class, i as u32, scene, gain);
         scene = step.value;
         record::store_scene(out, at, scene);
         cur = step.cur;
-        at = at + RECORD_BYTES;
-        i = i + 1;
     }
     cur
 }
@@ -44,19 +41,15 @@ fn read_objects(s: &[u8], l: Limit, c: Cur, scope: Scope, blocks: usize, out: &m
     requires { ObjectsRoom scope.objects blocks out.old }
     ensures { ObjectsRead scope.objects scope.shares blocks (bit s.now) c l out.old result out.new }
 {
-    let shares = scope.shares;
-    let n = scope.objects;
     let mut cur = c;
     let mut at: usize = 0;
-    let mut j: usize = 0;
-    while j < n {
+    for j in 0..scope.objects {
         if cur.no != 0 {
             return cur;
         }
-        let class = meaning::class_of(shares, j as u32);
+        let class = meaning::class_of(scope.shares, j as u32);
         cur = read_object(s, l, cur, class, blocks, at, out);
-        at = at + RECORD_BYTES * blocks;
-        j = j + 1;
+        at += RECORD_BYTES * blocks;
     }
     cur
 }

@@ -9,7 +9,6 @@ ghost use Rattle.reader.specs.Turns.{Turning, Refused, Dropped, TurnRead, Counte
 
 use crate::answers::missing_bits;
 use crate::element::{nothing_read, read_element};
-use crate::layout::all_room;
 use crate::payload::{limit_of, read_head, scope_of};
 use crate::trim::no_trim;
 use crate::{Header, Scope, Sifted, State, Turn};
@@ -135,7 +134,7 @@ fn sift_elements(s: &[u8], l: Limit, head: Step<Header>, count: Cur) -> Sifted
     ensures { result ≡ sifted s.now }
 {
     let scope = scope_of(head.value);
-    let mut scratch = all_room();
+    let mut scratch = [0u8; SCRATCH_BYTES];
     let mut table = no_trim();
     let mut state = nothing_read();
     let mut gone = none_gone();

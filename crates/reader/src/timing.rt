@@ -13,12 +13,10 @@ pub fn read_timing(s: &[u8], l: Limit, c: Cur) -> Step<Timing>
     let n = count.v as usize + 1;
     let mut timing = meaning::no_timing();
     let mut cur = count;
-    let mut i: usize = 0;
-    while i < n {
+    for i in 0..n {
         let step = syntax::read_update(s, l, cur);
         timing.updates[i] = meaning::update_of(start.value, step.value);
         cur = step.cur;
-        i = i + 1;
     }
     timing.blocks = n as u8;
     Step { value: timing, cur }

@@ -11,8 +11,8 @@ behind : (c : After-take-refined)
     → PassedIf (set? c.take-diverging.result.v) obj_div_block with_divergence no_divergence c.args.n (bit c.args.s.now) c.take-diverging.result c.args.l c.args.out.now c.if-diverging-eq1.behind c.if-diverging-eq1.out
 behind c =
     elim c.if-diverging-eq1.branch [
-      then-diverging-eq1 w ↦ rw (w.out-is, w.behind-is) (taken _ _ w.if-diverging-eq1.true w.read_extras-behind.ensures)
-    | else-diverging-eq1 w ↦ rw (w.out-is, w.behind-is) (passed _ _ w.if-diverging-eq1.false)
+      | then-diverging-eq1 w ↦ rw (w.out-is, w.behind-is) (taken _ _ w.if-diverging-eq1.true w.read_extras-behind.ensures)
+      | else-diverging-eq1 w ↦ rw (w.out-is, w.behind-is) (passed _ _ w.if-diverging-eq1.false)
     ]
 
 pub returns-then-refined-eq1 : goal.returns-then-refined-eq1

@@ -1,12 +1,12 @@
-use Rattle.std.proofs.Common.{arith, length, ◌+◌, ◌≤◌}
+use Rattle.std.proofs.Common.{arith, length, ◌+◌, ◌*◌, ◌≤◌}
 use Rattle.oamd.specs.Tables.{record_bytes}
 use Rattle.reader.proofs.ObjectLoop.{enter, turn, leave}
 use Rattle.reader.proofs.objects.read_object.Goals as goal
 use Rattle.reader.proofs.objects.read_object.Goals.{In-loop-i}
 
 -- in a turn the record fits
-fits : (c : In-loop-i) → c.loop-i.at + record_bytes ≤ length c.loop-i.out
-fits c = omega (arith, c.loop-i.invariant.place, c.loop-i.invariant.size, c.requires.fits)
+fits : (c : In-loop-i) → c.args.from + record_bytes * c.loop-i.i + record_bytes ≤ length c.loop-i.out
+fits c = omega (arith, c.loop-i.invariant.size, c.requires.fits)
 
 pub loop-i-init : goal.loop-i-init
 loop-i-init c =

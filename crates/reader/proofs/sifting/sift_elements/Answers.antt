@@ -1,11 +1,11 @@
-use Rattle.std.proofs.Common.{arith, inl, inr}
+use Rattle.std.proofs.Common.{arith, inl, inr, rules}
 use Rattle.reader.proofs.SiftLoop.{pass_start, pass_stops, pass_on, refused_there, sifted_there}
 use Rattle.reader.proofs.sifting.sift_elements.Goals as goal
 use Rattle.reader.proofs.sifting.sift_elements.Goals.{else-turn, then-turn}
 
 pub loop-i-init : goal.loop-i-init
 loop-i-init c =
-    pass_start c.requires c.nothing_read-state.ensures c.none_gone-gone.ensures c.all_room-scratch.ensures c.no_trim-table.ensures.0 c.no_trim-table.ensures.1
+    pass_start c.requires c.nothing_read-state.ensures c.none_gone-gone.ensures (search rules) c.no_trim-table.ensures.0 c.no_trim-table.ensures.1
 
 pub returns-then-cur-ne0 : goal.returns-then-cur-ne0
 returns-then-cur-ne0 c =
