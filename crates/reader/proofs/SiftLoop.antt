@@ -9,7 +9,7 @@ use native.Mathlib.Nat.{sub-zero}
 use lib.Dec.{eqb}
 use lib.ListN.{length, set, replicate, length-append}
 use borrow.Author.Tests.{le-leb, lt-leb, eq-eqb, ne_eqb}
-use Rattle.units.specs.declared.BitPos.{BitPos}
+use Rattle.std.specs.Prelude.{Option, Some, None, Ok, Err}
 use Rattle.bits.specs.declared.Cur.{Cur}
 use Rattle.bits.specs.declared.Limit.{Limit}
 use Rattle.bits.specs.declared.Refusal.TheVariants.{TooLong}
@@ -28,23 +28,15 @@ use Rattle.oamd.specs.Element as element
 use Rattle.oamd.specs.Element.{Known, nothing, framed, frame}
 use Rattle.oamd.specs.Payload.{oa_element_count, header}
 use Rattle.oamd.specs.Sift.{Sifting, stopped, dropping, behind, gone_at, sift, Sieve, sieve}
-use Rattle.oamd.specs.Answer.{missing_of}
 use Rattle.reader.specs.declared.Header.{Header}
 use Rattle.reader.specs.declared.Scope.{Scope}
 use Rattle.reader.specs.declared.State.{State}
 use Rattle.reader.specs.declared.Turn.{Turn}
 use Rattle.reader.specs.Layout.{no_trim_bytes}
-use Rattle.reader.specs.Sifts.{no_gone, filled, unsifted, sifted_by, sifted_from, sifted}
+use Rattle.reader.specs.Sifts.{no_gone, filled, unsifted, refusal_of, sifted_by, sifted_from, sifted}
 use Rattle.reader.specs.Steps.{Buffers, lent, nothing_read, Sized, Holding, state_of, OneRead, Headed, scope_of, whole_of}
-use Rattle.reader.specs.Turns.{unless_refused, prepend, drops_of, Turning, Refused, Dropped, Turned, TurnRead, Counted}
+use Rattle.reader.specs.Turns.{unless_refused, prepend, drops_of, Turning, RefusedAt, Dropped, Turned, TurnRead, Counted}
 use Rattle.reader.proofs.ElementLoop.{nothing-held}
-
--- ---- an answer in which nothing stands
-
-pub bare : {number place missing : ℕ} {head body : BitPos} {gone : List Gone} → gone ≡ replicate most_elements no_gone → head.0 ≡ 0 → body.0 ≡ 0
-    → record { place = place; missing = missing; refusal = number; head = head; count = 0; body = body; drops = 0; gone = gone } ≡ unsifted number place missing
-bare {number} {place} {missing} g e f i =
-    record { place = place; missing = missing; refusal = number; head = record { 0 = e i }; count = 0; body = record { 0 = f i }; drops = 0; gone = g i }
 
 -- ---- an element that is refused
 
@@ -64,17 +56,17 @@ id-read alternate b at e d {v = v} h x =
     go true q = value q
     go false q = absurd (no_ok (sym q))
 
-module _ {alternate : ℕ} {st : State} {b : Bits} {c d : Cur} {l : Limit} (asked : Refused l c d) where
+module _ {alternate : ℕ} {st : State} {b : Bits} {c d : Cur} {l : Limit} (asked : RefusedAt l c d) where
   -- it passes the payload's end
-  pub ends-pass : {gone : Gone} → d.no ≡ past_payload → Dropped alternate st b c l d (record { state = st; cur = d; dropped = true; gone = gone })
-  ends-pass e = record { told = refl; state = refl; same = λ k. rw (eq-eqb _ _ e, ne_eqb d.no 0 asked.told) }
+  pub ends-pass : d.no ≡ past_payload → Dropped alternate st b c l d (record { state = st; cur = d; gone = None })
+  ends-pass e = record { state = refl; same = λ k. rw (eq-eqb _ _ e, ne_eqb d.no 0 asked.told) }
 
   -- it is refused for anything else
   pub goes : {f : Frame} {v : ℕ} {id cur : Cur} → (d.no ≡ past_payload → ⊥) → Reads (bits 4) b c l v id → Reads (frame alternate) b c l f cur
       → Dropped alternate st b c l d
-      (record { state = st; cur = cur; dropped = true; gone = record { from = c.at; to = cur.at; place = d.at; id = v; refusal = d.no } })
+      (record { state = st; cur = cur; gone = Some (record { from = c.at; to = cur.at; place = d.at; id = v; refusal = d.no }) })
   goes {f} {v} {id} {cur} h x y =
-      record { told = refl; state = refl; same = λ k. rw (ne_eqb d.no past_payload h) (go k (eqb cur.no 0) (told asked.clean asked.whole y)) }
+      record { state = refl; same = λ k. rw (ne_eqb d.no past_payload h) (go k (eqb cur.no 0) (told asked.clean asked.whole y)) }
     where
       go : (k : ℕ → Sifting) (t : Bool)
           → run (frame alternate) b c.at.0 l.end.0 past_payload ≡ pick t (ok f cur.at.0) (no cur.no cur.at.0 cur.missing)
@@ -88,8 +80,7 @@ module _ {alternate : ℕ} {st : State} {b : Bits} {c d : Cur} {l : Limit} (aske
 
 module _ {scope : Scope} {st : State} {b : Bits} {c : Cur} {l : Limit} {held held' : Buffers} {step : Step State} (asked : Turning l c scope st held)
     (read : OneRead scope st b c l held step held') where
-  pub kept-turn : {gone : Gone} → step.cur.no ≡ 0
-      → TurnRead scope st b c l held (record { state = step.value; cur = step.cur; dropped = false; gone = gone }) held'
+  pub kept-turn : step.cur.no ≡ 0 → TurnRead scope st b c l held (record { state = step.value; cur = step.cur; gone = None }) held'
   unfolding sift
   kept-turn z = record {
     sized = read.sized;
@@ -112,7 +103,7 @@ module _ {scope : Scope} {st : State} {b : Bits} {c : Cur} {l : Limit} {held hel
         let e = told asked.clean asked.whole u.reads in
         record {
           then = known;
-          same = λ n. rw (rw (ne_eqb step.cur.no 0 z) at e, x.told, x.state)
+          same = λ n. rw (rw (ne_eqb step.cur.no 0 z) at e, x.state)
               (x.same (λ to. sift q scope.alternate n (state_of known st.unknown) b to l.end.0));
           holding = rw x.state h;
         };
@@ -123,10 +114,14 @@ module _ {scope : Scope} {st : State} {b : Bits} {c : Cur} {l : Limit} {held hel
 unless-clean : (d : Cur) (x : Sifting) → d.no ≡ 0 → unless_refused d x ≡ x
 unless-clean d x z = rw z
 
+none-left : {A : Type 0} (o : Option A) → ((a : A) → o ≡ Some a → ⊥) → o ≡ None
+none-left None h = refl
+none-left (Some a) h = absurd (h a refl)
+
 -- what the loop makes of an element: it is stored where it is dropped
 abbrev pub Stored : Turn → List Gone → ℕ → List Gone → ℕ → Type 0
 Stored r gone drops gone' drops' =
-    ((r.dropped ≡ true) × (gone' ≡ set gone drops r.gone) × (drops' ≡ drops + 1)) ⊎ ((r.dropped ≡ false) × (gone' ≡ gone) × (drops' ≡ drops))
+    ((one : Gone) × (r.gone ≡ Some one) × (gone' ≡ set gone drops one) × (drops' ≡ drops + 1)) ⊎ (((one : Gone) → r.gone ≡ Some one → ⊥) × (gone' ≡ gone) × (drops' ≡ drops))
 
 -- the elements behind a header, before the one at a bit, where st has been read
 abbrev rest : List ℕ → Step Header → ℕ → element.State → ℕ → Sifting
@@ -220,13 +215,13 @@ module _ {s : List ℕ} {l : Limit} {h : Step Header} {count : Cur} (asked : Cou
         }
           where
             stands : Stored r gone drops gone' drops' → (drops' ≡ length (x.list ++ drops_of r)) × (drops' ≤ i + 1) × (gone' ≡ filled (x.list ++ drops_of r))
-            stands (inl (e, g, n)) =
+            stands (inl (one, e, g, n)) =
                 rw e (
                   simp length-append (omega (arith, n, x.long)),
                   omega (arith, n, x.few),
-                  g ∙ rw x.holds (filled_next most_elements no_gone x.list r.gone drops (sym x.long) (omega (arith, x.few, asked.counts.small))),
+                  g ∙ rw x.holds (filled_next most_elements no_gone x.list one drops (sym x.long) (omega (arith, x.few, asked.counts.small))),
                 )
-            stands (inr (e, g, n)) = rw (e, append-nil x.list) (n ∙ x.long, omega (arith, n, x.few), g ∙ x.holds)
+            stands (inr (e, g, n)) = rw (none-left r.gone e, append-nil x.list) (n ∙ x.long, omega (arith, n, x.few), g ∙ x.holds)
 
     -- none is left
     pass-ends : i ≡ count.v → all s h count ≡ record { gone = x.list; last = ok (state_of x.known st.unknown) cur.at.0 }
@@ -252,22 +247,22 @@ module _ {s : List ℕ} {l : Limit} {h : Step Header} {count : Cur} (asked : Cou
       rw (le-leb (length s) most_bytes asked.headed.short, ran asked.headed.head.reads (begun counts asked.clean), ran counts asked.clean)
 
   -- a refusal ended the pass
-  pub refused_there : {r pl m : ℕ} → (all s h count).last ≡ no r pl m → unsifted r pl (missing_of r m) ≡ sifted s
+  pub refused_there : {r pl m : ℕ} → (all s h count).last ≡ no r pl m → Err (refusal_of r pl m) ≡ sifted s
   refused_there e = sym (sifted-by ∙ ap (sifted_by sieved) e)
 
   -- all elements have been looked at
   pub sifted_there : {t : List ℕ} {st : State} {gone : List Gone} {drops : ℕ} {cur : Cur} {held : Buffers} {i : ℕ} → Passing s h count t i st gone drops cur held → i ≡ count.v
-      → record { place = 0; missing = 0; refusal = 0; head = h.cur.at; count = count.v; body = count.at; drops = drops; gone = gone } ≡ sifted s
+      → Ok (record { head = h.cur.at; count = count.v; body = count.at; drops = drops; gone = gone }) ≡ sifted s
   sifted_there x e = rw (x.long, x.holds) (sym (sifted-by ∙ rw (pass-ends x e)))
 
 -- ---- refused before the elements
 
-pub too_long : (s : List ℕ) → most_bytes < length s → unsifted (number_of TooLong) (length s) 0 ≡ sifted s
+pub too_long : (s : List ℕ) → most_bytes < length s → Err (unsifted (number_of TooLong) (length s) 0) ≡ sifted s
 unfolding sifted
 too_long s h = rw (lt-leb (length s) most_bytes h)
 
 pub uncounted : {s : List ℕ} {l : Limit} {h : Step Header} {n : ℕ} {count : Cur} → Headed s h → l ≡ whole_of s → Reads oa_element_count (bit s) h.cur l n count
-    → (count.no ≡ 0 → ⊥) → unsifted count.no count.at.0 (missing_of count.no count.missing) ≡ sifted s
+    → (count.no ≡ 0 → ⊥) → Err (refusal_of count.no count.at.0 count.missing) ≡ sifted s
 unfolding sifted sieve run
 uncounted {s} {count = count} opened el r z =
     let both = bind {k = λ h. oa_element_count} opened.head.reads (rw el at r) in

@@ -58,28 +58,32 @@ pub struct Parsed {
     pub state: State,
 }
 
-// An element of a pass that drops what is refused: what has been read behind it, where the next one begins or the refusal that ends the pass, and whether and as what
-// it is dropped.
+// An element of a pass that drops what is refused: what has been read behind it, where the next one begins or the refusal that ends the pass, and as what it is dropped,
+// if it is.
 #[derive(Clone, Copy)]
 pub struct Turn {
     pub state: State,
     pub cur: Cur,
-    pub dropped: bool,
-    pub gone: Gone,
+    pub gone: Option<Gone>,
 }
 
 // Which elements of a payload salvage drops: the first bit of the element count, the count, the first bit of the elements, and the elements that go, of which there are
-// `drops`; entries past them are 0. Where a refusal ends the pass all but refusal, place and missing bits is 0.
+// `drops`; entries past them are 0.
 #[derive(Clone, Copy)]
 pub struct Sifted {
-    pub place: u64,
-    pub missing: u32,
-    pub refusal: u8,
     pub head: BitPos,
     pub count: u32,
     pub body: BitPos,
     pub drops: usize,
     pub gone: [Gone; MOST_ELEMENTS],
+}
+
+// The refusal that ends the pass: its number, its place, and how many bits were missing there.
+#[derive(Clone, Copy)]
+pub struct Refused {
+    pub place: u64,
+    pub missing: u32,
+    pub refusal: u8,
 }
 
 // Reads the payload of a frame, by the frame's number. Accepted: the records, each with its time, and the trim table are the first bytes of the lent buffers, and no other
