@@ -84,8 +84,23 @@ pub fn answer_bytes(a: ReadAnswer) -> [u8; ANSWER_BYTES]
     let mut out = [0u8; ANSWER_BYTES];
     lay(&mut out, 0, a.place.to_le_bytes());
     lay(&mut out, 8, [a.refusal, a.unknown, 0, 0]);
-    lay(&mut out, 12, [p.objects, p.dynonly, p.lfe, p.content, p.distribute, p.multiple]);
-    lay(&mut out, 18, [p.instances, p.bedcount, p.isf, p.dynamics, 0, 0]);
+    lay(
+        &mut out,
+        12,
+        [
+            p.objects,
+            p.dynonly,
+            p.lfe,
+            p.content,
+            p.distribute,
+            p.multiple,
+        ],
+    );
+    lay(
+        &mut out,
+        18,
+        [p.instances, p.bedcount, p.isf, p.dynamics, 0, 0],
+    );
     store_each(&mut out, 24, beds);
     lay(&mut out, 96, [timing.blocks, 0]);
     store_each(&mut out, 98, updates);
