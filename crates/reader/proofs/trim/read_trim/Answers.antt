@@ -1,8 +1,8 @@
-use Rattle.std.proofs.Common.{arith, refl, ap, sym, ◌∙◌, length, set, eqb, eq-eqb, ne_eqb}
+use Rattle.std.proofs.Common.{arith, refl, ap, sym, ◌∙◌, length, set, eqb}
 use Rattle.bits.specs.Language.{bit}
 use Rattle.oamd.specs.Trim.{configs_bytes_of}
 use Rattle.reader.specs.Steps.{ConfigsRead}
-use Rattle.reader.proofs.TrimLoop.{absent, trimming}
+use Rattle.reader.proofs.TrimLoop.{sent, unsent, trimming}
 use Rattle.reader.proofs.trim.read_trim.Goals as goal
 use Rattle.reader.proofs.trim.read_trim.Goals.{After-take-flagged, then-mode-eq2, else-mode-eq2}
 
@@ -13,20 +13,19 @@ behind : (c : After-take-flagged)
 unfolding configs_bytes_of
 behind c =
     elim c.if-mode-eq2.branch [
-      | then-mode-eq2 w ↦ rw (w.out-is, w.behind-is, eq-eqb _ 2 w.if-mode-eq2.true) w.read_configs-behind.ensures
-      | else-mode-eq2 w ↦
-          rw (w.out-is, w.behind-is, ne_eqb _ 2 w.if-mode-eq2.false)
-          (absent configs_bytes_of _ _ _ refl (omega arith) (ap length (sym w.out-is) ∙ c.if-mode-eq2.array_long))
+      then-mode-eq2 w ↦ rw (w.out-is, w.behind-is) (sent _ _ 2 w.if-mode-eq2.true w.read_configs-behind.ensures)
+    | else-mode-eq2 w ↦
+        rw (w.out-is, w.behind-is) (unsent _ _ 2 w.if-mode-eq2.false refl (omega arith) (ap length (sym w.out-is) ∙ c.if-mode-eq2.array_long))
     ]
 
 pub returns-then-flagged-eq1 : goal.returns-then-flagged-eq1
 returns-then-flagged-eq1 c =
     trimming c.take_unless-warp.ensures.reads c.take-reserved.ensures.reads c.take_unless-mode.ensures.reads
     (behind (goal.at.returns-then-flagged-eq1 c).After-take-flagged) c.take-flagged.ensures.reads
-    (rw (eq-eqb _ 1 c.if-flagged-eq1.true) c.read_flags.ensures)
+    (sent _ _ 1 c.if-flagged-eq1.true c.read_flags.ensures)
 
 pub returns-else-flagged-eq1 : goal.returns-else-flagged-eq1
 returns-else-flagged-eq1 c =
     trimming c.take_unless-warp.ensures.reads c.take-reserved.ensures.reads c.take_unless-mode.ensures.reads
     (behind (goal.at.returns-else-flagged-eq1 c).After-take-flagged) c.take-flagged.ensures.reads
-    (rw (ne_eqb _ 1 c.if-flagged-eq1.false) (absent (λ flags. flags) _ _ _ refl (omega (arith, c.requires)) c.if-flagged-eq1.array_long))
+    (unsent _ _ 1 c.if-flagged-eq1.false refl (omega (arith, c.requires)) c.if-flagged-eq1.array_long)
