@@ -7,13 +7,14 @@ use native.Mathlib.Omega.{arith}
 use lib.ListN.{length}
 use Rattle.bits.specs.declared.Cur.{Cur}
 use Rattle.bits.specs.declared.Limit.{Limit}
+use Rattle.bits.specs.declared.Step.{Step}
 use Rattle.bits.specs.Language.{Bits, P, give, run, ok, bit, when, for, past_payload}
 use Rattle.bits.specs.Steps.{bind_ok}
 use Rattle.bits.specs.View.{Reads, Took}
 use Rattle.bits.proofs.Sticky.{Left, turns, for_step, for-stop, done, plain}
 use Rattle.oamd.specs.ObjectElement.{object_data}
 use Rattle.oamd.specs.Payload.{oa_element_count, object_audio_metadata_payload}
-use Rattle.reader.specs.declared.HeaderStep.{HeaderStep}
+use Rattle.reader.specs.declared.Header.{Header}
 use Rattle.reader.specs.Steps.{whole_of, Headed}
 use Rattle.reader.proofs.ObjectLoop.{begun}
 use Rattle.sources.specs.Asked.{payload_in, Accepted}
@@ -52,10 +53,10 @@ reclassed n {b = b} {c} {d} {l} h w = subst (λ (class : ℕ). Went (object_data
 
 -- ---- the header, and the count of elements
 
-module _ {s : List ℕ} (a : Accepted s) {h : HeaderStep} (headed : Headed s h) {l : Limit} (whole : l ≡ whole_of s) {count : Cur} (counted : Took oa_element_count 47 (bit s) h.cur l count) where
+module _ {s : List ℕ} (a : Accepted s) {h : Step Header} (headed : Headed s h) {l : Limit} (whole : l ≡ whole_of s) {count : Cur} (counted : Took oa_element_count 47 (bit s) h.cur l count) where
   pub record Opened (extended : Bool) : Type 0 where
-    pub programme : h.programme ≡ (payload_in s).programme
-    pub begun : Begun extended s h.alternate count.v count l
+    pub programme : h.value.programme ≡ (payload_in s).programme
+    pub begun : Begun extended s h.value.alternate count.v count l
 
   pub opened : (extended : Bool) → Opened extended
   unfolding object_audio_metadata_payload

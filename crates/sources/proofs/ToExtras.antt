@@ -11,6 +11,7 @@ use lib.Dec.{eqb}
 use lib.ListN.{length, get_or, replicate}
 use Rattle.bits.specs.declared.Cur.{Cur}
 use Rattle.bits.specs.declared.Limit.{Limit}
+use Rattle.bits.specs.declared.Step.{Step}
 use Rattle.bits.specs.Language.{P, give, ◌>>=◌, both, bits, bits_if, bit, when, each, from, for, past_declared}
 use Rattle.bits.specs.Steps.{give_ok}
 use Rattle.bits.specs.View.{over_of, Reads}
@@ -23,7 +24,7 @@ use Rattle.oamd.specs.Meaning.{idle}
 use Rattle.oamd.specs.Record.{Record, carries, all_carry}
 use Rattle.oamd.specs.Element.{scenes}
 use Rattle.record.specs.Bytes.{scene_at}
-use Rattle.reader.specs.declared.HeaderStep.{HeaderStep}
+use Rattle.reader.specs.declared.Header.{Header}
 use Rattle.reader.specs.Steps.{Headed}
 use Rattle.demands.specs.Terms.{tables_of}
 use Rattle.sources.specs.declared.Inside.{Inside}
@@ -68,7 +69,7 @@ module _ {s records : List ℕ} {n j b : ℕ} (a : Asked s n j b) (r : Recorded 
   abbrev pub count : ℕ
   count = objects_in (payload_in s) * blocks_in (payload_in s)
 
-  pub counted : {h : HeaderStep} → Headed s h → h.programme.objects * n ≡ count
+  pub counted : {h : Step Header} → Headed s h → h.value.programme.objects * n ≡ count
   counted headed = ap₂ (λ (p : Programme) (m : ℕ). p.objects * m) (programme_is a.accepted headed) a.blocks
 
   carry_long : length carry ≡ count

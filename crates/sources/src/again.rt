@@ -4,12 +4,11 @@ ghost use Rattle.bits.specs.Language.{bit};
 ghost use Rattle.bits.specs.View.{Gave};
 ghost use Rattle.oamd.specs.Extended.{obj_div_block, ext_prec_pos_block};
 
-use bits::{Cur, Limit};
+use bits::{Cur, Limit, Step};
 use oamd::{Divergence, Precise};
-use syntax::{DivergenceStep, PreciseStep};
 
 pub fn read_divergence(s: &[u8], l: Limit, c: Cur, carries: bool) -> Step<Divergence>
-    ensures { Gave (obj_div_block carries) (bit s.now) c l result.divergence result.cur }
+    ensures { Gave (obj_div_block carries) (bit s.now) c l result.value result.cur }
 {
     let used = bits::take_if(carries, s, l, c, 1);
     let mode = bits::take_unless(used.v == 1, s, l, used, 2, 3, 3);
@@ -26,7 +25,7 @@ pub fn read_divergence(s: &[u8], l: Limit, c: Cur, carries: bool) -> Step<Diverg
 }
 
 pub fn read_precise(s: &[u8], l: Limit, c: Cur, carries: bool) -> Step<Precise>
-    ensures { Gave (ext_prec_pos_block carries) (bit s.now) c l result.precise result.cur }
+    ensures { Gave (ext_prec_pos_block carries) (bit s.now) c l result.value result.cur }
 {
     let given = bits::take_if(carries, s, l, c, 1);
     let presence = bits::take_if(given.v == 1, s, l, given, 3);

@@ -6,7 +6,7 @@ use Rattle.sources.proofs.walk.find_precise.Goals as goal
 use Rattle.sources.proofs.walk.find_precise.Goals.{After-find_fields-inside}
 
 -- the count of the records
-all : (c : After-find_fields-inside) → c.read_head-head.result.programme.objects * c.args.blocks ≡ count c.requires.0 c.requires.1
+all : (c : After-find_fields-inside) → c.read_head-head.result.value.programme.objects * c.args.blocks ≡ count c.requires.0 c.requires.1
 all c = counted c.requires.0 c.requires.1 c.read_head-head.ensures
 
 pub returns-then-not-inside : goal.returns-then-not-inside
