@@ -70,9 +70,16 @@ pub enum Source {
     ByObject,
 }
 
-// The line of a field in numbers: its clause, 0 to 2, and the path there, filled up with 0 (specs/Sources.antt).
+// The line of a field, by its clause (specs/Sources.antt): the first of object_info_block; a line of object_basic_info in it; a group of object_render_info in it, and a line of
+// that group, 0 for the group itself; a line of obj_div_block; a line of ext_prec_pos_block.
 #[derive(Clone, Copy)]
-pub struct Spot(pub u8, pub u8, pub u8, pub u8);
+pub enum Spot {
+    InBlock,
+    InBasic(u32),
+    InRender(u32, u32),
+    InDivergence(u32),
+    InPrecise(u32),
+}
 
 // A step: the byte's value in a block of an object, the numbers of its source and of the field, that field's first bit, and the difference as carried; what there is not is 0.
 #[repr(C)]
