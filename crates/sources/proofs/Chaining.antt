@@ -125,14 +125,14 @@ pub record Chaining (s : List ℕ) (object block byte : ℕ) (steps : List WhySt
   pub fuel : count + steps_left next ≤ object + block + 1
   pub within : Within object block next
 
-pub chaining_start : (s : List ℕ) (object block byte : ℕ)
-    → Chaining s object block byte (replicate most_steps no_step) 0 (Some (record { object = object; block = block; left = object + block }))
+pub chaining_start : (s : List ℕ) (object block byte left : ℕ) → left ≡ object + block
+    → Chaining s object block byte (replicate most_steps no_step) 0 (Some (record { object = object; block = block; left = left }))
 unfolding steps_told
-chaining_start s object block byte = record {
+chaining_start s object block byte left h = record {
   done = [];
   many = refl;
   holds = refl;
-  rest = let e : suc (object + block) ≡ object + block + 1 = omega arith in rw e refl;
+  rest = let e : suc left ≡ object + block + 1 = omega arith in rw e refl;
   fuel = omega arith;
   within = (omega arith, omega arith);
 }

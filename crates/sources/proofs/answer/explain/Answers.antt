@@ -19,7 +19,7 @@ room c = omega (arith, (going c).fuel, c.requires.0.object, c.requires.0.objects
 
 pub loop-next-init : goal.loop-next-init
 loop-next-init c =
-    chaining_start _ _ _ _
+    chaining_start _ _ _ _ _ (omega arith)
 
 pub loop-next-preserved : goal.loop-next-preserved
 loop-next-preserved c =
