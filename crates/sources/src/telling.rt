@@ -48,8 +48,7 @@ impl Known<'_> {
     {
         let placed = find_block(self.payload, self.blocks, object, block);
         let coded = placed.block;
-        let sources = scene_sources(object == 0, coded);
-        let source = source_in(&sources, byte);
+        let source = source_in(&scene_sources(object == 0, coded), byte);
         // The first bit of the field that the source names, by where its clause begins; 0 for none.
         let bit = source.named().map_or(0, |named| {
             placed.at + offset_in_block(named.field, block == 0, coded)
@@ -65,15 +64,14 @@ impl Known<'_> {
         let at = RECORD_STRIDE * index_of(self.blocks, object, block);
         let d = record::divergence_at(self.records, at);
         let extra = find_divergence(self.payload, self.records, self.blocks, object, block);
-        let sources = divergence_sources(extra.sent, d);
-        let source = source_in(&sources, k);
+        let source = source_in(&divergence_sources(extra.sent, d), k);
         let bit = source
             .named()
             .map_or(0, |named| extra.at + offset_in_divergence(named.field, d));
         Told { source, bit }
     }
 
-    // Bytes 20 to 23, counted from 0.
+    // Bytes 20 to 23, counted from 0. Beside the last: another clause, with an entry and an offset of its own.
     fn told_of_precise(self, object: u32, block: u32, k: u32) -> Told
         requires { Asked self.payload.now self.blocks object block × Recorded self.payload.now self.records.now × (k < 4) }
         ensures { result ≡ told_at self.entry.payload.now self.entry.blocks (precise_byte + k) object block }
@@ -81,8 +79,7 @@ impl Known<'_> {
         let at = RECORD_STRIDE * index_of(self.blocks, object, block);
         let p = record::precise_at(self.records, at);
         let extra = find_precise(self.payload, self.records, self.blocks, object, block);
-        let sources = precise_sources(extra.sent, p);
-        let source = source_in(&sources, k);
+        let source = source_in(&precise_sources(extra.sent, p), k);
         let bit = source
             .named()
             .map_or(0, |named| extra.at + offset_in_precise(named.field, p));

@@ -9,7 +9,7 @@ const STEP: [u8; 5] = *b"step=";
 // The source that is a field.
 const FIELD: u8 = 1;
 
-// The word of a source.
+// The word of a source, by its number in an answer, which C reads, too.
 fn word_of(source: u8) -> &'static str {
     match source {
         1 => "field",

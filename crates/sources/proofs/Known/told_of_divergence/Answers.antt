@@ -9,4 +9,4 @@ returns c =
     let fits = record_fits pre.0 pre.1 in
     let index = c.index_of-at.ensures in
     divergence-told pre.0 pre.1 index c.named.ensures pre.2 (c.divergence_at-d.ensures.there (omega (arith, index, fits))) c.find_divergence-extra.ensures
-    (rw c.divergence_sources-sources.ensures at c.source_in-source.ensures) (search rules)
+    (rw c.divergence_sources.ensures at c.source_in-source.ensures) (search rules)

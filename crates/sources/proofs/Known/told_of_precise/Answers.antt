@@ -9,4 +9,4 @@ returns c =
     let fits = record_fits pre.0 pre.1 in
     let index = c.index_of-at.ensures in
     precise-told pre.0 pre.1 index c.named.ensures pre.2 (c.precise_at-p.ensures.there (omega (arith, index, fits))) c.find_precise-extra.ensures
-    (rw c.precise_sources-sources.ensures at c.source_in-source.ensures) (search rules)
+    (rw c.precise_sources.ensures at c.source_in-source.ensures) (search rules)
