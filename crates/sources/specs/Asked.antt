@@ -81,10 +81,11 @@ step_of told j b value = record {
   difference = source_difference told.source;
 }
 
--- where a chain goes on behind a step whose source is x, at block b of object j, with so many steps left
+-- if any step is left
 abbrev pub if_left : ℕ → Link → Option Link
 if_left left next = pick (eqb left 0) None (Some next)
 
+-- where a chain goes on behind a step whose source is x, at block b of object j, with so many steps left behind it
 abbrev pub link_of : Source → ℕ → ℕ → ℕ → Option Link
 link_of (ByField f) j b left = None
 link_of ByProgramme j b left = None
