@@ -6,8 +6,8 @@ use Rattle.scenes.proofs.block.read_scene.Goals as goal
 
 pub returns-then-look-raw : goal.returns-then-look-raw
 returns-then-look-raw c =
-    let made = c.in-Some.ensures in
+    let made = c.look_scene-look.ensures in
     record {
-      reads = held made.held c.if-c-eq0.true (omega (arith, c.raw-in-Some.ensures)) c.new.ensures ▸ worth made.means plain;
+      reads = held (made.held c.if-look.true) c.if-c-eq0.true (omega (arith, c.raw-then-look.ensures)) c.new.ensures ▸ worth made.means plain;
       empty = refl;
     }
