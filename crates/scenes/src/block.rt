@@ -97,7 +97,7 @@ pub fn read_scene(
 {
     if c.no == 0 && c.at.raw() <= 4000000000 {
         let look = look_scene(s, c.at, class, blk, blockbefore, gainbefore);
-        if look.good && look.off <= l.end.raw() {
+        if look.off <= l.end.raw() && look.good {
             return Step {
                 value: look.value,
                 cur: Cur {
