@@ -1,5 +1,5 @@
 -- What a function promises that looks at coded fields and gives what they mean.
-use Rattle.std.specs.Prelude.{Bool, ◌≡◌, Option, IfSome, ℕ, ◌≤◌}
+use Rattle.std.specs.Prelude.{Bool, ◌≡◌, true, ℕ, ◌≤◌}
 use Rattle.bits.specs.declared.Sighted.{Sighted}
 use Rattle.bits.specs.Language.{Bits}
 use Rattle.bits.specs.View.{Sees, Freely}
@@ -34,7 +34,7 @@ pub record Opened (b : Bits) (x base o : ℕ) : Type 0 where
 abbrev pub ShownFound : Status → Bool → Scene → Bits → ℕ → Checked Shown → Type 0
 ShownFound status first before b at r = Made (shown_of before) r.value (λ n. Passed r.good (object_render_info status first) 56 b at n r.off)
 
--- a block from a position on, unless a reserved code was met
-abbrev pub SceneFound : ℕ → ℕ → Scene → ℕ → Bits → ℕ → Option (Sighted Scene) → Type 0
+-- a block from a position on, where no reserved code was met
+abbrev pub SceneFound : ℕ → ℕ → Scene → ℕ → Bits → ℕ → Checked Scene → Type 0
 SceneFound class blk before gain_before b at r =
-    IfSome r (λ q. Made (resolve before gain_before) q.value (λ n. Freely (object_info_block class blk) b at n q.off))
+    Made (resolve before gain_before) r.value (λ n. r.good ≡ true → Freely (object_info_block class blk) b at n r.off)

@@ -8,9 +8,10 @@ ghost use Rattle.scenes.specs.Resolved.{active_scene, resolved_block};
 use crate::Levels;
 use crate::basic::levels_in;
 use crate::render::shown_in;
-use bits::{Cur, Limit, Sighted, Step};
+use bits::{Cur, Limit, Step};
 use meaning::Shown;
 use oamd::Scene;
+use syntax::Checked;
 use units::BitPos;
 
 fn active_scene(class: u8, levels: Levels, shown: Shown) -> Scene
@@ -29,7 +30,7 @@ fn active_scene(class: u8, levels: Levels, shown: Shown) -> Scene
     }
 }
 
-// A block, looked at as if nothing could end; None where a reserved code was met. An object that is not active is answered at once.
+// A block, looked at as if nothing could end. An object that is not active is answered at once.
 fn look_scene(
     s: &[u8],
     at: BitPos,
@@ -37,7 +38,7 @@ fn look_scene(
     blk: u32,
     before: Scene,
     gainbefore: u8,
-) -> Option<Sighted<Scene>>
+) -> Checked<Scene>
     requires { at.0 ≤ 4000000000 }
     ensures { SceneFound class blk before gainbefore (bit s.now) at.0 result }
 {
@@ -45,23 +46,21 @@ fn look_scene(
     let x = bits::window(s, at);
     let idle = bits::look(x, p % 8, 1);
     if idle.value == 1 {
-        return Some(Sighted {
+        return Checked {
             value: meaning::idle(class),
             off: syntax::look_additional(s, p + 1),
-        });
+            good: true,
+        };
     }
     let first = blk == 0;
     let basic = syntax::look_status(x, idle.off, false, first);
     let b = levels_in(x, basic.off, basic.value, before, gainbefore);
     let render = syntax::look_status(x, b.off, class != 2, first);
     let n = shown_in(s, p - p % 8, x, render.off, render.value, first, before);
-    if n.good {
-        Some(Sighted {
-            value: active_scene(class, b.value, n.value),
-            off: syntax::look_additional(s, n.off),
-        })
-    } else {
-        None
+    Checked {
+        value: active_scene(class, b.value, n.value),
+        off: syntax::look_additional(s, n.off),
+        good: n.good,
     }
 }
 
@@ -97,18 +96,17 @@ pub fn read_scene(
     ensures { Gave (resolved_block class blk blockbefore gainbefore) (bit s.now) c l result.value result.cur }
 {
     if c.no == 0 && c.at.raw() <= 4000000000 {
-        if let Some(look) = look_scene(s, c.at, class, blk, blockbefore, gainbefore) {
-            if look.off <= l.end.raw() {
-                return Step {
-                    value: look.value,
-                    cur: Cur {
-                        missing: c.missing,
-                        v: 0,
-                        at: BitPos::new(look.off),
-                        no: 0,
-                    },
-                };
-            }
+        let look = look_scene(s, c.at, class, blk, blockbefore, gainbefore);
+        if look.off <= l.end.raw() && look.good {
+            return Step {
+                value: look.value,
+                cur: Cur {
+                    missing: c.missing,
+                    v: 0,
+                    at: BitPos::new(look.off),
+                    no: 0,
+                },
+            };
         }
     }
     read_fields(s, l, c, class, blk, blockbefore, gainbefore)

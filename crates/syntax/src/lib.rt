@@ -43,8 +43,8 @@ pub struct Balance {
     pub amount: u8,
 }
 
-// What was seen in a window, and where in it the next field begins; good, unless a reserved code was met.
-// No Option: a group that is not sent is looked at all the same, and a choice of Options is branched to, which made blocks of mixed status a fifth slower to read.
+// What was seen in a window, or in several, and where the next field begins; good, unless a reserved code was met.
+// No Option: a group that is not sent is looked at all the same, and an Option would be branched to (measured: a mixed block takes up to a fifth longer, a full one 2 to 4 %).
 #[derive(Clone, Copy)]
 pub struct Checked<T> {
     pub value: T,

@@ -29,7 +29,7 @@ returns-then-idle-eq1 c =
     let seen = sees (goal.at.returns-then-idle-eq1 c).After-window-x in
     record {
       coded = _;
-      held =
+      held = λ g.
           there (told c.if-idle-eq1.true look.1.looks) seen (omega (arith, c.raw-p.ensures)) refl
           ⊳ free-give
           ⊳ there (no-basic Default looks-give) seen refl refl
@@ -40,22 +40,22 @@ returns-then-idle-eq1 c =
       means = c.idle.ensures;
     }
 
-pub returns-then-n : goal.returns-then-n
+pub returns : goal.returns
 unfolding object_info_block resolve
-returns-then-n c =
-    let seen = sees (goal.at.returns-then-n c).After-window-x in
+returns c =
+    let seen = sees (goal.at.returns c).After-window-x in
     let zero : c.look-idle.result.value ≡ 0 = omega (arith, c.look-idle.ensures.1.small, c.if-idle-eq1.false) in
     let low = c.levels_in-b.ensures in
     let high = c.shown_in-n.ensures in
     record {
       coded = _;
-      held =
+      held = λ g.
           there (told zero c.look-idle.ensures.1.looks) seen (omega (arith, c.raw-p.ensures)) refl
           ⊳ there c.look_status-basic.ensures.looks seen refl refl
           ⊳ there low.held.looks seen refl refl
           ⊳ there c.look_status-render.ensures.looks seen refl refl
-          ⊳ high.held.freely c.if-n.true
-          ⊳ c.look_additional-then-n.ensures.freely refl
+          ⊳ high.held.freely g
+          ⊳ c.look_additional-2.ensures.freely refl
           ⊳ free-give;
       means = rw (c.active_scene.ensures, low.means, high.means);
     }

@@ -4,10 +4,10 @@ use Rattle.bits.proofs.Sticky.{plain}
 use Rattle.syntax.proofs.Lines.{◌▸◌, worth}
 use Rattle.scenes.proofs.block.read_scene.Goals as goal
 
-pub returns-then-look-raw : goal.returns-then-look-raw
-returns-then-look-raw c =
-    let made = c.in-Some.ensures in
+pub returns-then-look : goal.returns-then-look
+returns-then-look c =
+    let made = c.look_scene-look.ensures in
     record {
-      reads = held made.held c.if-c-eq0.true (omega (arith, c.raw-in-Some.ensures)) c.new.ensures ▸ worth made.means plain;
+      reads = held (made.held c.if-look.true) c.if-c-eq0.true (omega (arith, c.raw-then-raw-le4000000000.ensures)) c.new.ensures ▸ worth made.means plain;
       empty = refl;
     }
