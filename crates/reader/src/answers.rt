@@ -14,10 +14,7 @@ pub fn missing_bits(refusal: u8, missing: u64) -> u32
     if refusal != Refusal::EndsEarly.number() {
         return 0;
     }
-    if 4294967295 < missing {
-        return 4294967295;
-    }
-    missing as u32
+    u32::try_from(missing).unwrap_or(u32::MAX)
 }
 
 // A refusal, at its place, with the bits that were missing there: all else is 0.
@@ -42,13 +39,12 @@ pub fn refused(refusal: u8, place: u64, missing: u32) -> ReadAnswer
         dynamics: 0,
         beds: [bed; MOST_BEDS],
     };
-    let timing = meaning::no_timing();
     ReadAnswer {
         place,
         refusal,
         unknown: 0,
         programme,
-        timing,
+        timing: meaning::no_timing(),
         missing,
     }
 }

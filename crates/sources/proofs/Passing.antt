@@ -5,6 +5,7 @@ use mathlib.Core.List.{List, [], ◌∷◌, ◌++◌}
 use Prim.Native.Nat.{ℕ, ◌+◌, ◌*◌, ◌≤◌, ◌<◌}
 use native.Mathlib.Omega.{arith}
 use lib.ListN.{length}
+use borrow.Author.Tests.{eq-eqb, ne_eqb}
 use Rattle.bits.specs.declared.Cur.{Cur}
 use Rattle.bits.specs.declared.Limit.{Limit}
 use Rattle.bits.specs.declared.Step.{Step}
@@ -14,6 +15,7 @@ use Rattle.bits.specs.View.{Reads, Took}
 use Rattle.bits.proofs.Sticky.{Left, turns, for_step, for-stop, done, plain}
 use Rattle.oamd.specs.ObjectElement.{object_data}
 use Rattle.oamd.specs.Payload.{oa_element_count, object_audio_metadata_payload}
+use Rattle.oamd.specs.Programme.{set?}
 use Rattle.reader.specs.declared.Header.{Header}
 use Rattle.reader.specs.Steps.{whole_of, Headed}
 use Rattle.reader.proofs.ObjectLoop.{begun}
@@ -41,11 +43,11 @@ module _ {A : Type 0} {n : ℕ} {f : ℕ → P A} {b : Bits} {c : Cur} {l : Limi
   passing-stop {i} x h = record { value = x.vs; reads = done (for-stop n f (λ vs. give vs) i x.vs h x.left) }
 
 -- what is read only if a flag says so
-pub passed_if : {A : Type 0} (on : Bool) (p : P A) (blank : A) {b : Bits} {c d : Cur} {l : Limit} → on ≡ true → Went p b c l d → Went (when on p blank) b c l d
-passed_if on p blank h w = rw h w
+pub passed_if : {A : Type 0} (v : ℕ) (p : P A) (blank : A) {b : Bits} {c d : Cur} {l : Limit} → v ≡ 1 → Went p b c l d → Went (when (set? v) p blank) b c l d
+passed_if v p blank h w = rw (eq-eqb v 1 h) w
 
-pub passed_not : {A : Type 0} (on : Bool) (p : P A) (blank : A) {b : Bits} {c : Cur} {l : Limit} → on ≡ false → Went (when on p blank) b c l c
-passed_not on p blank h = rw h (record { value = blank; reads = plain })
+pub passed_not : {A : Type 0} (v : ℕ) (p : P A) (blank : A) {b : Bits} {c : Cur} {l : Limit} → (v ≡ 1 → ⊥) → Went (when (set? v) p blank) b c l c
+passed_not v p blank h = rw (ne_eqb v 1 h) (record { value = blank; reads = plain })
 
 -- blocks of a class that a call found
 pub reclassed : (n : ℕ) {class class' : ℕ} {b : Bits} {c d : Cur} {l : Limit} → class ≡ class' → Went (object_data n class) b c l d → Went (object_data n class') b c l d

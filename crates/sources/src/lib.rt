@@ -138,12 +138,11 @@ pub struct Link {
     pub left: u32,
 }
 
-// The fields of an element, if it is there: where they begin, and the end that they are held to.
+// The fields of an element: where they begin, and the end that they are held to.
 #[derive(Clone, Copy)]
 pub struct Inside {
     pub cur: Cur,
     pub held: Limit,
-    pub there: bool,
 }
 
 // A block, as coded, and its first bit.

@@ -1,10 +1,10 @@
 // From the first bit of a payload to a block of an object, and to what the extended element has for a record. The payload has been read, and nothing of it was refused.
-ghost use Rattle.std.specs.Prelude.{◌≡◌, false, replicate};
-ghost use Rattle.bits.specs.Language.{bit, when, for};
+ghost use Rattle.std.specs.Prelude.{◌≡◌, false};
+ghost use Rattle.bits.specs.Language.{bit, for};
 ghost use Rattle.oamd.specs.Element.{head_length};
 ghost use Rattle.oamd.specs.Programme.{class_of};
 ghost use Rattle.oamd.specs.ObjectElement.{object_data};
-ghost use Rattle.oamd.specs.Extended.{obj_div_block, ext_prec_pos_block, no_divergence};
+ghost use Rattle.oamd.specs.Extended.{obj_div_block, ext_prec_pos_block};
 ghost use Rattle.reader.specs.Steps.{Headed};
 ghost use Rattle.sources.specs.Asked.{Accepted, Asked, Recorded};
 ghost use Rattle.sources.specs.Walks.{Went, wanted_by, inside_at, Begun, Sought, BlockFound, carries_at, Room, DivergenceFound, PreciseFound};
@@ -50,30 +50,18 @@ fn inside(at: u32, end: BitPos) -> Inside
             no: 0,
         },
         held: Limit { end, inner: true },
-        there: true,
-    }
-}
-
-// No element.
-fn nowhere() -> Inside
-    ensures { result.there ≡ false }
-{
-    let end = BitPos::new(0);
-    let at = BitPos::new(0);
-    Inside {
-        cur: Cur {
-            missing: 0,
-            v: 0,
-            at,
-            no: 0,
-        },
-        held: Limit { end, inner: true },
-        there: false,
     }
 }
 
 // The fields of the extended element, or else of the object element, among n that follow.
-fn find_element(s: &[u8], l: Limit, c: Cur, alternate: u32, n: u32, extended: bool) -> Inside
+fn find_element(
+    s: &[u8],
+    l: Limit,
+    c: Cur,
+    alternate: u32,
+    n: u32,
+    extended: bool,
+) -> Option<Inside>
     requires { Begun extended s.now alternate n c l }
     ensures { Sought extended s.now result }
 {
@@ -83,15 +71,15 @@ fn find_element(s: &[u8], l: Limit, c: Cur, alternate: u32, n: u32, extended: bo
         let frame = step.value;
         if is_wanted(extended, frame.kind) {
             let head = 4 + 5 * frame.size.groups + head_bits(alternate);
-            return inside(cur.at.raw() + head, step.cur.at);
+            return Some(inside(cur.at.raw() + head, step.cur.at));
         }
         cur = step.cur;
     }
-    nowhere()
+    None
 }
 
 // The same among all elements, behind the header.
-fn find_fields(s: &[u8], head: Step<Header>, extended: bool) -> Inside
+fn find_fields(s: &[u8], head: Step<Header>, extended: bool) -> Option<Inside>
     requires { Accepted s.now × Headed s.now head }
     ensures { Sought extended s.now result }
 {
@@ -131,7 +119,7 @@ pub fn find_block(s: &[u8], blocks: u32, object: u32, block: u32) -> Placed
     ensures { BlockFound s.now blocks object block result }
 {
     let head = reader::read_head(s);
-    let inside = find_fields(s, head, false);
+    let inside = find_fields(s, head, false).unwrap();
     let held = inside.held;
     let timed = reader::read_timing(s, held, inside.cur);
     let absent = bits::take(s, held, timed.cur, 1);
@@ -162,17 +150,6 @@ fn pass_divergences(s: &[u8], l: Limit, c: Cur, records: &[u8], n: usize) -> Cur
     cur
 }
 
-// The same, where a flag says that there is anything to read.
-fn pass_divergences_if(on: bool, s: &[u8], l: Limit, c: Cur, records: &[u8], n: usize) -> Cur
-    requires { Room records.now n }
-    ensures { Went (when on (for n (λ i. obj_div_block (carries_at records.now i))) (replicate n no_divergence)) (bit s.now) c l result }
-{
-    if on {
-        return pass_divergences(s, l, c, records, n);
-    }
-    c
-}
-
 // ext_prec_pos_block of the first n records.
 fn pass_precises(s: &[u8], l: Limit, c: Cur, records: &[u8], n: usize) -> Cur
     requires { Room records.now n }
@@ -198,10 +175,9 @@ pub fn find_divergence(s: &[u8], records: &[u8], blocks: u32, object: u32, block
     ensures { DivergenceFound s.now blocks object block result }
 {
     let head = reader::read_head(s);
-    let inside = find_fields(s, head, true);
-    if !inside.there {
+    let Some(inside) = find_fields(s, head, true) else {
         return unsent();
-    }
+    };
     let held = inside.held;
     let present = bits::take(s, held, inside.cur, 1);
     if present.v != 1 {
@@ -221,14 +197,17 @@ pub fn find_precise(s: &[u8], records: &[u8], blocks: u32, object: u32, block: u
     ensures { PreciseFound s.now blocks object block result }
 {
     let head = reader::read_head(s);
-    let inside = find_fields(s, head, true);
-    if !inside.there {
+    let Some(inside) = find_fields(s, head, true) else {
         return unsent();
-    }
+    };
     let held = inside.held;
     let count = head.value.programme.objects as usize * blocks as usize;
     let diverging = bits::take(s, held, inside.cur, 1);
-    let behind = pass_divergences_if(diverging.v == 1, s, held, diverging, records, count);
+    let behind = if diverging.v == 1 {
+        pass_divergences(s, held, diverging, records, count)
+    } else {
+        diverging
+    };
     let present = bits::take(s, held, behind, 1);
     if present.v != 1 {
         return unsent();

@@ -13,9 +13,9 @@ behind : (c : After-take-flagged)
 unfolding configs_bytes_of
 behind c =
     elim c.if-mode-eq2.branch [
-      then-mode-eq2 w ↦ rw (w.out-is, w.behind-is) (sent _ _ 2 w.if-mode-eq2.true w.read_configs-behind.ensures)
-    | else-mode-eq2 w ↦
-        rw (w.out-is, w.behind-is) (unsent _ _ 2 w.if-mode-eq2.false refl (omega arith) (ap length (sym w.out-is) ∙ c.if-mode-eq2.array_long))
+      | then-mode-eq2 w ↦ rw (w.out-is, w.behind-is) (sent _ _ 2 w.if-mode-eq2.true w.read_configs-behind.ensures)
+      | else-mode-eq2 w ↦
+          rw (w.out-is, w.behind-is) (unsent _ _ 2 w.if-mode-eq2.false refl (omega arith) (ap length (sym w.out-is) ∙ c.if-mode-eq2.array_long))
     ]
 
 pub returns-then-flagged-eq1 : goal.returns-then-flagged-eq1

@@ -37,4 +37,4 @@ loop-i-preserved c =
 
 pub returns : goal.returns
 returns c =
-    not_found c.loop-i.invariant c.loop-i-test.false c.nowhere.ensures
+    not_found c.loop-i.invariant c.loop-i-test.false
