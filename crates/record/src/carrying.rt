@@ -6,8 +6,8 @@ ghost use Rattle.record.specs.Bytes.{scene_at};
 
 use oamd::Scene;
 
-// The class of a dynamic object.
-const DYNAMIC: u8 = 2;
+// The class of a dynamic object, the only one whose render info is sent.
+pub const DYNAMIC: u8 = 2;
 
 pub fn carries(s: Scene) -> bool
     ensures { result ≡ carries s }

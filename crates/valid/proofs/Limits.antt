@@ -148,7 +148,7 @@ pub sent_is : (class : ℕ) (r : Record) → carries r.scene ≡ true
     ≡ record_valid class r
 sent_is class r e =
     gathered (within_limits r) (eqb dynamic_class class) (leb 49 r.scene.location.z) (set? r.scene.screen.used)
-        (eqb (bit_or r.scene.screen.factor r.scene.screen.depth) 0) (divergence_valid true r.divergence) (precise_valid true r.precise)
+    (eqb (bit_or r.scene.screen.factor r.scene.screen.depth) 0) (divergence_valid true r.divergence) (precise_valid true r.precise)
     ∙ limits_is class r e
   where
     gathered : (a b c d e f g : Bool) → (a && (b && c && (d || e)) && f && g) ≡ both a (both (both b (both c (pick d true e))) (both f g))

@@ -5,8 +5,8 @@ ghost use Rattle.oamd.specs.Programme.{set?, instance_count};
 ghost use Rattle.form.specs.Valid.{bed_valid, programme_valid};
 ghost use Rattle.valid.specs.Parts.{beds_valid, behind_beds_valid, assignment_valid};
 
-use crate::table::all_below;
 use crate::ranges::{between, between_if, wide_between_if};
+use crate::table::all_below;
 use oamd::{Bed, MOST_BEDS, Programme};
 
 // 10 flags of a standard bed, and 17 of one that is not.
@@ -38,6 +38,7 @@ fn most_assignment(standard: u8) -> u32
 }
 
 // An entry of the beds: an assignment only where the bed is not the LFE channel alone. Most are not used, so that their three zeros are looked at all together.
+#[tactic(auto, unfolding(form::specs::Valid::bed_valid, form::specs::Valid::between_if))]
 fn bed_valid(used: bool, b: Bed) -> bool
     ensures { result ≡ bed_valid used b }
 {
@@ -67,10 +68,15 @@ fn bed_instances(content: u8, multiple: u8, instances: u8) -> u32
     if !oamd::has_beds(content as u32) {
         return 0;
     }
-    if multiple == 1 { instances as u32 + 2 } else { 1 }
+    if multiple == 1 {
+        instances as u32 + 2
+    } else {
+        1
+    }
 }
 
 // The fields behind the beds, and that all together name the object count.
+#[tactic(auto, unfolding(crate::specs::Parts::behind_beds_valid))]
 fn behind_beds_valid(p: Programme) -> bool
     ensures { result ≡ behind_beds_valid p }
 {
@@ -82,6 +88,7 @@ fn behind_beds_valid(p: Programme) -> bool
 }
 
 // The beds, and what stands behind them.
+#[tactic(auto, unfolding(crate::specs::Parts::assignment_valid))]
 fn assignment_valid(p: Programme) -> bool
     ensures { result ≡ assignment_valid p }
 {

@@ -8,9 +8,7 @@ ghost use Rattle.valid.specs.Parts.{within4, within_limits, rendered_valid};
 
 use crate::ranges::{between, between_if};
 use oamd::{Divergence, Precise, Scene};
-
-// The class of a dynamic object, the only one whose render info is sent.
-const DYNAMIC: u8 = 2;
+use record::DYNAMIC;
 
 // x and y in 62nds: at the most, and the default.
 const MOST_XY: u8 = 62;
@@ -92,6 +90,7 @@ fn default_valid(s: Scene) -> bool
 }
 
 // Bytes 0 to 16, of an object of a class, where render info is not sent.
+#[tactic(auto, unfolding(form::specs::Valid::scene_valid, crate::specs::Parts::rendered_valid))]
 fn scene_valid(class: u8, s: Scene) -> bool
     requires { carries s ≡ false }
     ensures { result ≡ scene_valid class s }
@@ -121,6 +120,7 @@ fn most_divergence(mode: u8) -> u8
 }
 
 // Bytes 17 to 19.
+#[tactic(auto, unfolding(form::specs::Valid::divergence_valid))]
 fn divergence_valid(sent: bool, d: Divergence) -> bool
     ensures { result ≡ divergence_valid sent d }
 {
@@ -133,6 +133,7 @@ fn divergence_valid(sent: bool, d: Divergence) -> bool
 }
 
 // Bytes 20 to 23: a code for each axis that the presence names (Table 43).
+#[tactic(auto, unfolding(form::specs::Valid::precise_valid))]
 fn precise_valid(sent: bool, p: Precise) -> bool
     ensures { result ≡ precise_valid sent p }
 {
@@ -182,6 +183,7 @@ pub fn sent_valid(class: u8, records: &[u8], at: usize) -> bool
 }
 
 // A record whose render info is not sent.
+#[tactic(auto, unfolding(form::specs::Valid::record_valid))]
 pub fn unsent_valid(class: u8, s: Scene, d: Divergence, p: Precise) -> bool
     requires { carries s ≡ false }
     ensures { result ≡ record_valid class (record_of s d p) }

@@ -4,8 +4,8 @@ ghost use Rattle.bits.specs.Language.{pick};
 ghost use Rattle.form.specs.Valid.{first_start, update_valid, timing_valid};
 ghost use Rattle.valid.specs.Parts.{updates_valid};
 
-use crate::table::all_below;
 use crate::ranges::between;
+use crate::table::all_below;
 use oamd::{MOST_BLOCKS, Timing, Update};
 use units::SampleCount;
 
@@ -25,6 +25,7 @@ fn offset_of(start: SampleCount) -> SampleCount
 }
 
 // An entry of the updates: what its start leaves by 32 is the offset.
+#[tactic(auto, unfolding(form::specs::Valid::update_valid, form::specs::Valid::between_if))]
 fn update_valid(offset: SampleCount, used: bool, u: Update) -> bool
     ensures { result ≡ update_valid offset.0 used u }
 {
@@ -53,6 +54,7 @@ pub fn sample_offset(updates: [Update; MOST_BLOCKS]) -> SampleCount
 }
 
 // A timing such as some accepted payload gives.
+#[tactic(auto, unfolding(form::specs::Valid::timing_valid, form::specs::Valid::offset_in_samples, crate::specs::Parts::updates_valid))]
 pub fn timing_valid(t: Timing) -> bool
     ensures { result ≡ timing_valid t }
 {

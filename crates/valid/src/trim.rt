@@ -8,8 +8,8 @@ ghost use Rattle.record.specs.Bytes.{bytes_at};
 ghost use Rattle.form.specs.Answer.{config_at, configs_at, trim_at};
 ghost use Rattle.valid.specs.Parts.{balances_valid, trims_valid, total};
 
-use crate::table::all_below;
 use crate::ranges::{between, between_if};
+use crate::table::all_below;
 use oamd::{CONFIG_BYTES, PER_OBJECT_BYTE, TRIM_CONFIGS, TRIM_FIXED, TRIM_HEAD, TrimConfig};
 
 // The least code of trim_surround and trim_height that is not reserved, and the greatest of any trim or balance.
@@ -65,6 +65,7 @@ pub fn config_at(trim: &[u8], at: usize) -> TrimConfig
 }
 
 // The two balances: a sign and an amount each (Table 34).
+#[tactic(auto, unfolding(crate::specs::Parts::balances_valid))]
 fn balances_valid(c: TrimConfig) -> bool
     ensures { result ≡ balances_valid c }
 {
@@ -78,6 +79,7 @@ fn balances_valid(c: TrimConfig) -> bool
 }
 
 // The three trims, 0 to 3 of the last two reserved (Tables 36 and 37), and the balances.
+#[tactic(auto, unfolding(crate::specs::Parts::trims_valid))]
 fn trims_valid(c: TrimConfig) -> bool
     ensures { result ≡ trims_valid c }
 {
@@ -91,6 +93,7 @@ fn trims_valid(c: TrimConfig) -> bool
 }
 
 // A configuration, by whether it is sent.
+#[tactic(auto, unfolding(form::specs::Valid::config_valid, crate::specs::Parts::trims_valid, crate::specs::Parts::balances_valid))]
 fn config_valid(sent: bool, c: TrimConfig) -> bool
     ensures { result ≡ config_valid sent c }
 {
@@ -149,7 +152,10 @@ fn flags_valid(sent: bool, trim: &[u8], objects: u8) -> bool
     requires { trim_fixed + objects ≤ length trim.now }
     ensures { result ≡ entries_valid (λ used x. between_if used 0 1 x) (pick sent objects 0) (bytes_at trim.now objects trim_fixed) }
 {
-    all_below(objects as usize, |i| between_if(sent, 0, 1, trim[TRIM_FIXED + i]))
+    all_below(
+        objects as usize,
+        |i| between_if(sent, 0, 1, trim[TRIM_FIXED + i]),
+    )
 }
 
 // A table of which there is all.

@@ -16,5 +16,5 @@ pub returns : goal.returns
 returns c =
     let configs = configs_at c.args.trim.now trim_configs trim_head in
     c.all_below.ensures (tested config_valid (pick c.args.sent trim_configs 0) configs no_config)
-        (λ i r h e. rw (sent c.args.sent i trim_configs h, config-entry c.args.trim.now trim_configs trim_head i no_config h) (search rules))
+    (λ i r h e. rw (sent c.args.sent i trim_configs h, config-entry c.args.trim.now trim_configs trim_head i no_config h) (search rules))
     ∙ all_of config_valid (pick c.args.sent trim_configs 0) configs no_config trim_configs (configs-length c.args.trim.now trim_configs trim_head)

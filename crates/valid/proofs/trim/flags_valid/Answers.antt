@@ -12,5 +12,5 @@ returns c =
     let n = c.args.objects in
     let flags = bytes_at c.args.trim.now n trim_fixed in
     c.all_below.ensures (tested (λ used x. between_if used 0 1 x) (pick c.args.sent n 0) flags 0)
-        (λ i r h e. rw (sent c.args.sent i n h, byte-entry c.args.trim.now n trim_fixed i h) (search rules))
+    (λ i r h e. rw (sent c.args.sent i n h, byte-entry c.args.trim.now n trim_fixed i h) (search rules))
     ∙ all_of (λ used x. between_if used 0 1 x) (pick c.args.sent n 0) flags 0 n (bytes-length c.args.trim.now n trim_fixed)
