@@ -53,7 +53,7 @@ eight {s} {at} small is below =
       is = rw (e, a 1, a 2, a 3, a 4, a 5, a 6) (omega (arith, is));
       below = below;
       bytes = rw (b 1, b 2, b 3, b 4, b 5, b 6)
-        (small at, (small (at + 1), (small (at + 2), (small (at + 3), (small (at + 4), (small (at + 5), (small (at + 6), (small (at + 7), tt))))))));
+          (small at, (small (at + 1), (small (at + 2), (small (at + 3), (small (at + 4), (small (at + 5), (small (at + 6), (small (at + 7), tt))))))));
     }
 
 pub eight_of : (v : ℕ) → v % 256 ∷ v / 256 % 256 ∷ v / 65536 % 256 ∷ v / 16777216 % 256 ∷ v / 4294967296 % 256 ∷ v / 1099511627776 % 256 ∷ v / 281474976710656 % 256

@@ -1,6 +1,6 @@
 use Rattle.std.proofs.Common.{ap, arith, subst, sym, ℕ, ◌<◌, ◌^◌}
 use Rattle.bits.specs.Writes.{to_bits}
-use Rattle.coding.proofs.packing.nothing.Goals as goal
+use Rattle.coding.proofs.Packed.nothing.Goals as goal
 
 pub returns : goal.returns
 unfolding to_bits

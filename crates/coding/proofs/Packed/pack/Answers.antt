@@ -1,7 +1,7 @@
 use Rattle.std.proofs.Common.{ap, arith, mod-lt, pow_pos, ◌∙◌}
 use Rattle.bits.specs.Writes.{to_bits}
 use Rattle.coding.proofs.Joins.{low_bits, same_bits, behind_is}
-use Rattle.coding.proofs.packing.pack.Goals as goal
+use Rattle.coding.proofs.Packed.pack.Goals as goal
 
 pub pack_whole-requires : goal.pack_whole-requires
 pack_whole-requires c =
