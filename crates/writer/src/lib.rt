@@ -14,6 +14,7 @@ use oamd::{Programme, Timing, WriteAnswer};
 use units::{BitCount, ByteCount};
 
 mod putting; // putting.rt: a field
+mod each; // each.rt: parts of one kind
 mod blocks; // blocks.rt: a block
 mod survey; // survey.rt: all records, before a bit is laid
 mod header; // header.rt: what stands before the elements
