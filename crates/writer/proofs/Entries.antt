@@ -14,9 +14,9 @@ use Rattle.bits.specs.Writes.{to_bits, only, each_bits}
 use Rattle.coding.specs.declared.Packed.{Packed}
 use Rattle.coding.specs.Packing.{PacksIn}
 use Rattle.laying.specs.declared.Pen.{Pen}
-use Rattle.laying.specs.Laying.{Laid}
+use Rattle.laying.specs.Laying.{Laid, widest_put, most_position}
 use Rattle.laying.proofs.Laws.{laid_is, laid-within, laid-bind, laid_nil}
-use Rattle.writer.specs.Parts.{Wide, bits_below}
+use Rattle.writer.specs.Parts.{Wide, bits_below, PacksEach, Packable}
 use Rattle.writer.proofs.Widths.{wide_is, wide-within, wide-bind, packed-laid, packed-wide}
 
 -- ---- one part more
@@ -77,3 +77,51 @@ module _ {Y : Type 0} (g : ℕ → Y → List ℕ) (xs : List Y) (d : Y) where
       ap (λ (l : List ℕ). l ++ g n x) (entries_bits n (omega arith))
       ∙ sym (ap (each_bits g 0) (take-suc xs n d h) ∙ each_append g 0 (take n xs) (x ∷ [])
       ∙ ap (λ (l : List ℕ). each_bits g 0 (take n xs) ++ l) (ap (λ (k : ℕ). each_bits g k (x ∷ [])) e ∙ append-nil (g n x)))
+
+-- ---- entries that are each packed by the number
+
+pub pick_le : (on : Bool) {n m : ℕ} → n ≡ pick on m 0 → n ≤ m
+pick_le true e = omega (arith, e)
+pick_le false e = omega (arith, e)
+
+-- of at most m
+module _ {n m : ℕ} (few : n ≤ m) where
+  pub packable : {post : ℕ → Packed → Type 0} {most at : ℕ} {f : ℕ → List ℕ} → PacksEach post most f n → most ≤ widest_put → at + most * m ≤ most_position
+      → Packable post n at
+  packable {most = most} {f = f} h w o = record {
+    most = most;
+    bits = f;
+    parts = h;
+    widest = w;
+    room = omega (arith, o, mul-le-mul_left most few);
+  }
+
+  pub few_bits : (most : ℕ) → most * m < 4294967296 → most * n < 4294967296
+  few_bits most h = omega (arith, h, mul-le-mul_left most few)
+
+module _ {Y : Type 0} (g : Y → List ℕ) (xs : List Y) (d : Y) (item : ℕ → Y) {m : ℕ} (there : (i : ℕ) → i < m → get_or xs i d ≡ item i) where
+  abbrev pub numbered : ℕ → List ℕ
+  numbered = entry_bits (λ i y. g y) xs d
+
+  -- some of them, by what is packed of each
+  pub packs-each : {post : ℕ → Packed → Type 0} {most n : ℕ} → n ≤ m → ((i : ℕ) (r : Packed) → i < m → post i r → PacksIn 0 most r (g (item i)))
+      → PacksEach post most numbered n
+  packs-each few each = record { each = λ i r h e. rw (there i (omega (arith, h, few))) (each i r (omega (arith, h, few)) e) }
+
+  -- all of them, where a test holds
+  module _ (length-is : length xs ≡ m) where
+    all_is : (on : Bool) → bits_below numbered (pick on m 0) ≡ only on (each_bits (λ i y. g y) 0 xs)
+    all_is on =
+        only_is numbered on m
+        ∙ ap (only on) (entries_bits (λ i y. g y) xs d m (omega (arith, length-is)) ∙ ap (each_bits (λ i y. g y) 0) (take_all m xs (omega (arith, length-is))))
+
+    within : (on : Bool) (most : ℕ) {n : ℕ} → n ≡ pick on m 0 → most * n ≤ most * m
+    within true most e = rw e (omega arith)
+    within false most e = rw (e, mul-zero most) (omega arith)
+
+    pub all-laid : (on : Bool) (most : ℕ) {n : ℕ} {s t : List ℕ} {p r : Pen} → n ≡ pick on m 0 → Laid (most * n) s t p r (bits_below numbered n)
+        → Laid (most * m) s t p r (only on (each_bits (λ i y. g y) 0 xs))
+    all-laid on most e h = laid_is (ap (bits_below numbered) e ∙ all_is on) (laid-within (within on most e) h)
+
+    pub all-wide : (on : Bool) (most : ℕ) {n k : ℕ} → n ≡ pick on m 0 → Wide (most * n) k (bits_below numbered n) → Wide (most * m) k (only on (each_bits (λ i y. g y) 0 xs))
+    all-wide on most e h = wide_is (ap (bits_below numbered) e ∙ all_is on) (wide-within (within on most e) h)

@@ -5,13 +5,13 @@ use Rattle.writer.specs.Parts.{framed}
 use Rattle.writer.proofs.Widths.{packed-wide}
 use Rattle.writer.proofs.payload.element_bits.Goals as goal
 
-pub returns-then-on : goal.returns-then-on
-returns-then-on c =
+pub returns : goal.returns
+returns c =
     let n = c.args.n.0 in
     let v = c.size_for-v.ensures in
     let wide = packed-wide c.size.ensures in
-    let total : c.plus-then-on.result.0 ≡ 4 + c.size.result.width.0 + c.room_of.result.0 =
-    omega (arith, c.plus-then-on.ensures, c.plus.ensures, c.new.ensures, c.room_of.ensures, wide.most, v.most, c.requires) in
+    let total : c.plus-2.result.0 ≡ 4 + c.size.result.width.0 + c.room_of.result.0 =
+    omega (arith, c.plus-2.ensures, c.plus.ensures, c.new-2.ensures, c.room_of.ensures, wide.most, v.most, c.requires) in
     record {
       same =
           omega (arith, total, c.room_of.ensures, wide.same, ap (λ (k : ℕ). length (size_bits k)) v.same, v.same)
