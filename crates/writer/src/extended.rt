@@ -38,7 +38,12 @@ fn put_extras(on: bool, first: bool, out: &mut [u8], pen: Pen, records: &[u8], n
     requires stand { Stand n records.now }
     ensures { Laid (most_extra * n) out.old out.new pen result (only on (extras_bits first records.now n)) }
 {
-    put_each(out, pen, pick(on, n, 0), |i| extra(first, records, RECORD_STRIDE * i))
+    put_each(
+        out,
+        pen,
+        pick(on, n, 0),
+        |i| extra(first, records, RECORD_STRIDE * i),
+    )
 }
 
 // Each of its two groups only where some record needs it.

@@ -48,7 +48,9 @@ pub fn measure(
 {
     let count = record_count(programme.objects, timing.blocks);
     let groups = found.groups;
-    let object = BitCount::new(2).plus(timing_width(timing)).plus(found.width);
+    let object = BitCount::new(2)
+        .plus(timing_width(timing))
+        .plus(found.width);
     let extended = extended_inside(records, count, groups);
     let trims = trim_inside(trim, programme.objects);
     let first = element_bits(0 < timing.blocks, object);

@@ -35,7 +35,8 @@ pub fn survey(
         let valid = valid::valid_at(class, records, at);
         let u = t.updates[turn.block as usize];
         let timed = has_time(records, at, time_of(frame, u.start));
-        if !(valid & timed) {
+        let right = valid & timed;
+        if !right {
             return Err(1 + i as u64);
         }
         let d = divergence_at(records, at);

@@ -24,7 +24,12 @@ fn put_configs(sent: bool, out: &mut [u8], pen: Pen, trim: &[u8]) -> Pen
     ensures { Laid most_configs out.old out.new pen result (only sent (each_bits (λ cfg c. config_bits c) 0 (configs_at trim.now trim_configs trim_head))) }
 {
     let n = pick(sent, TRIM_CONFIGS, 0);
-    put_each(out, pen, n, |i| coding::config(config_at(trim, TRIM_HEAD + CONFIG_BYTES * i)))
+    put_each(
+        out,
+        pen,
+        n,
+        |i| coding::config(config_at(trim, TRIM_HEAD + CONFIG_BYTES * i)),
+    )
 }
 
 // The flags of the objects, where they are.
@@ -34,7 +39,12 @@ fn put_flags(sent: bool, out: &mut [u8], pen: Pen, trim: &[u8], objects: u8) -> 
     ensures { Laid objects out.old out.new pen result (only sent (each_bits (λ obj x. to_bits 1 x) 0 (bytes_at trim.now objects trim_fixed))) }
 {
     let n = pick(sent, objects as usize, 0);
-    put_each(out, pen, n, |i| coding::field(1, trim[TRIM_FIXED + i] as u64))
+    put_each(
+        out,
+        pen,
+        n,
+        |i| coding::field(1, trim[TRIM_FIXED + i] as u64),
+    )
 }
 
 // The configurations in mode 2 alone, and the flags where they are announced; the two reserved bits are 0.
@@ -59,7 +69,10 @@ fn configs_width(sent: bool, trim: &[u8]) -> BitCount
     ensures { Wide most_configs result.0 (only sent (each_bits (λ cfg c. config_bits c) 0 (configs_at trim.now trim_configs trim_head))) }
 {
     let n = pick(sent, TRIM_CONFIGS, 0);
-    each_width(n, |i| coding::config(config_at(trim, TRIM_HEAD + CONFIG_BYTES * i)))
+    each_width(
+        n,
+        |i| coding::config(config_at(trim, TRIM_HEAD + CONFIG_BYTES * i)),
+    )
 }
 
 // A bit for each object, where they are.

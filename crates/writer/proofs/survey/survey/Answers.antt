@@ -29,10 +29,10 @@ judged c =
     let by-time = its-time _ _ _ so_far c.loop-i-test.true few c.time_of.ensures c.has_time-timed.ensures in
     ap₂ both by-class by-time
 
-pub returns-then-not-valid-timed-clause-refused : goal.returns-then-not-valid-timed-clause-refused
-returns-then-not-valid-timed-clause-refused c =
+pub returns-then-not-right-clause-refused : goal.returns-then-not-right-clause-refused
+returns-then-not-right-clause-refused c =
     let first = stop (both-search (bad-search _ _ _) (mistimed-search _ _ _)) c.loop-i.invariant.search-so-far c.loop-i-test.true
-    (judged (goal.at.returns-then-not-valid-timed-clause-refused c).After-has_time-timed) c.if-not-valid-timed.true in
+    (judged (goal.at.returns-then-not-right-clause-refused c).After-has_time-timed) c.if-not-right.true in
     record { wrong = omega (arith, first, c.loop-i-test.true); is = ap (λ (k : ℕ). 1 + k) first }
 
 pub loop-i-preserved : goal.loop-i-preserved
@@ -50,7 +50,7 @@ loop-i-preserved c =
     let turned = next-turn _ h.turn (omega (arith, so_far.below, left, c.requires.1)) c.next_turn-turn.ensures in
     record {
       search-so-far = more (both-search (bad-search _ _ _) (mistimed-search _ _ _)) so_far left
-          (judged (goal.at.loop-i-preserved c).After-has_time-timed) c.if-not-valid-timed.false turned;
+          (judged (goal.at.loop-i-preserved c).After-has_time-timed) c.if-not-right.false turned;
       one-so-far = any_more diverges _ _ h.i h.diverges _ left d ∙ h.invariant.one-so-far;
       other-so-far = any_more refines _ _ h.i h.refines _ left p ∙ h.invariant.other-so-far;
       bits-so-far = counted_step (omega arith) (omega (arith, left, c.requires.1, c.requires.2))
