@@ -10,18 +10,19 @@ use oamd::Offset;
 const ZERO_Z: u8 = 64;
 
 // Code 0 or 2 (Table 22).
+#[tactic(auto, unfolding(form::specs::Coded::coded_offset))]
 pub fn coded_offset(offset: u8) -> Offset
     ensures { result ≡ coded_offset offset }
 {
-    let code = pick(offset == 0, 0, 2);
     Offset {
-        code,
+        code: pick(offset == 0, 0, 2),
         index: 0,
         bits: offset,
     }
 }
 
 // Code 0, 1 or 2 if one gives the ramp (Table 24).
+#[tactic(auto, unfolding(form::specs::Coded::ramp_code))]
 pub fn ramp_code(ramp: u16) -> u8
     ensures { result ≡ ramp_code ramp }
 {
@@ -46,19 +47,17 @@ pub fn ramp_index(ramp: u16) -> u8
 pub fn ramp_bits(code: u8, ramp: u16) -> u16
     ensures { result ≡ pick (both (eqb code 3) (ltb ramp 2048)) ramp 0 }
 {
-    if bits::both(code == 3, ramp < 2048) {
-        ramp
-    } else {
-        0
-    }
+    pick((code == 3) & (ramp < 2048), ramp, 0)
 }
 
+#[tactic(auto, unfolding(form::specs::Coded::z_sign))]
 pub fn z_sign(z: u8) -> u8
     ensures { result ≡ z_sign z }
 {
     u8::from(ZERO_Z < z)
 }
 
+#[tactic(auto, unfolding(form::specs::Coded::z_bits))]
 pub fn z_bits(z: u8) -> u8
     ensures { result ≡ z_bits z }
 {

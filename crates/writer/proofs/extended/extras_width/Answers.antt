@@ -1,12 +1,12 @@
 use Rattle.std.proofs.Common.{arith, rules}
-use Rattle.writer.proofs.Records.{records_more, records_none}
-use Rattle.writer.proofs.Widths.{counted_step, counted_end}
+use Rattle.writer.specs.Most.{most_extra}
+use Rattle.writer.proofs.Entries.{pick_le, few_bits}
+use Rattle.writer.proofs.Extra.{numbered-extras, packs-extras, extras-wide}
+use Rattle.writer.proofs.Widths.{at_most}
 use Rattle.writer.proofs.extended.extras_width.Goals as goal
 
-pub loop-i-preserved : goal.loop-i-preserved
-loop-i-preserved c =
-    let h = c.loop-i in
-    (counted_step (omega arith) (omega arith) (records_more _ _ _ h.i _ (search rules)) h.invariant.0 c.extra_width-width.ensures c.plus-total.ensures, search rules, search rules)
-
 pub returns : goal.returns
-returns c = counted_end (omega arith) (records_none _ _ _ _ _ (omega arith)) c.loop-i.invariant.0
+returns c =
+    let n = c.pick.ensures in
+    let few = pick_le c.args.on n in
+    extras-wide c.args.first c.args.records.now c.args.n c.args.on n (c.each_width.ensures most_extra (numbered-extras c.args.first c.args.records.now c.args.n) (packs-extras c.args.first c.args.records.now c.args.n few (λ i r h e. search rules)) (few_bits few most_extra (omega arith)))

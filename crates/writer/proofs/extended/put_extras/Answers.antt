@@ -1,12 +1,16 @@
 use Rattle.std.proofs.Common.{arith, rules}
-use Rattle.laying.proofs.Laws.{rest_step, rest_end}
-use Rattle.writer.proofs.Records.{records_more, records_none}
+use Rattle.writer.specs.Most.{most_extra}
+use Rattle.writer.proofs.Entries.{pick_le, packable}
+use Rattle.writer.proofs.Extra.{numbered-extras, packs-extras, extras-laid}
+use Rattle.writer.proofs.Widths.{at_most}
 use Rattle.writer.proofs.extended.put_extras.Goals as goal
 
-pub loop-i-preserved : goal.loop-i-preserved
-loop-i-preserved c =
-    let h = c.loop-i in
-    (rest_step (omega arith) (records_more _ _ _ h.i _ (search rules)) h.invariant.0 c.put_extra_at-next.ensures, search rules, search rules)
+pub put_each-requires-clause-parts : goal.put_each-requires-clause-parts
+put_each-requires-clause-parts c =
+    let few = pick_le c.args.on c.pick.ensures in
+    packable few (packs-extras c.args.first c.args.records.now c.args.n few (λ i r h e. search rules)) (omega arith) (omega arith)
 
 pub returns : goal.returns
-returns c = rest_end (omega arith) (records_none _ _ _ _ _ (omega arith)) c.loop-i.invariant.0
+returns c =
+    let n = c.pick.ensures in
+    extras-laid c.args.first c.args.records.now c.args.n c.args.on n (c.put_each.ensures most_extra (numbered-extras c.args.first c.args.records.now c.args.n) (packs-extras c.args.first c.args.records.now c.args.n (pick_le c.args.on n) (λ i r h e. search rules)))
