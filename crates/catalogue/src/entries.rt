@@ -15,11 +15,7 @@ fn lay_name(text: &mut [u8], at: usize, k: usize) -> usize
     requires { k < record_bytes }
     ensures { Laid text.old text.new at result (field_of k).key }
 {
-    let names = keys::FIELDS;
-    let places = keys::FIELD_AT;
-    let from = places[k] as usize;
-    let end = places[k + 1] as usize;
-    lay_bytes(text, at, &names[from..end])
+    lay_bytes(text, at, keys::FIELDS[k])
 }
 
 fn lay_field(text: &mut [u8], at: usize, k: usize, v: u8) -> usize

@@ -1,7 +1,10 @@
 // The catalogue of a segment of frames: its text, and the text read back.
 #![tactic(auto)]
 
-use oamd::MOST_BLOCKS;
+ghost use Rattle.std.specs.Prelude.{◌≤◌};
+ghost use Rattle.oamd.specs.Tables.{most_objects};
+
+use oamd::Timing;
 
 mod before; // before.rt: the update before, as it is lent from call to call
 mod entries; // entries.rt: the entries of an update
@@ -43,19 +46,31 @@ pub const ROWS_BYTES: usize = 3816;
 // And the number of objects in front of them, as the update before is lent.
 pub const BEFORE_BYTES: usize = 3817;
 
-// Where the reading of a text stands: a place of it, the number of the line there, and whether all is good so far; if not, the line is the bad one.
+// A text as far as it was read: what is left of it, and the number of the line there.
 #[derive(Clone, Copy)]
-pub struct Spot {
-    pub at: usize,
+pub struct Reader<'a> {
+    pub rest: &'a [u8],
     pub line: usize,
-    pub good: bool,
 }
 
-// A number that was read, and where reading stands behind it.
+// The number of a line that cannot stand where it does.
 #[derive(Clone, Copy)]
-pub struct Number {
-    pub value: u64,
-    pub spot: Spot,
+pub struct BadLine {
+    pub line: usize,
+}
+
+// A number of objects: no more than there can be.
+#[derive(Clone, Copy)]
+pub struct Objects {
+    pub n: usize,
+    ghost few: { n ≤ most_objects },
+}
+
+// The rows of the latest update, of so many objects, in front of an array with room for those of every update.
+#[derive(Clone, Copy)]
+pub struct Latest {
+    pub count: Objects,
+    pub bytes: [u8; ROWS_BYTES],
 }
 
 // Where the laying of a text stands: its next place, and how many objects the update before has, 0 where there is none.
@@ -65,49 +80,19 @@ pub struct Stand {
     pub count: usize,
 }
 
-// A frame as its lines gave it: the starts and the ramps of its updates, of which there are as many as blocks. Their rows stand apart, one update behind the other.
+// A frame as its lines gave it. The rows of its updates stand apart, one update behind the other.
 #[derive(Clone, Copy)]
 pub struct Page {
     pub frame: u32,
     pub refusal: u8,
     pub objects: u8,
-    pub blocks: u8,
-    pub starts: [u16; MOST_BLOCKS],
-    pub ramps: [u16; MOST_BLOCKS],
+    pub timing: Timing,
 }
 
-// An update's line as it was read, and where reading stands behind the update's entries.
-#[derive(Clone, Copy)]
-pub struct Timed {
-    pub start: u16,
-    pub ramp: u16,
-    pub spot: Spot,
-}
-
-// The starts and the ramps of a frame's updates, the objects of the update before behind them, and where reading stands.
-#[derive(Clone, Copy)]
-pub struct Updates {
-    pub starts: [u16; MOST_BLOCKS],
-    pub ramps: [u16; MOST_BLOCKS],
-    pub count: usize,
-    pub spot: Spot,
-}
-
-// A frame, the objects of the update before behind it, and where reading stands.
-#[derive(Clone, Copy)]
-pub struct Leaf {
-    pub page: Page,
-    pub count: usize,
-    pub spot: Spot,
-}
-
-// The frames of a text: how many, the places behind their lines and their records, the objects of the update before behind them, and the next line; or the line that is bad.
+// The frames of a text: how many, and the places behind their lines and their records.
 #[derive(Clone, Copy)]
 pub struct Tally {
     pub frames: u64,
     pub lines: usize,
     pub records: usize,
-    pub count: usize,
-    pub line: usize,
-    pub good: bool,
 }
