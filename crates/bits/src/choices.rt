@@ -1,6 +1,6 @@
-// Small steps that every crate above needs, each equal to its definition: a flag of an array of flags, tests joined, a choice, a difference.
-ghost use Rattle.std.specs.Prelude.{◌≡◌, true, eqb};
-ghost use Rattle.bits.specs.Language.{flag, both, pick};
+// Small steps that every crate above needs, each equal to its definition: a flag of an array of flags, and a choice.
+ghost use Rattle.std.specs.Prelude.{◌≡◌, eqb};
+ghost use Rattle.bits.specs.Language.{flag, pick};
 
 // Index k of an array of n flags that was sent as the number v. Index 0 is sent first, so it is the top bit.
 pub fn flag(n: u32, k: u32, v: u32) -> bool
@@ -12,21 +12,6 @@ pub fn flag(n: u32, k: u32, v: u32) -> bool
     } else {
         false
     }
-}
-
-pub fn both(a: bool, b: bool) -> bool
-    ensures { result ≡ both a b }
-{
-    if a { b } else { false }
-}
-
-pub fn either(a: bool, b: bool) -> bool
-    ensures { result ≡ pick a true b }
-{
-    if a {
-        return true;
-    }
-    b
 }
 
 // The first where a test holds, else the second. Neither is branched to: where both are there, that costs less than a branch that is guessed wrong.

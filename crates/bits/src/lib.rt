@@ -10,9 +10,9 @@ mod leaf; // leaf.rt: a field of any width up to 24
 mod sight; // sight.rt: eight bytes looked at once
 mod cursor; // cursor.rt: fields that may be absent, runs, refusals, declared ends
 mod sizes; // sizes.rt: an element's size
-mod choices; // choices.rt: a flag of an array of flags, tests joined, a choice
+mod choices; // choices.rt: a flag of an array of flags, a choice
 
-pub use choices::{both, either, flag, pick};
+pub use choices::{flag, pick};
 pub use cursor::{close, inner_of, open, refuse_if, skip_if, take_if, take_unless, with_value};
 pub use leaf::{take, word};
 pub use sight::{look, look_if, window};

@@ -64,7 +64,7 @@ fn refused(refusal: Refusal, place: u64) -> Summary
 {
     Summary {
         place,
-        refusal: bits::number(refusal),
+        refusal: refusal.number(),
         ..nothing()
     }
 }

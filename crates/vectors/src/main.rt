@@ -8,8 +8,6 @@ use std::fs::File;
 use std::io;
 use std::io::Print;
 
-mod same; // same.rt: whether two programmes or two timings are the same
-
 type Room = [u8; ROOM_BYTES];
 
 type Trim = [u8; MOST_TRIM];
@@ -25,8 +23,8 @@ fn reads_back(a: ReadAnswer, records: &Room, trim: &Trim, payload: &[u8]) -> boo
     b.refusal == 0
         && b.unknown == 0
         && *trim == trim_again
-        && same::programme(a.programme, b.programme)
-        && same::timing(a.timing, b.timing)
+        && a.programme == b.programme
+        && a.timing == b.timing
         && *records == again
 }
 
