@@ -1,4 +1,4 @@
-use Rattle.std.proofs.Common.{Bool, arith, refl, ℕ, ◌%◌, ◌+◌, ◌-◌, ◌≤◌}
+use Rattle.std.proofs.Common.{Bool, arith, not, refl, ℕ, ◌||◌, ◌%◌, ◌+◌, ◌-◌, ◌≤◌}
 use Rattle.bits.proofs.Free.{free-give}
 use Rattle.oamd.specs.declared.Render.{Render}
 use Rattle.oamd.specs.declared.Status.TheVariants.{Mixed}
@@ -62,7 +62,7 @@ returns c =
       coded = sent_alone looked;
       held = record {
         freely = λ g.
-            let good = each-good _ _ g in
+            let good = each-good (not c.has_zone-zoned.result || c.look_zone-z.result.good) (not c.has_size-sized.result || c.look_extent-e.result.good) g in
             there parts.looks sees refl refl
             ⊳ there (taken told (λ (on : Bool). position on c.args.first) refl (λ h. position-seen.looks) (no-position _)) sees refl refl
             ⊳ there (taken-behind told distance c.pick.ensures c.look_distance-d.ensures.looks no_distance_lem) sees refl refl
