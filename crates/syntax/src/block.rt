@@ -44,7 +44,7 @@ pub fn read_block(s: &[u8], l: Limit, c: Cur, class: u8, blk: u32) -> Step<Block
     let idle = bits::take(s, l, c, 1);
     let level = read_status(s, l, idle, idle.v == 1, first);
     let basic = read_basic(s, l, level.cur, level.value);
-    let anchored = if idle.v == 1 { true } else { class != 2 };
+    let anchored = (idle.v == 1) | (class != 2);
     let shown = read_status(s, l, basic.cur, anchored, first);
     let render = read_render(s, l, shown.cur, shown.value, first);
     Step {

@@ -7,6 +7,7 @@ ghost use Rattle.oamd.specs.Block.{status_of, status_idx, parts_of, object_basic
 use bits::{Cur, Limit, Step};
 use oamd::{Basic, Gain, Priority, Status};
 
+// No `From`: only numbers of 2 bits are codes.
 pub fn status_of(code: u32) -> Status
     ensures { result ≡ status_of code }
 {
@@ -49,8 +50,7 @@ pub fn read_parts(s: &[u8], l: Limit, c: Cur, status: Status, all: u32, w: u32) 
     match status {
         Status::Full => bits::with_value(c, all),
         Status::Mixed => bits::take(s, l, c, w),
-        Status::Default => bits::with_value(c, 0),
-        Status::Reuse => bits::with_value(c, 0),
+        Status::Default | Status::Reuse => bits::with_value(c, 0),
     }
 }
 
@@ -62,7 +62,7 @@ pub fn read_basic(s: &[u8], l: Limit, c: Cur, status: Status) -> Step<Basic>
     let level = bits::take_if(index.v == 2, s, l, index, 6);
     let ranked = oamd::has_priority(parts.v);
     let bydefault = bits::take_if(ranked, s, l, level, 1);
-    let rank = bits::take_if(bits::both(ranked, bydefault.v == 0), s, l, bydefault, 5);
+    let rank = bits::take_if(ranked & (bydefault.v == 0), s, l, bydefault, 5);
     Step {
         value: Basic {
             status,

@@ -17,7 +17,7 @@ fn read_bed(s: &[u8], l: Limit, c: Cur) -> Step<Bed>
     let lfe = bits::take(s, l, c, 1);
     let standard = bits::take_if(lfe.v == 0, s, l, lfe, 1);
     let usual = bits::take_if(standard.v == 1, s, l, standard, 10);
-    let other = bits::take_if(bits::both(lfe.v == 0, standard.v == 0), s, l, usual, 17);
+    let other = bits::take_if((lfe.v == 0) & (standard.v == 0), s, l, usual, 17);
     Step {
         value: Bed {
             assignment: usual.v + other.v,
@@ -59,13 +59,10 @@ fn read_beds(s: &[u8], l: Limit, c: Cur, content: u32) -> Step<Beds>
     };
     let mut beds = [none; MOST_BEDS];
     let mut cur = instances;
-    let mut i: usize = 0;
-    let n = count as usize;
-    while i < n {
+    for i in 0..count as usize {
         let step = read_bed(s, l, cur);
         beds[i] = step.value;
         cur = step.cur;
-        i += 1;
     }
     Step {
         value: Beds {

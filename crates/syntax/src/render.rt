@@ -36,7 +36,7 @@ fn read_coordinates(s: &[u8], l: Limit, c: Cur) -> Step<Position>
 fn read_position(s: &[u8], l: Limit, c: Cur, on: bool, first: bool) -> Step<Position>
     ensures { Reads (position on first) (bit s.now) c l result.value result.cur }
 {
-    let moved = bits::take_if(bits::both(on, !first), s, l, c, 1);
+    let moved = bits::take_if(on & !first, s, l, c, 1);
     if on {
         if moved.v == 1 {
             read_differences(s, l, moved)
@@ -56,7 +56,7 @@ fn read_distance(s: &[u8], l: Limit, c: Cur, on: bool) -> Step<Distance>
 {
     let given = bits::take_if(on, s, l, c, 1);
     let infinite = bits::take_if(given.v == 1, s, l, given, 1);
-    let index = bits::take_if(bits::both(given.v == 1, infinite.v == 0), s, l, infinite, 4);
+    let index = bits::take_if((given.v == 1) & (infinite.v == 0), s, l, infinite, 4);
     Step {
         value: Distance {
             given: given.v as u8,
@@ -122,10 +122,8 @@ pub fn sends_any(status: Status) -> bool
     ensures { result ≡ sends status }
 {
     match status {
-        Status::Default => false,
-        Status::Full => true,
-        Status::Reuse => false,
-        Status::Mixed => true,
+        Status::Full | Status::Mixed => true,
+        Status::Default | Status::Reuse => false,
     }
 }
 

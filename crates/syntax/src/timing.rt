@@ -29,7 +29,7 @@ pub fn read_update(s: &[u8], l: Limit, c: Cur) -> Step<BlockUpdate>
     let code = bits::take(s, l, factor, 2);
     let indexed = bits::take_if(code.v == 3, s, l, code, 1);
     let index = bits::take_if(indexed.v == 1, s, l, indexed, 4);
-    let ramp = bits::take_if(bits::both(code.v == 3, indexed.v == 0), s, l, index, 11);
+    let ramp = bits::take_if((code.v == 3) & (indexed.v == 0), s, l, index, 11);
     Step {
         value: BlockUpdate {
             bits: ramp.v as u16,

@@ -28,7 +28,7 @@ pub fn read_trim_config(s: &[u8], l: Limit, c: Cur) -> Step<TrimConfig>
 {
     let bydefault = bits::take(s, l, c, 1);
     let disabled = bits::take_if(bydefault.v == 0, s, l, bydefault, 1);
-    let sent = bits::both(bydefault.v == 0, disabled.v == 0);
+    let sent = (bydefault.v == 0) & (disabled.v == 0);
     let presence = bits::take_if(sent, s, l, disabled, 5);
     let centre = bits::take_if(oamd::has_centre(presence.v), s, l, presence, 4);
     let surround = bits::take_unless(oamd::has_surround(presence.v), s, l, centre, 4, 0, 3);

@@ -3,8 +3,8 @@ ghost use Rattle.std.specs.Prelude.{true, ◌≤◌};
 ghost use Rattle.oamd.specs.Block.{differences, coordinates, position, distance, zone, extent, screen};
 ghost use Rattle.syntax.specs.Looks.{Seen, SeenIf};
 
+use crate::Checked;
 use crate::glance::only;
-use crate::{ExtentLook, ZoneLook};
 use bits::Sighted;
 use oamd::{Distance, Extent, Position, Screen, Zone};
 
@@ -91,32 +91,33 @@ pub fn look_distance(x: u64, o: u32) -> Sighted<Distance>
     }
 }
 
-pub fn look_zone(x: u64, o: u32) -> ZoneLook
+pub fn look_zone(x: u64, o: u32) -> Checked<Zone>
     requires { o ≤ 60 }
-    ensures { SeenIf result.good (zone true) 4 x o result.zone result.off }
+    ensures { SeenIf result.good (zone true) 4 x o result.value result.off }
 {
     let q = bits::look(x, o, 4);
-    ZoneLook {
-        zone: Zone {
-            index: (q.value / 2 % 8) as u8,
+    let index = q.value / 2 % 8;
+    Checked {
+        value: Zone {
+            index: index as u8,
             elevation: (q.value % 2) as u8,
         },
         off: q.off,
-        good: q.value / 2 % 8 < 6,
+        good: index < 6,
     }
 }
 
 // One size for all, one for each, or none.
-pub fn look_extent(x: u64, o: u32) -> ExtentLook
+pub fn look_extent(x: u64, o: u32) -> Checked<Extent>
     requires { o ≤ 47 }
-    ensures { SeenIf result.good (extent true) 17 x o result.extent result.off }
+    ensures { SeenIf result.good (extent true) 17 x o result.value result.off }
 {
     let q = bits::look(x, o, 17);
     let index = q.value / 32768 % 4;
     let even = index == 1;
     let each = index == 2;
-    ExtentLook {
-        extent: Extent {
+    Checked {
+        value: Extent {
             index: index as u8,
             all: only(even, q.value / 1024 % 32),
             width: only(each, q.value / 1024 % 32),

@@ -53,8 +53,8 @@ returns c =
       parts = c.look-parts.result.value;
       position = c.look_position-p.result.value;
       distance = c.look_distance-d.result.value;
-      zone = c.look_zone-z.result.zone;
-      extent = c.look_extent-e.result.extent;
+      zone = c.look_zone-z.result.value;
+      extent = c.look_extent-e.result.value;
       screen = c.look_screen-n.result.value;
       snap = c.look-snap.result.value;
     } in
@@ -62,13 +62,13 @@ returns c =
       coded = sent_alone looked;
       held = record {
         freely = λ g.
-            let good = each-good _ _ c.both.ensures g in
+            let good = each-good _ _ g in
             there parts.looks sees refl refl
             ⊳ there (taken told (λ (on : Bool). position on c.args.first) refl (λ h. position-seen.looks) (no-position _)) sees refl refl
             ⊳ there (taken-behind told distance c.pick.ensures c.look_distance-d.ensures.looks no_distance_lem) sees refl refl
-            ⊳ there (taken zone-told zone c.pick-extent_off.ensures (λ h. c.look_zone-z.ensures.looks (good_if zone-told c.either.ensures good.0 h)) no-zone)
+            ⊳ there (taken zone-told zone c.pick-extent_off.ensures (λ h. c.look_zone-z.ensures.looks (good_if zone-told good.0 h)) no-zone)
             sees-2 (entered new) refl
-            ⊳ there (taken size-told extent c.pick-screen_off.ensures (λ h. c.look_extent-e.ensures.looks (good_if size-told c.either-2.ensures good.1 h)) no-extent)
+            ⊳ there (taken size-told extent c.pick-screen_off.ensures (λ h. c.look_extent-e.ensures.looks (good_if size-told good.1 h)) no-extent)
             sees-2 refl refl
             ⊳ there (taken screen-told screen c.pick-snap_off.ensures (λ h. c.look_screen-n.ensures.looks) no-screen) sees-2 refl refl
             ⊳ there c.look-snap.ensures.1.looks sees-2 refl (behind _ new)
