@@ -12,7 +12,7 @@ pub fn read_divergence(s: &[u8], l: Limit, c: Cur, carries: bool) -> Step<Diverg
 {
     let used = bits::take_if(carries, s, l, c, 1);
     let mode = bits::take_unless(used.v == 1, s, l, used, 2, 3, 3);
-    let table = bits::take_if(bits::both(used.v == 1, mode.v == 0), s, l, mode, 2);
+    let table = bits::take_if((used.v == 1) & (mode.v == 0), s, l, mode, 2);
     let code = bits::take_unless(mode.v == 2, s, l, table, 6, 0, 0);
     Step {
         value: Divergence {
