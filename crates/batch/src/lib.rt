@@ -46,7 +46,7 @@ fn batched(refusal: u8, place: u64) -> BatchAnswer
     BatchAnswer { place, refusal }
 }
 
-// The entries in list order, each into its slots and its place.
+// The entries in list order, each into its slots and its place. The lists stand beside each other as they come in through the C interface.
 fn read_entries(
     store: &[u8],
     starts: &[u64],

@@ -102,12 +102,12 @@ pub record Went {X : Type 0} (p : P (List X)) (f : Record → X → Record) (rs 
   pub reads : Reads p b c l value d
   pub stand : d.no ≡ 0 → out' ≡ onto (bytes_of (put f rs value)) t
 
+-- what a function promises that passes over n records, whatever records they are
 pub record Passed {X : Type 0} (p : Bool → P X) (f : Record → X → Record) (n : ℕ) (b : Bits) (c : Cur) (l : Limit) (out : List ℕ) (d : Cur) (out' : List ℕ) : Type 0 where
   pub size : length out' ≡ length out
   pub went : (rs : List Record) (t : List ℕ) → (c.no ≡ 0 → out ≡ onto (bytes_of rs) t) → length rs ≡ n
       → Went (each p (carriers rs)) f rs b c l t d out'
 
--- what a function promises that passes over n records, whatever records they are
 -- the same where a flag says that there is anything to read; else each value is none
 pub record PassedIf {X : Type 0} (on : Bool) (p : Bool → P X) (f : Record → X → Record) (none : X) (n : ℕ) (b : Bits) (c : Cur) (l : Limit) (out : List ℕ) (d : Cur) (out' : List ℕ) : Type 0 where
   pub size : length out' ≡ length out

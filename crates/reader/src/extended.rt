@@ -1,5 +1,5 @@
 // The extended object element (5.5.13), laid into the records that stand already.
-ghost use Rattle.std.specs.Prelude.{◌≡◌, Bool, List, ℕ, ◌++◌, ◌+◌, ◌≤◌, length, refl};
+ghost use Rattle.std.specs.Prelude.{◌≡◌, Bool, List, ℕ, ◌++◌, ◌+◌, ◌≤◌, length};
 ghost use Rattle.bits.specs.Language.{P, bit};
 ghost use Rattle.bits.specs.View.{Reads};
 ghost use Rattle.oamd.specs.Extended.{obj_div_block, ext_prec_pos_block};

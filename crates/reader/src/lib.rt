@@ -68,7 +68,7 @@ pub struct Turn {
 }
 
 // Which elements of a payload salvage drops: the first bit of the element count, the count, the first bit of the elements, and the elements that go, of which there are
-// `drops`; entries past them are 0.
+// `drops`; entries past them are 0. An array with a count, since no memory is taken.
 #[derive(Clone, Copy)]
 pub struct Sifted {
     pub head: BitPos,

@@ -17,7 +17,7 @@ pub fn no_trim() -> [u8; MOST_TRIM]
     [0u8; MOST_TRIM]
 }
 
-// A configuration's bytes, from a place on.
+// A configuration's bytes, from a place on. One by one: a slice of the fields to copy from would take as many lines.
 fn store_config(out: &mut [u8; MOST_TRIM], at: usize, config: TrimConfig)
     requires { at + config_bytes ≤ most_trim }
     ensures { out.new ≡ set_from at 0 (config_bytes_of config) out.old }

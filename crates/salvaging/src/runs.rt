@@ -1,4 +1,4 @@
-// The bits between the elements that go: how many they are, and laid one run behind the other.
+// The bits between the elements that go: how many they are, and laid one run behind the other. Two loops, since one function over what is done with a run would be longer than both.
 ghost use Rattle.std.specs.Prelude.{◌≡◌, ◌+◌, ◌*◌, ◌≤◌, length};
 ghost use Rattle.oamd.specs.Tables.{most_bytes};
 ghost use Rattle.laying.specs.Laying.{Laid, most_position, reach};

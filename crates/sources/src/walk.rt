@@ -137,7 +137,7 @@ pub fn find_block(s: &[u8], blocks: u32, object: u32, block: u32) -> Placed
 
 // ---- to what the extended element has for a record
 
-// obj_div_block of the first n records.
+// obj_div_block of the first n records. Apart from what is behind it for precise positions: one loop over both would need a trait, and that is longer.
 fn pass_divergences(s: &[u8], l: Limit, c: Cur, records: &[u8], n: usize) -> Cur
     requires { Room records.now n }
     ensures { Went (for n (λ i. obj_div_block (carries_at records.now i))) (bit s.now) c l result }
