@@ -1,5 +1,5 @@
 // The update before, as it is lent from call to call: how many objects it has, and their rows.
-ghost use Rattle.std.specs.Prelude.{◌≡◌, ◌≤◌, min, length};
+ghost use Rattle.std.specs.Prelude.{◌≡◌, ◌≤◌, length};
 ghost use Rattle.oamd.specs.Tables.{most_objects};
 ghost use Rattle.oamd.specs.Record.{onto};
 ghost use Rattle.catalogue.specs.Answer.{before_bytes, rows_laid};
@@ -11,22 +11,12 @@ use text::{lay_byte, lay_bytes};
 
 const MOST_OBJECTS: u8 = 159;
 
-// A count of objects; of more than there can be, the most that there can be.
-fn counted(n: u8) -> usize
-    ensures { result ≡ min n most_objects }
-{
-    if MOST_OBJECTS < n {
-        return MOST_OBJECTS as usize;
-    }
-    n as usize
-}
-
-// Its rows into an array; how many objects it has.
+// Its rows into an array; how many objects it has, at the most as many as there can be.
 pub fn take_before(before: &[u8], rows: &mut [u8]) -> usize
     requires { (before_bytes ≤ length before.now) × RowsRoom rows.old }
     ensures { Taken result before.now rows.new }
 {
-    let count = counted(before[0]);
+    let count = before[0].min(MOST_OBJECTS) as usize;
     let end = 1 + RECORD_BYTES * count;
     lay_bytes(rows, 0, &before[1..end]);
     count

@@ -21,13 +21,10 @@ fn gather(rows: &mut [u8], records: &[u8], objects: usize, blocks: usize, blk: u
     ensures { Laid rows.old rows.new 0 result (block_rows objects blocks records.now blk) }
 {
     let mut to: usize = 0;
-    let mut from = RECORD_STRIDE * blk;
-    let mut j: usize = 0;
-    while j < objects {
+    for j in 0..objects {
+        let from = RECORD_STRIDE * (j * blocks + blk);
         let end = from + RECORD_BYTES;
         to = lay_bytes(rows, to, &records[from..end]);
-        from = from + RECORD_STRIDE * blocks;
-        j = j + 1;
     }
     to
 }
@@ -46,9 +43,7 @@ fn lay_change(
     ensures { Laid text.old text.new at result
         (update_line u.start.0 u.ramp.0 ++ texts_for objects (entry_line full before.now rows.now)) }
 {
-    let start = u.start.raw();
-    let ramp = u.ramp.raw();
-    let to = lay_update_line(text, at, start, ramp);
+    let to = lay_update_line(text, at, u.start.raw(), u.ramp.raw());
     lay_entries(text, to, full, before, rows, objects)
 }
 
@@ -93,14 +88,11 @@ fn lay_updates(
         (update_lines objects (rows_of at.count before.old) (changes_from objects t.blocks records.now t.updates 0))
         (rows_behind (rows_of at.count before.old) (changes_from objects t.blocks records.now t.updates 0)) }
 {
-    let updates = t.updates;
     let blocks = t.blocks as usize;
     let mut stand = at;
-    let mut blk: usize = 0;
-    while blk < blocks {
-        let u = updates[blk];
+    for blk in 0..blocks {
+        let u = t.updates[blk];
         stand = lay_update(text, stand, before, records, u, objects, blocks, blk);
-        blk = blk + 1;
     }
     stand
 }
@@ -126,12 +118,17 @@ fn lay_sheet(
         let to = lay_refused(text, at.to, frame, a.refusal);
         return Stand { to, count };
     }
-    let programme = a.programme;
-    let timing = a.timing;
-    let objects = programme.objects as usize;
-    let blocks = timing.blocks as usize;
+    let objects = a.programme.objects as usize;
+    let blocks = a.timing.blocks as usize;
     let to = lay_accepted(text, at.to, frame, objects, blocks);
-    lay_updates(text, Stand { to, count }, before, records, timing, objects)
+    lay_updates(
+        text,
+        Stand { to, count },
+        before,
+        records,
+        a.timing,
+        objects,
+    )
 }
 
 // The catalogue of a shelf's entries. Each is read into the same room.
@@ -153,12 +150,10 @@ pub fn lay_catalogue(
     let mut room = [0u8; ROOM_BYTES];
     let mut trim = [0u8; MOST_TRIM];
     let mut stand = at;
-    let mut i: usize = 0;
-    while i < starts.len() {
+    for i in 0..starts.len() {
         let frame = frames[i];
         let a = batch::read_entry(store, starts[i], lengths[i], frame, &mut room, &mut trim);
         stand = lay_sheet(text, stand, before, &room, a, frame);
-        i = i + 1;
     }
     stand
 }
