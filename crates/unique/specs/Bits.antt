@@ -2,6 +2,9 @@
 use Rattle.std.specs.Prelude.{◌≡◌, refl, Bool, true, ℕ, ◌-◌, ◌*◌, ◌/◌, ◌^◌}
 use Rattle.std.proofs.Common.{sym, ap, ◌∙◌}
 use Rattle.std.specs.Coded.{coded_ℕ}
+use Rattle.std.specs.declared.clone.Clone as Clone
+use denote.RattleType.{RattleType}
+use mir.Syntax.{Dict}
 use Rattle.bits.specs.contracts.Size as size
 use Rattle.bits.specs.contracts.close as close
 use Rattle.bits.specs.contracts.inner_of as inner_of
@@ -103,11 +106,15 @@ one-read_size =
 pub one-flag : OneAnswer flag.ended (λ M 𝓤 𝓛. flag.clauses 𝓛) (λ M 𝓤 𝓛. flag.spec 𝓛) (λ κs a. a) (λ κs a r z. r)
 one-flag = by_equation (result-set flag.ended) (λ w. refl) _ (λ w κs a r z p. said (λ h. h) p.holds)
 
-pub one-pick : OneAnswer pick.ended (λ M 𝓤 𝓛. pick.clauses 𝓛) (λ M 𝓤 𝓛. pick.spec 𝓛) (λ κs a. a) (λ κs a r z. r)
-one-pick = by_equation (result-set pick.ended) (λ w. refl) _ (λ w κs a r z p. said (λ h. h) p.holds)
+pub one-pick : (T : RattleType) (g : Clone.Ghosts T.Denot) (d : Dict)
+    → OneAnswer (pick.ended T g d) (λ M 𝓤 𝓛. pick.clauses T g d 𝓛) (λ M 𝓤 𝓛. pick.spec T g d 𝓛) (λ κs a. a) (λ κs a r z. r)
+one-pick T g d = by_equation (result-set (pick.ended T g d)) (λ w. refl) _ (λ w κs a r z p. said (λ h. h) p.holds)
 
 pub one-refusal-number : OneAnswer number.ended (λ M 𝓤 𝓛. number.clauses 𝓛) (λ M 𝓤 𝓛. number.spec 𝓛) (λ κs a. a) (λ κs a r z. r)
 one-refusal-number = by_equation (result-set number.ended) (λ w. refl) _ (λ w κs a r z p. said (λ h. h.0) p.holds)
+
+pub one-number : OneAnswer number.ended (λ M 𝓤 𝓛. number.clauses 𝓛) (λ M 𝓤 𝓛. number.spec 𝓛) (λ κs a. a) (λ κs a r z. r)
+one-number = one-refusal-number
 
 -- ---- what the language and its library do in the place of a function: each of their clauses admits one answer
 
