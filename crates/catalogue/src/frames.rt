@@ -3,14 +3,14 @@ ghost use Rattle.std.specs.Prelude.{◌≡◌, ◌++◌, ◌<◌, ◌≤◌};
 ghost use Rattle.oamd.specs.Tables.{most_objects};
 ghost use Rattle.text.specs.Lines.{texts_for};
 ghost use Rattle.text.specs.Laying.{Laid};
-ghost use Rattle.catalogue.specs.Sheets.{block_rows, rows_behind, rows_after, sheets_of};
+ghost use Rattle.catalogue.specs.Sheets.{block_rows, rows_behind, rows_after};
 ghost use Rattle.catalogue.specs.Text.{update_line, entry_line, update_lines, sheet_text, catalogue};
-ghost use Rattle.catalogue.specs.Parts.{rows_of};
-ghost use Rattle.catalogue.specs.Writes.{RowsRoom, Within, Standing, Stepped, update_text, change_by, changes_from, sheet_by, Matched};
+ghost use Rattle.catalogue.specs.Parts.{rows_of, sheets_on};
+ghost use Rattle.catalogue.specs.Writes.{RowsRoom, Within, Standing, Stepped, update_text, change_by, changes_from, sheet_by};
 
 use crate::entries::lay_entries;
 use crate::lines::{lay_accepted, lay_refused, lay_update_line};
-use crate::{ROWS_BYTES, Stand};
+use crate::{ROWS_BYTES, Shelf, Stand};
 use oamd::{MOST_TRIM, RECORD_BYTES, RECORD_STRIDE, ROOM_BYTES, ReadAnswer, Timing, Update};
 use text::lay_bytes;
 
@@ -132,27 +132,19 @@ fn lay_sheet(
 }
 
 // The catalogue of a shelf's entries. Each is read into the same room.
-pub fn lay_catalogue(
-    store: &[u8],
-    starts: &[u64],
-    lengths: &[u64],
-    frames: &[u32],
-    at: Stand,
-    before: &mut [u8],
-    text: &mut [u8],
-) -> Stand
-    requires standing { Standing at before.old }
-    requires cases { Matched starts.now lengths.now frames.now }
+pub fn lay_catalogue(shelf: &Shelf, at: Stand, before: &mut [u8], text: &mut [u8]) -> Stand
+    requires { Standing at before.old }
     ensures { Stepped text.old text.new at.to result before.new
-        (catalogue (rows_of at.count before.old) (sheets_of store.now starts.now lengths.now frames.now))
-        (rows_after (rows_of at.count before.old) (sheets_of store.now starts.now lengths.now frames.now)) }
+        (catalogue (rows_of at.count before.old) (sheets_on shelf.now))
+        (rows_after (rows_of at.count before.old) (sheets_on shelf.now)) }
 {
     let mut room = [0u8; ROOM_BYTES];
     let mut trim = [0u8; MOST_TRIM];
     let mut stand = at;
-    for i in 0..starts.len() {
-        let frame = frames[i];
-        let a = batch::read_entry(store, starts[i], lengths[i], frame, &mut room, &mut trim);
+    for i in 0..shelf.starts.len() {
+        let frame = shelf.frames[i];
+        let (start, length) = (shelf.starts[i], shelf.lengths[i]);
+        let a = batch::read_entry(shelf.store, start, length, frame, &mut room, &mut trim);
         stand = lay_sheet(text, stand, before, &room, a, frame);
     }
     stand

@@ -1,7 +1,7 @@
 // The catalogue of a segment of frames: its text, and the text read back.
 #![tactic(auto)]
 
-ghost use Rattle.std.specs.Prelude.{◌≤◌};
+ghost use Rattle.std.specs.Prelude.{◌≡◌, ◌≤◌, length};
 ghost use Rattle.oamd.specs.Tables.{most_objects};
 
 use oamd::Timing;
@@ -71,6 +71,17 @@ pub struct Objects {
 pub struct Latest {
     pub count: Objects,
     pub bytes: [u8; ROWS_BYTES],
+}
+
+// A segment of frames, given as to a batch: a start, a length and a frame for each entry.
+#[derive(Clone, Copy)]
+pub struct Shelf<'a> {
+    pub store: &'a [u8],
+    pub starts: &'a [u64],
+    pub lengths: &'a [u64],
+    pub frames: &'a [u32],
+    ghost each_length: { length lengths.now ≡ length starts.now },
+    ghost each_frame: { length frames.now ≡ length starts.now },
 }
 
 // Where the laying of a text stands: its next place, and how many objects the update before has, 0 where there is none.

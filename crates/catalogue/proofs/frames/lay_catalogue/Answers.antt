@@ -32,11 +32,12 @@ pub loop-i-preserved : goal.loop-i-preserved
 loop-i-preserved c =
     let read = (goal.at.loop-i-preserved c).After-read_entry-a in
     let h = c.loop-i in
-    let a = c.args in (
+    let a = c.args in
+    let s = a.shelf.now in (
       laid_long read,
       c.read_entry-a.auto.trim ∙ h.invariant.1,
-      cataloguing_more a.store.now a.starts.now a.lengths.now a.frames.now (rows_of a.at.count a.before.now) h.i h.invariant.2
-          (sheet_by _ c.read_entry-a.result (laid read)) c.requires.cases c.loop-i-test.true
+      cataloguing_more s.store.now s.starts.now s.lengths.now s.frames.now (rows_of a.at.count a.before.now) h.i h.invariant.2
+          (sheet_by _ c.read_entry-a.result (laid read)) (record { each-length = s.each_length; each-frame = s.each_frame }) c.loop-i-test.true
           (sheet_is _ _ _ _ _ _ h.invariant.0 h.invariant.1 c.read_entry-a.result (laid read) _ c.read_entry-a.ensures) c.lay_sheet-stand.ensures,
     )
 
@@ -44,4 +45,5 @@ pub returns : goal.returns
 returns c =
     let h = c.loop-i in
     let a = c.args in
-    cataloguing_end a.store.now a.starts.now a.lengths.now a.frames.now (rows_of a.at.count a.before.now) h.i h.invariant.2 c.loop-i-test.false
+    let s = a.shelf.now in
+    cataloguing_end s.store.now s.starts.now s.lengths.now s.frames.now (rows_of a.at.count a.before.now) h.i h.invariant.2 c.loop-i-test.false

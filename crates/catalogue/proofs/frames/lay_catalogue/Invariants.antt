@@ -8,4 +8,4 @@ use Rattle.catalogue.proofs.frames.lay_catalogue.Given as goal
 
 abbrev pub invariant-loop-i : goal.invariant-loop-i
 invariant-loop-i t =
-    (length t.room ≡ room_bytes) × (length t.trim ≡ most_trim) × Cataloguing t.store t.starts t.lengths t.frames (rows_of t.initial.stand.count t.initial.before) t.initial.text t.text t.before t.initial.stand.to t.stand t.i
+    (length t.room ≡ room_bytes) × (length t.trim ≡ most_trim) × Cataloguing t.shelf.store.now t.shelf.starts.now t.shelf.lengths.now t.shelf.frames.now (rows_of t.initial.stand.count t.initial.before) t.initial.text t.text t.before t.initial.stand.to t.stand t.i
