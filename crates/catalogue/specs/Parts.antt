@@ -4,7 +4,8 @@ use Rattle.std.proofs.Math.Option.{Option, none, some}
 use Rattle.catalogue.specs.declared.Reader.{Reader}
 use Rattle.catalogue.specs.declared.BadLine.{BadLine}
 use Rattle.catalogue.specs.declared.Latest.{Latest}
-use Rattle.catalogue.specs.Sheets.{rows_bytes}
+use Rattle.catalogue.specs.declared.Shelf.{Shelf}
+use Rattle.catalogue.specs.Sheets.{Sheet, rows_bytes, sheets_of}
 use Rattle.catalogue.specs.Back.{no_object}
 use Rattle.catalogue.specs.Scan.{Got, got, bad, S, after, run}
 
@@ -14,6 +15,10 @@ rows_of objects room = take (rows_bytes objects) room
 
 abbrev pub front : Latest → List ℕ
 front rows = rows_of rows.count.n rows.bytes
+
+-- the frames of a segment
+abbrev pub sheets_on : Shelf → List Sheet
+sheets_on s = sheets_of s.store.now s.starts.now s.lengths.now s.frames.now
 
 -- ---- what a reader has come to: the value that is made of a result, the next line and the text from there on, or the line that is bad
 

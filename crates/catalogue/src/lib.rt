@@ -1,10 +1,10 @@
 // The catalogue of a segment of frames: its text, and the text read back.
 #![tactic(auto)]
 
-ghost use Rattle.std.specs.Prelude.{◌≤◌};
+ghost use Rattle.std.specs.Prelude.{◌≡◌, ◌≤◌, length};
 ghost use Rattle.oamd.specs.Tables.{most_objects};
 
-use oamd::Timing;
+use oamd::{RECORD_BYTES, Timing};
 
 mod before; // before.rt: the update before, as it is lent from call to call
 mod entries; // entries.rt: the entries of an update
@@ -40,11 +40,14 @@ pub struct BackAnswer {
     pub refusal: u8,
 }
 
+// The most objects of a frame.
+const MOST_OBJECTS: u8 = 159;
+
 // The rows of every update: 24 bytes for each of 159 objects.
-pub const ROWS_BYTES: usize = 3816;
+pub const ROWS_BYTES: usize = RECORD_BYTES * MOST_OBJECTS as usize;
 
 // And the number of objects in front of them, as the update before is lent.
-pub const BEFORE_BYTES: usize = 3817;
+pub const BEFORE_BYTES: usize = 1 + ROWS_BYTES;
 
 // A text as far as it was read: what is left of it, and the number of the line there.
 #[derive(Clone, Copy)]
@@ -73,11 +76,15 @@ pub struct Latest {
     pub bytes: [u8; ROWS_BYTES],
 }
 
-// Where the laying of a text stands: its next place, and how many objects the update before has, 0 where there is none.
+// A segment of frames, given as to a batch: a start, a length and a frame for each entry.
 #[derive(Clone, Copy)]
-pub struct Stand {
-    pub to: usize,
-    pub count: usize,
+pub struct Shelf<'a> {
+    pub store: &'a [u8],
+    pub starts: &'a [u64],
+    pub lengths: &'a [u64],
+    pub frames: &'a [u32],
+    ghost each_length: { length lengths.now ≡ length starts.now },
+    ghost each_frame: { length frames.now ≡ length starts.now },
 }
 
 // A frame as its lines gave it. The rows of its updates stand apart, one update behind the other.

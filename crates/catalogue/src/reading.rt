@@ -6,11 +6,10 @@ ghost use Rattle.catalogue.specs.Calls.{reading_back_alone};
 ghost use Rattle.catalogue.specs.BackCalls.{Readable, Lent};
 ghost use Rattle.catalogue.specs.Back.{back};
 ghost use Rattle.catalogue.specs.Scan.{bad};
-ghost use Rattle.catalogue.specs.Parts.{front};
 
 use crate::before::{keep_before, take_before};
 use crate::pages::read_frames;
-use crate::{BEFORE_BYTES, BackAnswer, BadLine, Latest, Objects, ROWS_BYTES, Tally};
+use crate::{BEFORE_BYTES, BackAnswer, BadLine, Tally};
 use bits::Refusal;
 
 fn refused(refusal: Refusal, place: u64) -> BackAnswer
@@ -24,25 +23,12 @@ fn refused(refusal: Refusal, place: u64) -> BackAnswer
     }
 }
 
-// The update before, as it was lent.
-fn rows_before(before: &[u8]) -> Latest
-    requires { before_bytes ≤ length before.now }
-    ensures { front result ≡ rows_in before.now }
-{
-    let mut bytes = [0u8; ROWS_BYTES];
-    let n = take_before(before, &mut bytes);
-    Latest {
-        count: Objects { n },
-        bytes,
-    }
-}
-
 // What a text gives and needs: its frames laid into buffers of one byte, behind whose end nothing is stored.
 fn measure(text: &[u8], before: &[u8]) -> Result<Tally, BadLine>
     requires { before_bytes ≤ length before.now }
     ensures { MatchResult result (λ t. Readable text.now before.now t) (λ e. back (rows_in before.now) text.now ≡ bad e.line) }
 {
-    let mut rows = rows_before(before);
+    let mut rows = take_before(before);
     let mut lines = [0u8; 1];
     let mut records = [0u8; 1];
     read_frames(text, &mut rows, &mut lines, &mut records)
@@ -53,9 +39,9 @@ fn lend(text: &[u8], before: &mut [u8], lines: &mut [u8], records: &mut [u8])
     requires { before_bytes ≤ length before.old }
     ensures { Lent text.now before.old before.new lines.old lines.new records.old records.new }
 {
-    let mut rows = rows_before(before);
+    let mut rows = take_before(before);
     if read_frames(text, &mut rows, lines, records).is_ok() {
-        keep_before(before, &rows.bytes, rows.count.n);
+        keep_before(before, &rows);
     }
 }
 

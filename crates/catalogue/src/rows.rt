@@ -8,7 +8,7 @@ ghost use Rattle.catalogue.specs.Scan.{number, ◌>>=◌ as ◌then◌};
 ghost use Rattle.catalogue.specs.Back.{field_back, fields_back, entry_back, next_object, entries_back};
 ghost use Rattle.catalogue.specs.Parts.{Behind, came, goes, runs, next_of};
 
-use crate::{BadLine, ROWS_BYTES, Reader};
+use crate::{BadLine, MOST_OBJECTS, ROWS_BYTES, Reader};
 use oamd::RECORD_BYTES;
 
 // What each field can be at the least and at the most, byte 0 first.
@@ -19,9 +19,6 @@ const LEAST: [u8; 24] = [
 const MOST: [u8; 24] = [
     1, 2, 65, 32, 62, 62, 79, 17, 31, 31, 31, 5, 1, 1, 7, 3, 1, 1, 2, 63, 7, 3, 3, 3,
 ];
-
-// The number of the last object that there can be.
-const LAST_OBJECT: u64 = 158;
 
 // The reader behind a comma and the key of field k.
 fn behind_key<'a>(r: &Reader<'a>, k: usize) -> Option<Reader<'a>>
@@ -105,7 +102,7 @@ fn next_object(r: &mut Reader) -> Result<Option<u64>, BadLine>
         return Ok(None);
     };
     *r = next;
-    let j = r.take_number(0, LAST_OBJECT)?;
+    let j = r.take_number(0, MOST_OBJECTS as u64 - 1)?;
     Ok(Some(j))
 }
 

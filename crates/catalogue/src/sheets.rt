@@ -8,14 +8,12 @@ ghost use Rattle.catalogue.specs.Writes.{change_by};
 ghost use Rattle.catalogue.specs.BackCalls.{refused_page, RowsTaken, UpdatesRead, PageRead, refusal_back};
 
 use crate::rows::read_entries;
-use crate::{BadLine, Latest, Objects, Page, Reader};
+use crate::{BadLine, Latest, MOST_OBJECTS, Objects, Page, Reader};
 use oamd::{MOST_BLOCKS, RECORD_BYTES, Timing, Update};
 use text::lay_bytes;
 use units::SampleCount;
 
 const MOST_FRAME: u64 = 4294967295;
-
-const MOST_OBJECTS: u64 = 159;
 
 const MOST_START: u64 = 2047;
 
@@ -122,7 +120,7 @@ fn read_accepted(
     requires { length store.old ≡ scratch_bytes }
     ensures { PageRead (accepted_back (front rows.old) frame) r.old r.new rows.old rows.new store.new result }
 {
-    let objects = r.take_value(&keys::OBJECTS, 1, MOST_OBJECTS)?;
+    let objects = r.take_value(&keys::OBJECTS, 1, MOST_OBJECTS as u64)?;
     r.take_word(b",")?;
     let blocks = r.take_value(&keys::BLOCKS, 0, MOST_BLOCKS as u64)?;
     r.take_end()?;
