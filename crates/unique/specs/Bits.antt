@@ -106,9 +106,19 @@ one-read_size =
 pub one-flag : OneAnswer flag.ended (λ M 𝓤 𝓛. flag.clauses 𝓛) (λ M 𝓤 𝓛. flag.spec 𝓛) (λ κs a. a) (λ κs a r z. r)
 one-flag = by_equation (result-set flag.ended) (λ w. refl) _ (λ w κs a r z p. said (λ h. h) p.holds)
 
-pub one-pick : (T : RattleType) (g : Clone.Ghosts T.Denot) (d : Dict)
+-- at every type that can be copied; the choices of numbers among them
+abbrev pub OnePick : Type 2
+OnePick = (T : RattleType) (g : Clone.Ghosts T.Denot) (d : Dict)
     → OneAnswer (pick.ended T g d) (λ M 𝓤 𝓛. pick.clauses T g d 𝓛) (λ M 𝓤 𝓛. pick.spec T g d 𝓛) (λ κs a. a) (λ κs a r z. r)
+
+pub one-pick : OnePick
 one-pick T g d = by_equation (result-set (pick.ended T g d)) (λ w. refl) _ (λ w κs a r z p. said (λ h. h) p.holds)
+
+pub one-choice : OnePick
+one-choice = one-pick
+
+pub one-chosen : OnePick
+one-chosen = one-pick
 
 pub one-refusal-number : OneAnswer number.ended (λ M 𝓤 𝓛. number.clauses 𝓛) (λ M 𝓤 𝓛. number.spec 𝓛) (λ κs a. a) (λ κs a r z. r)
 one-refusal-number = by_equation (result-set number.ended) (λ w. refl) _ (λ w κs a r z p. said (λ h. h.0) p.holds)
@@ -129,12 +139,6 @@ one-either a b r r' = alone
 
 pub one-as_flag : (t : Bool) (r r' : ℕ) → r ≡ as_flag t → r' ≡ as_flag t → r ≡ r'
 one-as_flag t r r' = alone
-
-pub one-choice : (t : Bool) (a b r r' : ℕ) → r ≡ picked t a b → r' ≡ picked t a b → r ≡ r'
-one-choice t a b r r' = alone
-
-pub one-chosen : (t : Bool) (a b r r' : ℕ) → r ≡ picked t a b → r' ≡ picked t a b → r ≡ r'
-one-chosen = one-choice
 
 pub one-less : (a b r r' : ℕ) → r ≡ a - b → r' ≡ a - b → r ≡ r'
 one-less a b r r' = alone
