@@ -51,34 +51,34 @@ pub const BEFORE_BYTES: usize = 1 + ROWS_BYTES;
 
 // A text as far as it was read: what is left of it, and the number of the line there.
 #[derive(Clone, Copy)]
-pub struct Reader<'a> {
+pub(crate) struct Reader<'a> {
     pub rest: &'a [u8],
     pub line: usize,
 }
 
 // The number of a line that cannot stand where it does.
 #[derive(Clone, Copy)]
-pub struct BadLine {
+pub(crate) struct BadLine {
     pub line: usize,
 }
 
 // A number of objects: no more than there can be.
 #[derive(Clone, Copy)]
-pub struct Objects {
+pub(crate) struct Objects {
     pub n: usize,
     ghost few: { n ≤ most_objects },
 }
 
 // The rows of the latest update, of so many objects, in front of an array with room for those of every update.
 #[derive(Clone, Copy)]
-pub struct Latest {
+pub(crate) struct Latest {
     pub count: Objects,
     pub bytes: [u8; ROWS_BYTES],
 }
 
 // A segment of frames, given as to a batch: a start, a length and a frame for each entry.
 #[derive(Clone, Copy)]
-pub struct Shelf<'a> {
+pub(crate) struct Shelf<'a> {
     pub store: &'a [u8],
     pub starts: &'a [u64],
     pub lengths: &'a [u64],
@@ -89,7 +89,7 @@ pub struct Shelf<'a> {
 
 // A frame as its lines gave it. The rows of its updates stand apart, one update behind the other.
 #[derive(Clone, Copy)]
-pub struct Page {
+pub(crate) struct Page {
     pub frame: u32,
     pub refusal: u8,
     pub objects: u8,
@@ -98,7 +98,7 @@ pub struct Page {
 
 // The frames of a text: how many, and the places behind their lines and their records.
 #[derive(Clone, Copy)]
-pub struct Tally {
+pub(crate) struct Tally {
     pub frames: u64,
     pub lines: usize,
     pub records: usize,

@@ -1,5 +1,6 @@
 // Text laid from a position on. What falls behind the end of the buffer is not stored, so that the same functions over a short buffer give a text's length;
-// the last position that there is stays, so that no caller owes a bound.
+// the last position that there is stays, so that no caller owes a bound. Buffer and position are two parameters and not one struct, since the position is a value that is
+// handed on, as the laws of laying say it.
 ghost use Rattle.std.specs.Prelude.{◌≡◌, ◌∷◌, [], ◌++◌, ◌+◌};
 ghost use Rattle.text.specs.Numerals.{decimal, hex_byte};
 ghost use Rattle.text.specs.Lines.{hex, number_line};
@@ -44,7 +45,7 @@ fn lay_hex_byte(text: &mut [u8], at: usize, b: u8) -> usize
     lay_byte(text, to, HEX[(b % 16) as usize])
 }
 
-// Bytes as hex digits.
+// Bytes as hex digits. A loop of its own: one function for this and lay_bytes, over the step, would be longer than the two.
 pub fn lay_hex(text: &mut [u8], at: usize, bytes: &[u8]) -> usize
     ensures { Laid text.old text.new at result (hex bytes.now) }
 {
