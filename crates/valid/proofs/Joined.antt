@@ -1,13 +1,12 @@
 -- The parts of a long test make the whole. Assumes nothing.
-use mathlib.Core.Path.{◌≡◌, ◌∙◌}
-use mathlib.Core.Bool.{Bool, not}
+use mathlib.Core.Path.{◌≡◌}
+use mathlib.Core.Bool.{not}
 use mathlib.Core.List.{List}
 use Prim.Native.Nat.{ℕ}
 use lib.Dec.{eqb}
 use lib.ListN.{length, get_or}
-use borrow.Author.Rules.{rules}
 use borrow.Author.Tests.{eq-eqb}
-use Rattle.bits.specs.Language.{pick, both, between}
+use Rattle.bits.specs.Language.{pick, between}
 use Rattle.oamd.specs.declared.Programme.{Programme}
 use Rattle.oamd.specs.Tables.{most_objects, trim_configs, trim_head, per_object_byte, trim_fixed}
 use Rattle.oamd.specs.Programme.{set?, clear?, has_reserved}

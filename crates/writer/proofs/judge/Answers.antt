@@ -1,4 +1,4 @@
-use Rattle.std.proofs.Common.{leb-true, ap, ap₂, arith, min, rules, sym, List, ℕ, ◌+◌, ◌*◌, ◌∙◌, ◌≡◌}
+use Rattle.std.proofs.Common.{leb-true, ap, ap₂, arith, sym, List, ℕ, ◌+◌, ◌∙◌, ◌≡◌}
 use Rattle.std.proofs.lemmas.Result.{err_from_is_err_and}
 use Rattle.bits.specs.declared.Refusal.TheVariants.{NotValid}
 use Rattle.bits.specs.Refusals.{number_of}

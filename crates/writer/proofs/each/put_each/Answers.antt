@@ -1,4 +1,4 @@
-use Rattle.std.proofs.Common.{◌≡◌, ◌*◌, ◌+◌, ◌≤◌, ℕ, arith, subst, mul-le-mul_left}
+use Rattle.std.proofs.Common.{◌≡◌, ◌*◌, ℕ, arith, subst}
 use Rattle.laying.specs.Laying.{Laid}
 use Rattle.writer.specs.Parts.{bits_below}
 use Rattle.writer.proofs.Entries.{laid_none, laid_more}

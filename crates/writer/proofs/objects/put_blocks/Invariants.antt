@@ -1,4 +1,4 @@
-use Rattle.std.proofs.Common.{◌%◌, ◌*◌, ◌-◌, ◌≡◌, ◌≤◌}
+use Rattle.std.proofs.Common.{◌%◌, ◌*◌, ◌-◌, ◌≡◌}
 use Rattle.oamd.specs.Tables.{record_stride}
 use Rattle.record.specs.Bytes.{records_at}
 use Rattle.laying.proofs.Laws.{Rest}

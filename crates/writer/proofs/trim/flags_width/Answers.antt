@@ -1,4 +1,4 @@
-use Rattle.std.proofs.Common.{arith, sym, ap, ◌∙◌}
+use Rattle.std.proofs.Common.{◌∙◌}
 use Rattle.writer.proofs.Trims.{flags-count}
 use Rattle.writer.proofs.trim.flags_width.Goals as goal
 
