@@ -4,6 +4,7 @@ use mathlib.Core.List.{List, [], ◌∷◌, ◌++◌, append_assoc, append-nil}
 use Prim.Native.Nat.{ℕ, ◌+◌, ◌≤◌, ◌<◌}
 use native.Mathlib.Numerals.{add-one}
 use native.Mathlib.Omega.{arith}
+use Rattle.std.proofs.Common.{drop, drop-drop, length-drop, length-take-le, take-append-drop}
 use lib.ListN.{length, get_or, take, length-append}
 use lib.Seq.{take-suc, take_all}
 use Rattle.oamd.specs.Tables.{answer_bytes}
@@ -12,6 +13,20 @@ use Rattle.oamd.specs.Batch.{each_bytes}
 use Rattle.record.specs.Bytes.{set_from}
 use Rattle.record.specs.Stored.{seam}
 use Rattle.batch.specs.Parts.{Stands}
+
+-- bytes laid over as many are stored one by one
+pub laid : (xs s : List ℕ) (at n : ℕ) {m : ℕ} → n ≡ m → length xs ≡ length (take m (drop at s)) → at + n ≤ length s
+    → take at s ++ (xs ++ drop m (drop at s)) ≡ set_from at 0 xs s
+unfolding onto
+laid xs s at n {m} e l h =
+    let front : List ℕ = take at s in
+    let far : length front ≡ at = length-take-le at s (omega arith) in
+    let long : length xs ≡ m = l ∙ length-take-le m (drop at s) (omega (arith, length-drop at s)) in
+    let again : onto front s ≡ s = ap (λ (k : ℕ). front ++ drop k s) far ∙ take-append-drop at s in
+    let behind : length (front ++ xs) ≡ at + m = length-append front xs ∙ omega (arith, far, long) in
+    let rest : drop (length (front ++ xs)) s ≡ drop m (drop at s) = ap (λ (k : ℕ). drop k s) behind ∙ sym (drop-drop m at s) in
+    sym (ap (set_from at 0 xs) (sym again) ∙ seam xs front s at 0 (omega (arith, far)) (omega (arith, long))
+    ∙ ap (λ (t : List ℕ). (front ++ xs) ++ t) rest ∙ append_assoc front xs (drop m (drop at s)))
 
 module _ {A : Type 0} (f : A → List ℕ) where
   pub each_append : (xs ys : List A) → each_bytes f (xs ++ ys) ≡ each_bytes f xs ++ each_bytes f ys

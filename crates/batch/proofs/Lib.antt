@@ -1,4 +1,5 @@
 pub mod Slots
+pub mod Numbers
 pub mod Each
 pub mod Whole
 pub mod Outcomes

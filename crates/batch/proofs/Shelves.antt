@@ -27,7 +27,7 @@ part_long at size = omega arith
 pub slot_fits : (i n size : ℕ) → i < n → i * size + size ≤ n * size
 slot_fits i n size h = subst (λ (x : ℕ). x ≤ n * size) (suc-mul i size) (mul-le-mul_right size h)
 
-next-slot : (i size : ℕ) → i * size + size ≡ (i + 1) * size
+pub next-slot : (i size : ℕ) → i * size + size ≡ (i + 1) * size
 next-slot i size = sym (ap (λ (k : ℕ). k * size) (add-one i) ∙ suc-mul i size)
 
 -- the part y in place of the size bytes at at

@@ -1,24 +1,10 @@
 -- What the parts of a batch promise.
-use Rattle.std.specs.Prelude.{◌≡◌, List, [], ◌∷◌, ◌++◌, ℕ, ◌*◌, ◌≤◌, length}
-use Rattle.oamd.specs.declared.Programme.{Programme}
+use Rattle.std.specs.Prelude.{◌≡◌, List, ◌++◌, ℕ, ◌*◌, ◌≤◌, length}
 use Rattle.oamd.specs.Tables.{answer_bytes}
-use Rattle.oamd.specs.LeastFirst.{least_first}
 use Rattle.oamd.specs.Record.{onto}
 use Rattle.oamd.specs.Batch.{each_bytes}
 
 -- ---- an answer's bytes
-
--- bytes 0 to 11
-abbrev pub front_bytes : ℕ → ℕ → ℕ → List ℕ
-front_bytes place refusal unknown = least_first 8 place ++ (refusal ∷ unknown ∷ 0 ∷ 0 ∷ [])
-
--- bytes 12 to 23
-abbrev pub field_bytes : Programme → List ℕ
-field_bytes p = p.objects ∷ p.dynonly ∷ p.lfe ∷ p.content ∷ p.distribute ∷ p.multiple ∷ p.instances ∷ p.bedcount ∷ p.isf ∷ p.dynamics ∷ 0 ∷ 0 ∷ []
-
--- bytes 130 to 135
-abbrev pub end_bytes : ℕ → List ℕ
-end_bytes missing = 0 ∷ 0 ∷ least_first 4 missing
 
 -- whatever n bytes stood in front: the bytes of each entry of a list stand behind them
 abbrev pub Stands : {A : Type 0} → (A → List ℕ) → ℕ → List A → List ℕ → List ℕ → Type 0

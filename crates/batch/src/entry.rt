@@ -30,10 +30,7 @@ pub fn read_entry(
         ≡ entry frame store.now start len records.old trim.old }
 {
     let all = store.len() as u64;
-    if all < start {
-        return outside(start, records, trim);
-    }
-    if all - start < len {
+    if all < start || all - start < len {
         return outside(start, records, trim);
     }
     let from = start as usize;

@@ -5,7 +5,7 @@ ghost use Rattle.std.specs.Prelude.{◌≡◌, ◌*◌, leb, length};
 ghost use Rattle.oamd.specs.Batch.{shelved, roomy, batched_with, batching};
 ghost use Rattle.batch.specs.Parts.{Roomy};
 
-use bits::{Refusal, both};
+use bits::Refusal;
 use oamd::{ANSWER_BYTES, BatchAnswer};
 
 mod answer; // answer.rt: an answer's bytes
@@ -17,10 +17,7 @@ pub use entry::read_entry;
 fn fits(n: usize, size: usize, room: usize) -> bool
     ensures { result ≡ leb (n * size) room }
 {
-    if size == 0 {
-        return true;
-    }
-    n <= room / size
+    size == 0 || n <= room / size
 }
 
 // A length and a frame for each start, and room for the slots and places of all of them.
@@ -39,8 +36,8 @@ fn is_roomy(
     let slots = fits(starts, recordslot, records);
     let trim_slots = fits(starts, trimslot, trims);
     let places = fits(starts, ANSWER_BYTES, answers);
-    let lists = both(lengths == starts, frames == starts);
-    both(lists, both(slots, both(trim_slots, places)))
+    let lists = (lengths == starts) & (frames == starts);
+    lists & (slots & (trim_slots & places))
 }
 
 fn batched(refusal: u8, place: u64) -> BatchAnswer
@@ -49,7 +46,7 @@ fn batched(refusal: u8, place: u64) -> BatchAnswer
     BatchAnswer { place, refusal }
 }
 
-// The entries in list order, each into its slots and its place.
+// The entries in list order, each into its slots and its place. The lists stand beside each other as they come in through the C interface.
 fn read_entries(
     store: &[u8],
     starts: &[u64],
@@ -69,8 +66,7 @@ fn read_entries(
     let mut slot: usize = 0;
     let mut trim: usize = 0;
     let mut place: usize = 0;
-    let mut i: usize = 0;
-    while i < starts.len() {
+    for i in 0..starts.len() {
         let slot_end = slot + recordslot;
         let trim_end = trim + trimslot;
         let place_end = place + ANSWER_BYTES;
@@ -87,7 +83,6 @@ fn read_entries(
         slot = slot_end;
         trim = trim_end;
         place = place_end;
-        i = i + 1;
     }
 }
 
@@ -119,7 +114,7 @@ pub fn read_batch(
         trims.len(),
         answers.len(),
     ) {
-        return batched(bits::number(Refusal::Lists), n as u64);
+        return batched(Refusal::Lists.number(), n as u64);
     }
     read_entries(
         store, starts, lengths, frames, recordslot, trimslot, records, trims, answers,

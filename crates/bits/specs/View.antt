@@ -82,14 +82,14 @@ pub record Looks {A : Type 0} (p : P A) (x o : ℕ) (v : A) (to : ℕ) : Type 0 
   pub free : (b : Bits) (base : ℕ) → Sees x b base → Freely p b (base + o) v (base + to)
 
 -- a field that was looked at, of up to n bits
-pub record Looked (p : P ℕ) (n x o : ℕ) (r : Sighted) : Type 0 where
-  pub looks : Looks p x o r.v r.off
-  pub small : r.v < 2 ^ n
+pub record Looked (p : P ℕ) (n x o : ℕ) (r : Sighted ℕ) : Type 0 where
+  pub looks : Looks p x o r.value r.off
+  pub small : r.value < 2 ^ n
   pub near : r.off ≤ o + n
 
 -- the field of n bits, and none
-abbrev pub sight_of : ℕ → ℕ → ℕ → Sighted
-sight_of x o n = record { v = looked x o n; off = o + n }
+abbrev pub sight_of : ℕ → ℕ → ℕ → Sighted ℕ
+sight_of x o n = record { value = looked x o n; off = o + n }
 
-abbrev pub no_sight : ℕ → Sighted
-no_sight o = record { v = 0; off = o }
+abbrev pub no_sight : ℕ → Sighted ℕ
+no_sight o = record { value = 0; off = o }

@@ -5,7 +5,6 @@ ghost use Rattle.bits.specs.Refusals.{number_of};
 ghost use Rattle.bits.specs.View.{Reads, Took, Gave, valued, open_at, inner_of, close_at};
 
 use crate::leaf::{over, take};
-use crate::numbers::number;
 use crate::{Cur, Limit, Refusal};
 use units::{BitPos, ByteCount};
 
@@ -57,7 +56,7 @@ pub fn refuse_if(on: bool, s: &[u8], l: Limit, c: Cur, r: Refusal, back: u32) ->
                 missing: 0,
                 v: c.v,
                 at: place_before(at, back),
-                no: number(r),
+                no: r.number(),
             };
         }
     }

@@ -4,7 +4,7 @@ ghost use Rattle.bits.specs.Language.{bits, bit, widest_field};
 ghost use Rattle.bits.specs.View.{word_at, over_of, Took};
 
 use crate::cursor::with_value;
-use crate::{Cur, Limit};
+use crate::{Cur, Limit, Refusal};
 use units::BitPos;
 
 fn wide(x: u8) -> u32
@@ -51,7 +51,11 @@ pub fn word(s: &[u8], at: BitPos) -> u32
 pub fn over(inner: bool) -> u8
     ensures { result ≡ over_of inner }
 {
-    if inner { 8 } else { 2 }
+    if inner {
+        Refusal::PastElement.number()
+    } else {
+        Refusal::EndsEarly.number()
+    }
 }
 
 // The next field of w bits. Behind a refusal nothing is read.

@@ -1,19 +1,20 @@
 // Bit fields of a byte slice, read with a cursor that goes in and comes back by value and keeps the first refusal that it meets.
 #![tactic(auto)]
 
+ghost use Rattle.std.specs.Prelude.{◌≡◌, ◌<◌};
+ghost use Rattle.bits.specs.Refusals.{number_of};
+
 use units::BitPos;
 
 mod leaf; // leaf.rt: a field of any width up to 24
 mod sight; // sight.rt: eight bytes looked at once
 mod cursor; // cursor.rt: fields that may be absent, runs, refusals, declared ends
 mod sizes; // sizes.rt: an element's size
-mod choices; // choices.rt: a flag of an array of flags, tests joined, a choice, a difference
-mod numbers; // numbers.rt: the refusals' numbers
+mod choices; // choices.rt: a flag of an array of flags, a choice
 
-pub use choices::{as_flag, both, choice, chosen, either, flag, less, minus};
+pub use choices::{flag, pick};
 pub use cursor::{close, inner_of, open, refuse_if, skip_if, take_if, take_unless, with_value};
 pub use leaf::{take, word};
-pub use numbers::number;
 pub use sight::{look, look_if, window};
 pub use sizes::read_size;
 
@@ -27,10 +28,17 @@ pub struct Cur {
     pub no: u8,
 }
 
-// A field of a window: its value, and where in the window the next one begins.
+// What was read, and where reading stands behind it.
 #[derive(Clone, Copy)]
-pub struct Sighted {
-    pub v: u32,
+pub struct Step<T> {
+    pub value: T,
+    pub cur: Cur,
+}
+
+// What was seen in a window, and where in it the next field begins.
+#[derive(Clone, Copy)]
+pub struct Sighted<T> {
+    pub value: T,
     pub off: u32,
 }
 
@@ -48,16 +56,10 @@ pub struct Size {
     pub groups: u32,
 }
 
-#[derive(Clone, Copy)]
-pub struct SizeStep {
-    pub size: Size,
-    pub cur: Cur,
-}
-
-// What a call can refuse, in the order of the table of docs/DECISIONS.md.
+// What a call can refuse, by the numbers of the table of docs/DECISIONS.md.
 #[derive(Clone, Copy)]
 pub enum Refusal {
-    TooLong,
+    TooLong = 1,
     EndsEarly,
     Version,
     Counts,
@@ -71,7 +73,15 @@ pub enum Refusal {
     Outside,
     Lists,
     NoSuch,
-    Many,
+    Many = 16,
     BadLine,
     ShortText,
+}
+
+impl Refusal {
+    pub fn number(self) -> u8
+        ensures { (result ≡ number_of self) × (0 < result) }
+    {
+        self as u8
+    }
 }

@@ -43,22 +43,22 @@ fn peek(x: u64, o: u32, n: u32) -> u32
 }
 
 // A field of a window, and where the next begins.
-pub fn look(x: u64, o: u32, n: u32) -> Sighted
+pub fn look(x: u64, o: u32, n: u32) -> Sighted<u32>
     requires { (1 ≤ n) × (n ≤ widest_field) × (o + n ≤ 64) }
     ensures { (result ≡ sight_of x o n) × Looked (bits n) n x o result }
 {
-    let v = peek(x, o, n);
-    Sighted { v, off: o + n }
+    let value = peek(x, o, n);
+    Sighted { value, off: o + n }
 }
 
 // The same, where a flag says that it is there; else 0.
-pub fn look_if(on: bool, x: u64, o: u32, n: u32) -> Sighted
+pub fn look_if(on: bool, x: u64, o: u32, n: u32) -> Sighted<u32>
     requires { (1 ≤ n) × (n ≤ widest_field) × (o + n ≤ 64) }
     ensures { (result ≡ pick on (sight_of x o n) (no_sight o)) × Looked (bits_if on n) n x o result }
 {
     if on {
         look(x, o, n)
     } else {
-        Sighted { v: 0, off: o }
+        Sighted { value: 0, off: o }
     }
 }

@@ -6,7 +6,7 @@ ghost use Rattle.bits.specs.View.{Gave, valued};
 
 use crate::cursor::with_value;
 use crate::leaf::take;
-use crate::{Cur, Limit, Size, SizeStep};
+use crate::{Cur, Limit, Size, Step};
 
 // variable_bits_max(4, 4)
 const N: u32 = 4;
@@ -14,20 +14,19 @@ const N: u32 = 4;
 const MAX_NUM_GROUPS: u32 = 4;
 
 // What `return value` gives: the value, the groups that it took, and the next bit position.
-fn returned(value: u32, groups: u32, c: Cur) -> SizeStep
-    ensures { (result.size ≡ size_of value groups) × (result.cur ≡ valued c 0) }
+fn returned(value: u32, groups: u32, c: Cur) -> Step<Size>
+    ensures { (result.value ≡ size_of value groups) × (result.cur ≡ valued c 0) }
 {
-    let cur = with_value(c, 0);
-    SizeStep {
-        size: Size { value, groups },
-        cur,
+    Step {
+        value: Size { value, groups },
+        cur: with_value(c, 0),
     }
 }
 
 // The steps of 5.5.1 in their printed order and under their names. The printed break stands before its own count is raised, so a fifth group is read, and
 // the flag behind it is ignored. Not printed is the count of the groups, by which places are found: num_group is 1 behind one group and behind two.
-pub fn read_size(s: &[u8], l: Limit, c: Cur) -> SizeStep
-    ensures { (result.size.value ≤ 19000000) × (result.size.groups ≤ 5) × Gave variable_bits_max (bit s.now) c l result.size result.cur }
+pub fn read_size(s: &[u8], l: Limit, c: Cur) -> Step<Size>
+    ensures { (result.value.value ≤ 19000000) × (result.value.groups ≤ 5) × Gave variable_bits_max (bit s.now) c l result.value result.cur }
 {
     let mut value: u32 = 0;
     let mut num_group: u32 = 1;

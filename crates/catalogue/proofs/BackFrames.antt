@@ -1,23 +1,21 @@
 -- The frames of a text, one after the other. Assumes nothing.
-use mathlib.Core.Path.{◌≡◌, refl, sym, ap, ◌∙◌, subst}
-use mathlib.Core.Bool.{true, false, true≢false}
+use mathlib.Core.Path.{◌≡◌, refl, sym, ap, ◌∙◌}
 use mathlib.Core.List.{List, [], ◌∷◌, ◌++◌, append-nil, append_assoc}
 use Prim.Native.Nat.{ℕ, ◌+◌, ◌<◌, ◌≤◌}
 use native.Mathlib.Omega.{arith}
-use lib.ListN.{length, drop, length-append, length-drop, drop_of_length-le}
-use Rattle.oamd.specs.Tables.{scratch_bytes}
+use lib.ListN.{length, length-append}
 use Rattle.text.specs.Lines.{texts}
 use Rattle.text.specs.Laying.{last_position, Laid}
 use Rattle.text.proofs.LayLaws.{laid_nil, laid-bind, laid_is}
-use Rattle.catalogue.specs.declared.Spot.{Spot}
-use Rattle.catalogue.specs.declared.Leaf.{Leaf}
+use Rattle.catalogue.specs.declared.Page.{Page}
+use Rattle.catalogue.specs.declared.Reader.{Reader}
 use Rattle.catalogue.specs.declared.Tally.{Tally}
 use Rattle.catalogue.specs.Sheets.{Sheet, rows_behind, rows_after}
 use Rattle.catalogue.specs.Scan.{Got, got, bad, run}
 use Rattle.catalogue.specs.Back.{sheet_back, sheets_back, back}
 use Rattle.catalogue.specs.Answer.{line_bytes, records_bytes}
-use Rattle.catalogue.specs.Parts.{rows_of}
-use Rattle.catalogue.specs.BackCalls.{sheet_in, line_of, records_of, Room, LeafRead, FramesRead, no_frames}
+use Rattle.catalogue.specs.Parts.{runs}
+use Rattle.catalogue.specs.BackCalls.{sheet_in, line_of, records_of, Laying}
 use Rattle.catalogue.specs.Lemmas.Enough.{takes, same}
 use Rattle.catalogue.specs.Pieces.{rows_append, texts-append}
 use Rattle.catalogue.proofs.BackLending.{line_is, records-are}
@@ -59,107 +57,73 @@ unfolding rows_after
 rows_last before xs x = sym (rows_append before xs (x ∷ []))
 
 -- the frames read so far, laid, and what is left of the text
-pub record Reached (text before rows lines lines' records records' store : List ℕ) (r : Tally) (at : ℕ) : Type 0 where
+pub record Reached (text before : List ℕ) (r : Reader) (now lines lines' records records' : List ℕ) (t : Tally) : Type 0 where
   pub done : List Sheet
-  pub left : back before text ≡ mapped (λ xs. done ++ xs) (frames_left (rows_of r.count rows) r.line (drop at text))
-  pub last : rows_of r.count rows ≡ rows_after before done
-  pub each : Laid lines lines' 0 r.lines (texts line_bytes done)
-  pub all : Laid records records' 0 r.records (texts records_bytes done)
-  pub many : r.frames ≡ length done
-  pub fewer : length done ≤ at
-  pub room : Room r.count rows
-  pub good : r.good ≡ true
-  pub store_long : length store ≡ scratch_bytes
+  pub left : back before text ≡ mapped (λ xs. done ++ xs) (frames_left now r.line r.rest.now)
+  pub last : now ≡ rows_after before done
+  pub each : Laid lines lines' 0 t.lines (texts line_bytes done)
+  pub all : Laid records records' 0 t.records (texts records_bytes done)
+  pub many : t.frames ≡ length done
+  pub fewer : length done + length r.rest.now ≤ length text
 
-pub reached_none : (text rows lines records store : List ℕ) (count : ℕ) (r : Tally) → r ≡ no_frames count 1 true → Room count rows → length lines ≤ last_position
-    → length records ≤ last_position → length store ≡ scratch_bytes → Reached text (rows_of count rows) rows lines lines records records store r 0
+pub reached_none : (text before lines records : List ℕ) (r : Reader) → r.line ≡ 1 → r.rest.now ≡ text → length lines ≤ last_position → length records ≤ last_position
+    → Reached text before r before lines lines records records (record { frames = 0; lines = 0; records = 0 })
 unfolding back texts rows_after
-reached_none text rows lines records store count r e room h i long =
-    subst (λ (x : Tally). Reached text (rows_of count rows) rows lines lines records records store x 0) (sym e)
-    (record {
-      done = [];
-      left = sym ((maps_same (sheets_back (length text) (rows_of count rows))).on 1 text);
-      last = refl;
-      each = laid_nil h (omega arith);
-      all = laid_nil i (omega arith);
-      many = refl;
-      fewer = omega arith;
-      room = room;
-      good = refl;
-      store_long = long;
-    })
+reached_none text before lines records r e f h i = record {
+  done = [];
+  left = rw (e, f) (sym ((maps_same (sheets_back (length text) before)).on 1 text));
+  last = refl;
+  each = laid_nil h (omega arith);
+  all = laid_nil i (omega arith);
+  many = refl;
+  fewer = omega (arith, ap length f);
+}
 
-module _ {text before rows lines lines' records records' store : List ℕ} {r : Tally} {at : ℕ} (h : Reached text before rows lines lines' records records' store r at) where
-  abbrev now : List ℕ
-  now = rows_of r.count rows
+module _ {text before now lines lines' records records' : List ℕ} {r : Reader} {t : Tally} (h : Reached text before r now lines lines' records records' t)
+    (inside : 0 < length r.rest.now) where
+  -- what a frame took of the text
+  pub further : {x : Sheet} {m : ℕ} {s : List ℕ} → got x m s ≡ runs r (sheet_back now) → length s < length r.rest.now
+  further e = omega (arith, takes now r.line r.rest.now (sym e))
 
-  abbrev here : Spot
-  here = record { at = at; line = r.line; good = true }
-
-  module _ {rows' store' : List ℕ} {leaf : Leaf} (inside : at < length text) (read : LeafRead text (sheet_back now) here now rows' store' leaf) where
-    abbrev next : Spot
-    next = leaf.spot
-
-    abbrev x : Sheet
-    x = sheet_in leaf.page store'
-
-    came : next.good ≡ true → run (sheet_back now) r.line (drop at text) ≡ got x next.line (drop next.at text)
-    came e = sym (rw e at read.read)
-
-    some_left : 0 < length (drop at text)
-    some_left = omega (arith, length-drop at text)
-
-    pub further : next.good ≡ true → at < next.at
-    further e =
-        omega (arith, takes now r.line (drop at text) (came e), length-drop at text, length-drop next.at text)
-
-    pub reached_more : next.good ≡ true → length store' ≡ scratch_bytes → {lines'' records'' : List ℕ} {to up : ℕ} → Laid lines' lines'' r.lines to (line_of leaf.page)
-        → Laid records' records'' r.records up (records_of leaf.page store')
-        → Reached text before rows' lines lines'' records records'' store'
-        (record { frames = r.frames + 1; lines = to; records = up; count = leaf.count; line = next.line; good = true }) next.at
-    reached_more e long line-laid records-laid =
-        let done = h.done in
-        let behind = drop next.at text in
-        let more : back before text ≡ mapped (λ xs. done ++ xs) (mapped (λ xs. x ∷ xs) (frames_left (rows_behind now x.updates) next.line behind)) =
-        h.left ∙ ap (mapped (λ xs. done ++ xs)) (frames_more now r.line (drop at text) x next.line behind some_left (came e)) in
-        let alike = mapped-alike _ (λ xs. (done ++ (x ∷ [])) ++ xs) (frames_left (rows_behind now x.updates) next.line behind) (λ xs. sym (append_assoc done (x ∷ []) xs)) in
-        record {
-          done = done ++ (x ∷ []);
-          left =
-              more ∙ mapped-mapped (λ xs. done ++ xs) (λ xs. x ∷ xs) (frames_left (rows_behind now x.updates) next.line behind) ∙ alike
-              ∙ ap (λ (l : List ℕ). mapped (λ xs. (done ++ (x ∷ [])) ++ xs) (frames_left l next.line behind)) (sym read.last);
-          last = read.last ∙ ap (λ (l : List ℕ). rows_behind l x.updates) h.last ∙ rows_last before done x;
-          each = laid_is (texts_last line_bytes done x) (laid-bind h.each (laid_is (sym (line_is leaf.page store')) line-laid));
-          all = laid_is (texts_last records_bytes done x) (laid-bind h.all (laid_is (sym (records-are leaf.page store')) records-laid));
-          many = omega (arith, h.many, length-append done (x ∷ []));
-          fewer = omega (arith, h.fewer, further e, length-append done (x ∷ []));
-          room = record { few = read.few; long = read.room };
-          good = refl;
-          store_long = long;
-        }
-
-    bad_here : next.good ≡ false → back before text ≡ bad next.line
-    bad_here e = h.left ∙ ap (mapped (λ xs. h.done ++ xs)) (frames-bad now r.line (drop at text) next.line some_left (sym (rw e at read.read)))
-
-    pub reached-bad : next.good ≡ false → (r' : Tally) → r' ≡ no_frames 0 next.line false → FramesRead text before rows' lines lines' records records' r'
-    reached-bad e r' f =
-        subst (λ (q : Tally). FramesRead text before rows' lines lines' records records' q) (sym f)
-        (record { right = λ g. absurd (true≢false (sym g)); wrong = λ g. bad_here e; room = record { few = omega arith; long = read.room } })
-
-  pub reached_all : length text ≤ at → FramesRead text before rows lines lines' records records' r
-  reached_all all =
-      let none : drop at text ≡ [] = drop_of_length-le text all in
-      let end : frames_left now r.line (drop at text) ≡ got [] r.line [] = rw none (frames_none now r.line [] refl) in
+  pub reached_more : (p : Page) (store : List ℕ) {now' : List ℕ} {r' : Reader} → got (sheet_in p store) r'.line r'.rest.now ≡ runs r (sheet_back now)
+      → now' ≡ rows_behind now (sheet_in p store).updates → {lines'' records'' : List ℕ} {to up : ℕ} → Laid lines' lines'' t.lines to (line_of p)
+      → Laid records' records'' t.records up (records_of p store)
+      → Reached text before r' now' lines lines'' records records'' (record { frames = t.frames + 1; lines = to; records = up })
+  reached_more p store {now'} {r'} e f line-laid records-laid =
+      let done = h.done in
+      let x : Sheet = sheet_in p store in
+      let more : back before text ≡ mapped (λ xs. done ++ xs) (mapped (λ xs. x ∷ xs) (frames_left (rows_behind now x.updates) r'.line r'.rest.now)) =
+      h.left ∙ ap (mapped (λ xs. done ++ xs)) (frames_more now r.line r.rest.now x r'.line r'.rest.now inside (sym e)) in
+      let alike = mapped-alike _ (λ xs. (done ++ (x ∷ [])) ++ xs) (frames_left (rows_behind now x.updates) r'.line r'.rest.now) (λ xs. sym (append_assoc done (x ∷ []) xs)) in
       record {
-        right = λ e.
-            record {
-              sheets = h.done;
-              read = h.left ∙ ap (mapped (λ xs. h.done ++ xs)) end ∙ ap (λ xs. got xs r.line []) (append-nil h.done);
-              each = h.each;
-              all = h.all;
-              many = h.many;
-              last = h.last;
-            };
-        wrong = λ e. absurd (true≢false (sym h.good ∙ e));
-        room = h.room;
+        done = done ++ (x ∷ []);
+        left =
+            more ∙ mapped-mapped (λ xs. done ++ xs) (λ xs. x ∷ xs) (frames_left (rows_behind now x.updates) r'.line r'.rest.now) ∙ alike
+            ∙ ap (λ (l : List ℕ). mapped (λ xs. (done ++ (x ∷ [])) ++ xs) (frames_left l r'.line r'.rest.now)) (sym f);
+        last = f ∙ ap (λ (l : List ℕ). rows_behind l x.updates) h.last ∙ rows_last before done x;
+        each = laid_is (texts_last line_bytes done x) (laid-bind h.each (laid_is (sym (line_is p store)) line-laid));
+        all = laid_is (texts_last records_bytes done x) (laid-bind h.all (laid_is (sym (records-are p store)) records-laid));
+        many = omega (arith, h.many, length-append done (x ∷ []));
+        fewer = omega (arith, h.fewer, further e, length-append done (x ∷ []));
       }
+
+  pub reached-bad : {k : ℕ} → bad k ≡ runs r (sheet_back now) → back before text ≡ bad k
+  reached-bad {k} e = h.left ∙ ap (mapped (λ xs. h.done ++ xs)) (frames-bad now r.line r.rest.now k inside (sym e))
+
+length-zero : {A : Type 0} (l : List A) → length l ≡ 0 → l ≡ []
+length-zero [] e = refl
+length-zero (x ∷ l) e = absurd (omega arith)
+
+pub reached_all : {text before now lines lines' records records' : List ℕ} {r : Reader} {t : Tally} → Reached text before r now lines lines' records records' t → length r.rest.now ≡ 0
+    → Laying text before now lines lines' records records' t
+reached_all {now = now} {r = r} h none =
+    let end : r.rest.now ≡ [] = length-zero r.rest.now none in
+    record {
+      sheets = h.done;
+      line = r.line;
+      read = h.left ∙ ap (mapped (λ xs. h.done ++ xs)) (frames_none now r.line r.rest.now none ∙ ap (got [] r.line) end) ∙ ap (λ xs. got xs r.line []) (append-nil h.done);
+      each = h.each;
+      all = h.all;
+      many = h.many;
+      last = h.last;
+    }

@@ -3,10 +3,12 @@ use mathlib.Core.Path.{◌≡◌, refl, sym, ap, ap₂, ◌∙◌}
 use mathlib.Core.Bool.{Bool, true, false}
 use mathlib.Core.List.{List, [], ◌∷◌, ◌++◌, map}
 use Prim.Native.Nat.{ℕ, zero, suc, ◌+◌, ◌-◌, ◌*◌, ◌/◌, ◌%◌, ◌<◌, ◌≤◌}
-use native.Mathlib.Nat.{mul-le-mul}
+use native.Mathlib.Nat.{mul-le-mul, div-one, pow-suc, div-div-eq-div-mul}
 use native.Mathlib.Omega.{arith}
 use borrow.Author.Tests.{lt-ltb, le-ltb}
 use lib.Dec.{ltb}
+use Rattle.std.specs.Prelude.{◌^◌}
+use Rattle.std.specs.Int.{bytes_low_first, byte_at, to_le_bytes, w64}
 use lib.ListN.{length, get_or, take, drop, length-map}
 use lib.Seq.{take-take, drop-drop}
 use Rattle.bits.specs.Language.{pick, from}
@@ -15,6 +17,7 @@ use Rattle.bits.specs.Steps.{by_order}
 use Rattle.oamd.specs.Tables.{most_objects, most_blocks, record_bytes, frame_samples, scratch_bytes}
 use Rattle.oamd.specs.LeastFirst.{least_first}
 use Rattle.oamd.specs.Time.{time_bytes_of}
+use Rattle.oamd.specs.Timing.{no_update}
 use Rattle.text.specs.Laying.{Laid}
 use Rattle.text.proofs.LayLaws.{laid-bind, laid_is}
 use Rattle.catalogue.specs.declared.Page.{Page}
@@ -26,13 +29,22 @@ use Rattle.catalogue.specs.BackCalls.{change_in, sheet_in, update_of, line_of, r
 
 -- ---- the bytes of a number, one by one
 
-pub least_more : (n i v : ℕ) → i < n → least_first (n - i) v ≡ (v % 256 ∷ []) ++ least_first (n - (i + 1)) (v / 256)
+low-bytes : (m k i n : ℕ) → m ≤ k → take m (bytes_low_first i k n) ≡ least_first m (n / 256 ^ i)
 unfolding least_first
-least_more n i v h = ap (λ (m : ℕ). least_first m v) (let e : n - i ≡ suc (n - (i + 1)) = omega arith in e)
+low-bytes zero k i n h = refl
+low-bytes (suc m) zero i n h = absurd (omega arith)
+low-bytes (suc m) (suc k) i n h =
+    ap₂ (λ (x : ℕ) (xs : List ℕ). x ∷ xs) (byte i) (low-bytes m k (suc i) n (omega arith) ∙ ap (least_first m) higher)
+  where
+    byte : (i : ℕ) → byte_at i n ≡ n / 256 ^ i % 256
+    byte zero = ap (λ (x : ℕ). x % 256) (sym (div-one n))
+    byte (suc i) = refl
 
-pub least_none : (n i v : ℕ) → n ≤ i → least_first (n - i) v ≡ []
-unfolding least_first
-least_none n i v h = ap (λ (m : ℕ). least_first m v) (let e : n - i ≡ 0 = omega arith in e)
+    higher : n / 256 ^ suc i ≡ n / 256 ^ i / 256
+    higher = ap (λ (x : ℕ). n / x) (pow-suc 256 i) ∙ sym (div-div-eq-div-mul n (256 ^ i) 256)
+
+pub least-bytes : (m v : ℕ) → m ≤ 8 → take m (to_le_bytes w64 v) ≡ least_first m v
+least-bytes m v h = low-bytes m 8 0 v h ∙ ap (least_first m) (div-one v)
 
 -- ---- a record
 
@@ -41,7 +53,7 @@ pub rows-within : (objects blocks blk : ℕ) → objects ≤ most_objects → bl
 rows-within objects blocks blk h i j = omega (arith, mul-le-mul h (let k : blk + 1 ≤ most_blocks = omega arith in k))
 
 pub record-laid : {s t u : List ℕ} {at q r : ℕ} (p : Page) (store : List ℕ) (j blk place time : ℕ) → place ≡ rows_bytes p.objects * blk + record_bytes * j
-    → time ≡ p.frame * frame_samples + get_or p.starts blk 0
+    → time ≡ p.frame * frame_samples + (get_or p.timing.updates blk no_update).start.0
     → Laid s t at q (take (place + record_bytes - place) (drop place store)) → Laid t u q r (time_bytes_of time)
     → Laid s u at r (record_in p store j blk)
 record-laid p store j blk place time e f g h =
@@ -71,21 +83,22 @@ part-front (suc k) m (suc n) (x ∷ l) h = part-front k m n l (omega arith)
 
 module _ (p : Page) (store : List ℕ) where
   abbrev change : ℕ → Change
-  change = change_in p.objects p.starts p.ramps store
+  change = change_in p.objects p.timing.updates store
 
-  update_is : (blk : ℕ) → update_bytes (get_or (map change (from 0 p.blocks)) blk no_change) ≡ update_of p blk
+  update_is : (blk : ℕ) → update_bytes (get_or (map change (from 0 p.timing.blocks)) blk no_change) ≡ update_of p blk
   update_is blk =
       let z : 0 + blk ≡ blk = omega arith in
-      ap update_bytes (get_or-made change 0 p.blocks blk no_change) ∙ rw z (go (ltb blk p.blocks))
+      ap update_bytes (get_or-made change 0 p.timing.blocks blk no_change) ∙ rw z (go (ltb blk p.timing.blocks))
     where
-      go : (t : Bool) → update_bytes (pick t (change blk) no_change) ≡ least_first 2 (pick t (get_or p.starts blk 0) 0) ++ least_first 2 (pick t (get_or p.ramps blk 0) 0)
+      go : (t : Bool) → update_bytes (pick t (change blk) no_change)
+          ≡ least_first 2 (pick t (get_or p.timing.updates blk no_update) no_update).start.0 ++ least_first 2 (pick t (get_or p.timing.updates blk no_update) no_update).ramp.0
       go true = refl
       go false = refl
 
   pub line_is : line_bytes (sheet_in p store) ≡ line_of p
   unfolding line_bytes line_of
   line_is =
-      let many : length (map change (from 0 p.blocks)) ≡ p.blocks = length-map (from 0 p.blocks) change ∙ length_from 0 p.blocks in
+      let many : length (map change (from 0 p.timing.blocks)) ≡ p.timing.blocks = length-map (from 0 p.timing.blocks) change ∙ length_from 0 p.timing.blocks in
       ap₂ (λ (n : ℕ) (l : List ℕ). least_first 4 p.frame ++ ((p.refusal ∷ p.objects ∷ n ∷ 0 ∷ []) ++ l)) many
       (texts-agree _ (update_of p) 0 most_blocks (λ blk i h. update_is blk))
 
@@ -99,6 +112,6 @@ module _ (p : Page) (store : List ℕ) where
   unfolding records_bytes records_of object_of
   records-are =
       texts-agree _ (object_of p store) 0 p.objects
-      (λ j g h. texts-map _ change 0 p.blocks
-      ∙ texts-agree _ (record_in p store j) 0 p.blocks
-      (λ blk i k. ap (λ (l : List ℕ). l ++ time_bytes_of (p.frame * frame_samples + get_or p.starts blk 0)) (row_is_lem j blk (omega arith))))
+      (λ j g h. texts-map _ change 0 p.timing.blocks
+      ∙ texts-agree _ (record_in p store j) 0 p.timing.blocks
+      (λ blk i k. ap (λ (l : List ℕ). l ++ time_bytes_of (p.frame * frame_samples + (get_or p.timing.updates blk no_update).start.0)) (row_is_lem j blk (omega arith))))

@@ -1,63 +1,65 @@
 -- The rows of the update before, in front of an array. Assumes nothing.
 use mathlib.Core.Path.{◌≡◌, refl, sym, ap, ◌∙◌}
 use mathlib.Core.Bool.{Bool, true, false, not}
-use mathlib.Core.List.{List, [], ◌∷◌, ◌++◌}
-use Prim.Native.Nat.{ℕ, ◌+◌, ◌<◌, ◌≤◌}
-use native.Mathlib.Numerals.{add-one}
+use mathlib.Core.List.{List, ◌++◌}
+use Prim.Native.Nat.{ℕ, ◌≤◌}
 use native.Mathlib.Omega.{arith}
 use borrow.Author.Tests.{eq-eqb, ne_eqb}
-use lib.ListN.{length, take, set, replicate-append-replicate}
-use lib.Seq.{take-suc-set, length-take-le}
+use lib.ListN.{length, take, replicate, length-replicate}
+use lib.Seq.{length-take-le, take-append_seam}
 use Rattle.oamd.specs.Tables.{most_objects}
-use Rattle.catalogue.specs.declared.Spot.{Spot}
+use Rattle.std.specs.Prelude.{Result}
+use Rattle.catalogue.specs.declared.BadLine.{BadLine}
+use Rattle.catalogue.specs.declared.Latest.{Latest}
+use Rattle.catalogue.specs.declared.Objects.{Objects}
+use Rattle.catalogue.specs.declared.Reader.{Reader}
 use Rattle.catalogue.specs.Sheets.{Change, rows_bytes, zeros}
 use Rattle.catalogue.specs.Text.{is_full}
 use Rattle.catalogue.specs.Scan.{give, ◌>>=◌}
 use Rattle.catalogue.specs.Back.{rows_here, next_object, entries_back}
-use Rattle.catalogue.specs.Parts.{rows_of, spotted, runs}
-use Rattle.catalogue.specs.Writes.{RowsRoom}
-use Rattle.catalogue.proofs.BackRuns.{maps_same, maps-bind, maps_then, runs-maps, entries-front}
+use Rattle.catalogue.specs.Parts.{rows_of, front, came, runs}
+use Rattle.catalogue.proofs.BackRuns.{maps_same, maps-bind, maps_then, came-maps, entries-front}
 
 -- ---- zeros in front
 
-pub zeros_none : (rows : List ℕ) → take 0 rows ≡ zeros 0
+pub cleared : (n : ℕ) (xs ys l : List ℕ) → n ≤ length l → xs ≡ replicate (length (take n l)) 0 → take n (xs ++ ys) ≡ zeros n
 unfolding zeros
-zeros_none rows = refl
-
-pub zeros_more : (rows : List ℕ) (i : ℕ) → i < length rows → take i rows ≡ zeros i → take (i + 1) (set rows i 0) ≡ zeros (i + 1)
-unfolding zeros
-zeros_more rows i h e = rw add-one (take-suc-set rows i 0 h) ∙ ap (λ (l : List ℕ). l ++ (0 ∷ [])) e ∙ replicate-append-replicate i 1 0
+cleared n xs ys l h e =
+    let long = length-take-le n l h in
+    let all : length xs ≡ n = ap length e ∙ length-replicate (length (take n l)) 0 ∙ long in
+    (rw all at (take-append_seam xs ys)) ∙ e ∙ rw long refl
 
 -- ---- the rows that an update is applied to
 
-module _ (count objects : ℕ) (rows : List ℕ) (few : count ≤ most_objects) (long : RowsRoom rows) where
-  rows_long : length (rows_of count rows) ≡ rows_bytes count
-  rows_long = length-take-le (rows_bytes count) rows (omega arith)
+module _ (objects : Objects) (rows : Latest) (long : length rows.bytes ≡ rows_bytes most_objects) where
+  front_long : length (front rows) ≡ rows_bytes rows.count.n
+  front_long = let few = rows.count.few in length-take-le (rows_bytes rows.count.n) rows.bytes (omega arith)
 
-  pub same_count : count ≡ objects → (false ≡ is_full objects (rows_of count rows)) × (rows_of objects rows ≡ rows_here objects (rows_of count rows))
+  pub same_count : rows.count.n ≡ objects.n → (false ≡ is_full objects.n (front rows)) × (front rows ≡ rows_here objects.n (front rows))
   unfolding rows_here
   same_count e =
-      let is : is_full objects (rows_of count rows) ≡ false = ap not (eq-eqb (length (rows_of count rows)) (rows_bytes objects) (omega (arith, rows_long))) in
-      (sym is, sym (rw is (ap (λ (n : ℕ). rows_of n rows) e)))
+      let is : is_full objects.n (front rows) ≡ false = ap not (eq-eqb (length (front rows)) (rows_bytes objects.n) (omega (arith, front_long))) in
+      (sym is, sym (rw is refl))
 
-  pub other-count : (count ≡ objects → ⊥) → (now : List ℕ) → take (rows_bytes objects) now ≡ zeros (rows_bytes objects)
-      → (true ≡ is_full objects (rows_of count rows)) × (rows_of objects now ≡ rows_here objects (rows_of count rows))
+  pub other-count : (rows.count.n ≡ objects.n → ⊥) → (now : List ℕ) → now ≡ zeros (rows_bytes objects.n)
+      → (true ≡ is_full objects.n (front rows)) × (now ≡ rows_here objects.n (front rows))
   unfolding rows_here
   other-count e now f =
-      let is : is_full objects (rows_of count rows) ≡ true = ap not (ne_eqb (length (rows_of count rows)) (rows_bytes objects) (λ g. e (omega (arith, rows_long)))) in
+      let is : is_full objects.n (front rows) ≡ true = ap not (ne_eqb (length (front rows)) (rows_bytes objects.n) (λ g. e (omega (arith, front_long)))) in
       (sym is, f ∙ sym (rw is))
 
 -- ---- the entries, applied to rows in front of an array
 
-pub entries-rows : (text : List ℕ) (c r : Spot) (objects start ramp : ℕ) (before front rows : List ℕ) (full : Bool) → full ≡ is_full objects before
-    → rows_of objects front ≡ rows_here objects before
-    → spotted text r rows ≡ runs text c (next_object >>= λ next. entries_back full 0 objects next front)
-    → spotted {A = Change} text r (record { start = start; ramp = ramp; rows = rows_of objects rows })
-    ≡ runs text c (next_object >>= λ next. entries_back (is_full objects before) 0 objects next (rows_here objects before)
-    >>= λ rows. give {A = Change} (record { start = start; ramp = ramp; rows = rows }))
-entries-rows text c r objects start ramp before front rows full e f h =
-    rw (← e, ← f)
-    (runs-maps text c r rows
-    (maps-bind (maps_same next_object)
-    (λ next. maps_then (λ rows. record { start = start; ramp = ramp; rows = rows }) (entries-front (rows_bytes objects) full 0 objects next front (omega arith))))
+abbrev pub change : ℕ → ℕ → List ℕ → Change
+change start ramp rows = record { start = start; ramp = ramp; rows = rows }
+
+pub entries-rows : (start ramp objects : ℕ) (before now : List ℕ) (taken : Latest) (full : Bool) (x : Result (Unit {0}) BadLine) (r r' : Reader)
+    → full ≡ is_full objects before → front taken ≡ rows_here objects before → taken.count.n ≡ objects
+    → came (λ t. now) x r' ≡ runs r (next_object >>= λ next. entries_back full 0 objects next taken.bytes)
+    → came (λ t. change start ramp (rows_of taken.count.n now)) x r'
+    ≡ runs r (next_object >>= λ next. entries_back (is_full objects before) 0 objects next (rows_here objects before) >>= λ rows. give (change start ramp rows))
+entries-rows start ramp objects before now taken full x r r' e f g h =
+    rw (← e, ← f, g)
+    (came-maps (λ t. now) x r r'
+    (maps-bind (maps_same next_object) (λ next. maps_then (change start ramp) (entries-front (rows_bytes objects) full 0 objects next taken.bytes (omega arith))))
     h)

@@ -6,16 +6,18 @@ use mathlib.Core.Option.{Option, none, some}
 use Prim.Native.Nat.{ℕ, zero, suc, ◌+◌, ◌*◌, ◌<◌, ◌≤◌}
 use native.Mathlib.Omega.{arith}
 use lib.Dec.{eqb}
-use lib.ListN.{get_or, take, drop, set}
+use lib.ListN.{get_or, take, set}
 use lib.Seq.{take-set-lt, get_or-take}
 use Rattle.bits.specs.Language.{pick}
 use Rattle.oamd.specs.Tables.{record_bytes}
 use Rattle.text.specs.Lines.{comma}
-use Rattle.catalogue.specs.declared.Spot.{Spot}
+use Rattle.std.specs.Prelude.{Result, Ok, Err}
+use Rattle.catalogue.specs.declared.BadLine.{BadLine}
+use Rattle.catalogue.specs.declared.Reader.{Reader}
 use Rattle.catalogue.specs.Fields.{field_of}
 use Rattle.catalogue.specs.Sheets.{rows_bytes}
 use Rattle.catalogue.specs.Scan.{Got, got, bad, S, give, peek, number, end_line, whether, ◌>>=◌, after, and_then, ways, run}
-use Rattle.catalogue.specs.Parts.{spotted, runs}
+use Rattle.catalogue.specs.Parts.{came, runs}
 use Rattle.catalogue.specs.Back.{check, field_back, fields_back, entry_back, no_object, next_object, entries_back}
 
 abbrev pub mapped : {A B : Type 0} → (A → B) → Got A → Got B
@@ -75,26 +77,13 @@ maps_then {A} {B} {C} {f} {p} {q} g h = record { on = λ n s. go (run p n s) ∙
     go (got a m r) = refl
     go (bad m) = refl
 
--- ---- at a cursor
+-- ---- where a reader stands
 
--- what is made of what a cursor came to
-pub mapped-spot : {A B : Type 0} (f : A → B) (text : List ℕ) (r : Spot) (a : A) → mapped f (spotted text r a) ≡ spotted text r (f a)
-mapped-spot f text r a = go r.good
-  where
-    go : (t : Bool) → mapped f (pick t (got a r.line (drop r.at text)) (bad r.line)) ≡ pick t (got (f a) r.line (drop r.at text)) (bad r.line)
-    go true = refl
-    go false = refl
-
-pub mapped-runs : {A B : Type 0} {f : A → B} {p : S A} {q : S B} (text : List ℕ) (c : Spot) → Maps f p q → mapped f (runs text c p) ≡ runs text c q
-mapped-runs {f = f} {p = p} {q = q} text c h = go c.good
-  where
-    go : (t : Bool) → mapped f (pick t (run p c.line (drop c.at text)) (bad c.line)) ≡ pick t (run q c.line (drop c.at text)) (bad c.line)
-    go true = h.on c.line (drop c.at text)
-    go false = refl
-
-pub runs-maps : {A B : Type 0} {f : A → B} {p : S A} {q : S B} (text : List ℕ) (c r : Spot) (a : A) → Maps f p q → spotted text r a ≡ runs text c p
-    → spotted text r (f a) ≡ runs text c q
-runs-maps {f = f} text c r a h e = sym (mapped-spot f text r a) ∙ ap (mapped f) e ∙ mapped-runs text c h
+-- what is made of what a reader came to
+pub came-maps : {T A B : Type 0} {f : A → B} {p : S A} {q : S B} (g : T → A) (x : Result T BadLine) (r r' : Reader) → Maps f p q → came g x r' ≡ runs r p
+    → came (λ t. f (g t)) x r' ≡ runs r q
+came-maps {f = f} g (Ok a) r r' h e = ap (mapped f) e ∙ h.on r.line r.rest.now
+came-maps {f = f} g (Err b) r r' h e = ap (mapped f) e ∙ h.on r.line r.rest.now
 
 pub mapped-mapped : {A B C : Type 0} (f : B → C) (g : A → B) (x : Got A) → mapped f (mapped g x) ≡ mapped (λ a. f (g a)) x
 mapped-mapped f g (got a n s) = refl

@@ -11,15 +11,19 @@ use Rattle.bits.specs.Language.{from}
 use Rattle.oamd.specs.Tables.{most_objects, most_blocks, scratch_bytes}
 use Rattle.text.specs.Laying.{Laid}
 use Rattle.text.proofs.LayLaws.{laid-length}
-use Rattle.catalogue.specs.declared.Spot.{Spot}
-use Rattle.catalogue.specs.declared.Timed.{Timed}
+use Rattle.oamd.specs.declared.Update.{Update}
+use Rattle.oamd.specs.Timing.{no_update}
+use Rattle.catalogue.specs.declared.Latest.{Latest}
+use Rattle.catalogue.specs.declared.Objects.{Objects}
+use Rattle.catalogue.specs.declared.Reader.{Reader}
 use Rattle.catalogue.specs.Sheets.{Change, rows_bytes, rows_behind}
-use Rattle.catalogue.specs.Scan.{run}
+use Rattle.catalogue.specs.Scan.{got, bad, give, ◌>>=◌, run}
 use Rattle.catalogue.specs.Back.{update_back, updates_back}
-use Rattle.catalogue.specs.Parts.{rows_of, spotted, runs}
-use Rattle.catalogue.specs.BackCalls.{change_in, changes_in, Room, UpdateRead, UpdatesRead}
-use Rattle.catalogue.proofs.ScanLaws.{bind}
-use Rattle.catalogue.proofs.BackRuns.{mapped, maps_same, maps_then, mapped-spot, mapped-runs, mapped-mapped, mapped-alike}
+use Rattle.catalogue.specs.Parts.{rows_of, front, runs}
+use Rattle.catalogue.specs.BackCalls.{change_in, changes_in}
+use Rattle.catalogue.specs.Writes.{change_by}
+use Rattle.catalogue.proofs.RowsLaws.{on-bind, bad-bind}
+use Rattle.catalogue.proofs.BackRuns.{mapped, maps_same, maps_then, mapped-mapped, mapped-alike}
 use Rattle.catalogue.proofs.BackLending.{part-front, rows-within}
 
 -- ---- one more
@@ -54,108 +58,108 @@ part-laid i m l vs e h =
     rw (sets-eq vs l i (omega arith), append_assoc, drop_at (take i l) (vs ++ drop (i + length vs) l) i front) (take_at vs (drop (i + length vs) l) m e)
 
 -- the changes so far, and one more
-module _ (objects blk start ramp : ℕ) (starts ramps store rows : List ℕ) where
-  abbrev now : Change
-  now = record { start = start; ramp = ramp; rows = rows }
-
+module _ (objects blk : ℕ) (u : Update) (updates : List Update) (store rows : List ℕ) where
   abbrev behind : ℕ → Change
-  behind = change_in objects (set starts blk start) (set ramps blk ramp) (sets store (rows_bytes objects * blk) rows)
+  behind = change_in objects (set updates blk u) (sets store (rows_bytes objects * blk) rows)
 
-  kept : (k : ℕ) → k < blk → behind k ≡ change_in objects starts ramps store k
+  kept : (k : ℕ) → k < blk → behind k ≡ change_in objects updates store k
   kept k h =
       let other : k ≡ blk → ⊥ = λ e. omega arith in
       let within : rows_bytes objects * k + rows_bytes objects ≤ rows_bytes objects * blk = omega (arith, mul-le-mul_left (rows_bytes objects) h) in
-      rw (get_or-set_other starts blk k start 0 other, get_or-set_other ramps blk k ramp 0 other, part-kept (rows_bytes objects * k) (rows_bytes objects) (rows_bytes objects * blk) store rows within)
+      rw (get_or-set_other updates blk k u no_update other, part-kept (rows_bytes objects * k) (rows_bytes objects) (rows_bytes objects * blk) store rows within)
 
-  last : blk < length starts → blk < length ramps → length rows ≡ rows_bytes objects → rows_bytes objects * blk + rows_bytes objects ≤ length store → behind blk ≡ now
-  last h i e f =
-      rw (get_or-set_same starts blk start 0 h, get_or-set_same ramps blk ramp 0 i, part-laid (rows_bytes objects * blk) (rows_bytes objects) store rows e f)
+  last : blk < length updates → length rows ≡ rows_bytes objects → rows_bytes objects * blk + rows_bytes objects ≤ length store → behind blk ≡ change_by u rows
+  last h e f = rw (get_or-set_same updates blk u no_update h, part-laid (rows_bytes objects * blk) (rows_bytes objects) store rows e f)
 
-  changes_more : blk < length starts → blk < length ramps → length rows ≡ rows_bytes objects → rows_bytes objects * blk + rows_bytes objects ≤ length store
-      → changes_in objects (blk + 1) (set starts blk start) (set ramps blk ramp) (sets store (rows_bytes objects * blk) rows) ≡ changes_in objects blk starts ramps store ++ (now ∷ [])
-  changes_more h i e f =
+  changes_more : blk < length updates → length rows ≡ rows_bytes objects → rows_bytes objects * blk + rows_bytes objects ≤ length store
+      → changes_in objects (blk + 1) (set updates blk u) (sets store (rows_bytes objects * blk) rows) ≡ changes_in objects blk updates store ++ (change_by u rows ∷ [])
+  changes_more h e f =
       let z : 0 + blk ≡ blk = omega arith in
-      rw add-one (map_last behind 0 blk) ∙ ap₂ (λ (l : List Change) (u : Change). l ++ (u ∷ [])) (map-from behind _ 0 blk (λ k j. kept k (omega arith))) (ap behind z ∙ last h i e f)
+      rw add-one (map_last behind 0 blk) ∙ ap₂ (λ (l : List Change) (u : Change). l ++ (u ∷ [])) (map-from behind _ 0 blk (λ k j. kept k (omega arith))) (ap behind z ∙ last h e f)
 
 -- ---- a loop over the updates
 
 -- so many were read, and these are they
-pub record Begun (text : List ℕ) (c : Spot) (objects blocks : ℕ) (first : List ℕ) (spot : Spot) (more : ℕ) (before : List ℕ) (done : List Change) : Type 0 where
-  pub left : runs text c (updates_back objects blocks first) ≡ mapped (λ us. done ++ us) (runs text spot (updates_back objects more before))
-  pub last : before ≡ rows_behind first done
+pub record Begun (first : Reader) (objects blocks : ℕ) (before : List ℕ) (r : Reader) (more : ℕ) (now : List ℕ) (done : List Change) : Type 0 where
+  pub left : runs first (updates_back objects blocks before) ≡ mapped (λ us. done ++ us) (runs r (updates_back objects more now))
+  pub last : now ≡ rows_behind before done
 
-pub begun : (text : List ℕ) (c : Spot) (objects blocks : ℕ) (first : List ℕ) → Begun text c objects blocks first c (blocks - 0) first []
+begun : (first : Reader) (objects blocks : ℕ) (before : List ℕ) → Begun first objects blocks before first (blocks - 0) before []
 unfolding rows_behind
-begun text c objects blocks first = record { left = rw sub-zero (sym (mapped-runs text c (maps_same (updates_back objects blocks first)))); last = refl }
+begun first objects blocks before = record { left = rw sub-zero (sym ((maps_same (updates_back objects blocks before)).on first.line first.rest.now)); last = refl }
 
-begun_more : {text : List ℕ} {c : Spot} {objects blocks : ℕ} {first : List ℕ} {spot : Spot} {before : List ℕ} {done : List Change} (n k : ℕ) (next : Spot) (u : Change) → n ≡ suc k
-    → spotted text next u ≡ runs text spot (update_back objects before) → Begun text c objects blocks first spot n before done
-    → Begun text c objects blocks first next k u.rows (done ++ (u ∷ []))
-unfolding updates_back
-begun_more {text} {c} {objects} {blocks} {first} {spot} {before} {done} n k next u e f h =
-    let rest = runs text next (updates_back objects k u.rows) in
-    let step : mapped (λ us. u ∷ us) rest ≡ runs text spot (updates_back objects (suc k) before) =
-    mapped-runs text next (maps_then (λ us. u ∷ us) (maps_same (updates_back objects k u.rows))) ∙ bind text spot next _ _ u f refl in
-    record {
-      left =
-          h.left ∙ ap (λ (m : ℕ). mapped (λ us. done ++ us) (runs text spot (updates_back objects m before))) e ∙ ap (mapped (λ us. done ++ us)) (sym step)
-          ∙ mapped-mapped (λ us. done ++ us) (λ us. u ∷ us) rest
-          ∙ mapped-alike _ (λ us. (done ++ (u ∷ [])) ++ us) rest (λ us. sym (append_assoc done (u ∷ []) us));
-      last = sym (behind_last first done u);
-    }
+module _ {first : Reader} {objects blocks : ℕ} {before : List ℕ} {r : Reader} {now : List ℕ} {done : List Change} {n : ℕ} (h : Begun first objects blocks before r n now done) where
+  begun_more : (k : ℕ) (next : Reader) (u : Change) → n ≡ suc k → got u next.line next.rest.now ≡ runs r (update_back objects now)
+      → Begun first objects blocks before next k u.rows (done ++ (u ∷ []))
+  unfolding updates_back
+  begun_more k next u e f =
+      let rest = runs next (updates_back objects k u.rows) in
+      let step : mapped (λ us. u ∷ us) rest ≡ runs r (updates_back objects (suc k) now) =
+      (maps_then (λ us. u ∷ us) (maps_same (updates_back objects k u.rows))).on next.line next.rest.now ∙ on-bind r _ _ f in
+      record {
+        left =
+            h.left ∙ ap (λ (m : ℕ). mapped (λ us. done ++ us) (runs r (updates_back objects m now))) e ∙ ap (mapped (λ us. done ++ us)) (sym step)
+            ∙ mapped-mapped (λ us. done ++ us) (λ us. u ∷ us) rest
+            ∙ mapped-alike _ (λ us. (done ++ (u ∷ [])) ++ us) rest (λ us. sym (append_assoc done (u ∷ []) us));
+        last = sym (behind_last before done u);
+      }
 
-begun_all : {text : List ℕ} {c : Spot} {objects blocks : ℕ} {first : List ℕ} {spot : Spot} {before : List ℕ} {done : List Change} (n : ℕ) → n ≡ 0
-    → Begun text c objects blocks first spot n before done → spotted text spot done ≡ runs text c (updates_back objects blocks first)
-unfolding updates_back run
-begun_all {text} {c} {objects} {blocks} {first} {spot} {before} {done} n e h =
-    sym (h.left ∙ ap (λ (m : ℕ). mapped (λ us. done ++ us) (runs text spot (updates_back objects m before))) e
-    ∙ mapped-spot (λ us. done ++ us) text spot [] ∙ ap (spotted text spot) (append-nil done))
+  begun-bad : (k m : ℕ) → n ≡ suc k → bad m ≡ runs r (update_back objects now) → bad m ≡ runs first (updates_back objects blocks before)
+  unfolding updates_back
+  begun-bad k m e f =
+      ap (mapped (λ us. done ++ us)) (bad-bind r (update_back objects now) (λ u. updates_back objects k u.rows >>= λ us. give (u ∷ us)) f)
+      ∙ sym (h.left ∙ ap (λ (m : ℕ). mapped (λ us. done ++ us) (runs r (updates_back objects m now))) e)
+
+  begun_all : n ≡ 0 → got done r.line r.rest.now ≡ runs first (updates_back objects blocks before)
+  unfolding updates_back run
+  begun_all e =
+      sym (h.left ∙ ap (λ (m : ℕ). mapped (λ us. done ++ us) (runs r (updates_back objects m now))) e
+      ∙ ap (λ (us : List Change). got us r.line r.rest.now) (append-nil done))
 
 -- the same over the arrays that they stand in
-pub record Going (text : List ℕ) (c : Spot) (objects blocks : ℕ) (first rows store starts ramps : List ℕ) (last : ℕ) (spot : Spot) (place blk : ℕ) : Type 0 where
+pub record Going (first : Reader) (objects : Objects) (blocks : ℕ) (before : List ℕ) (r : Reader) (rows : Latest) (store : List ℕ) (updates : List Update) (blk : ℕ) : Type 0 where
   pub few : blk ≤ blocks
-  pub changes : Begun text c objects blocks first spot (blocks - blk) (rows_of last rows) (changes_in objects blk starts ramps store)
-  pub at : place ≡ rows_bytes objects * blk
-  pub room : Room last rows
+  pub changes : Begun first objects.n blocks before r (blocks - blk) (front rows) (changes_in objects.n blk updates store)
   pub store_long : length store ≡ scratch_bytes
-  pub starts_long : length starts ≡ most_blocks
-  pub ramps_long : length ramps ≡ most_blocks
+  pub updates_long : length updates ≡ most_blocks
 
-module _ {text : List ℕ} {c : Spot} {objects blocks : ℕ} {first rows store starts ramps : List ℕ} {last : ℕ} {spot : Spot} {place blk : ℕ}
-    (h : Going text c objects blocks first rows store starts ramps last spot place blk) where
-  pub going_more : objects ≤ most_objects → blocks ≤ most_blocks → blk < blocks → {now behind : List ℕ} {r : Timed} {to : ℕ} → UpdateRead text spot last objects rows now r
-      → Laid store behind place to (rows_of objects now)
-      → Going text c objects blocks first now behind (set starts blk r.start) (set ramps blk r.ramp) objects r.spot to (blk + 1)
-  going_more few many here {now} {behind} {r} {to} read laid =
-      let u : Change = record { start = r.start; ramp = r.ramp; rows = rows_of objects now } in
-      let long : length (rows_of objects now) ≡ rows_bytes objects = length-take-le (rows_bytes objects) now (omega (arith, read.room)) in
-      let within = rows-within objects blocks blk few many here in
-      let more : changes_in objects (blk + 1) (set starts blk r.start) (set ramps blk r.ramp) behind ≡ changes_in objects blk starts ramps store ++ (u ∷ []) =
-      ap (changes_in objects (blk + 1) (set starts blk r.start) (set ramps blk r.ramp)) (laid.same ∙ ap (λ (p : ℕ). sets store p (rows_of objects now)) h.at)
-      ∙ changes_more objects blk r.start r.ramp starts ramps store (rows_of objects now) (omega (arith, h.starts_long)) (omega (arith, h.ramps_long)) long
-      (omega (arith, h.store_long)) in
+pub going : (first : Reader) (objects : Objects) (blocks : ℕ) (rows : Latest) (store : List ℕ) (updates : List Update) → length store ≡ scratch_bytes → length updates ≡ most_blocks
+    → Going first objects blocks (front rows) first rows store updates 0
+unfolding from
+going first objects blocks rows store updates h i =
+    record { few = omega arith; changes = begun first objects.n blocks (front rows); store_long = h; updates_long = i }
+
+module _ {first : Reader} {objects : Objects} {blocks : ℕ} {before : List ℕ} {r : Reader} {rows : Latest} {store : List ℕ} {updates : List Update} {blk : ℕ}
+    (h : Going first objects blocks before r rows store updates blk) where
+  pub going_more : blocks ≤ most_blocks → blk < blocks → (next : Reader) (now : Latest) (u : Update) → now.count.n ≡ objects.n → length now.bytes ≡ rows_bytes most_objects
+      → got (change_by u (front now)) next.line next.rest.now ≡ runs r (update_back objects.n (front rows))
+      → {behind : List ℕ} {to : ℕ} → Laid store behind (rows_bytes objects.n * blk) to (rows_of objects.n now.bytes)
+      → Going first objects blocks before next now behind (set updates blk u) (blk + 1)
+  going_more many here next now u count all read {behind} {to} laid =
+      let few = objects.few in
+      let same : front now ≡ rows_of objects.n now.bytes = ap (λ (n : ℕ). rows_of n now.bytes) count in
+      let long : length (rows_of objects.n now.bytes) ≡ rows_bytes objects.n = length-take-le (rows_bytes objects.n) now.bytes (omega arith) in
+      let within = rows-within objects.n blocks blk few many here in
+      let more : changes_in objects.n (blk + 1) (set updates blk u) behind ≡ changes_in objects.n blk updates store ++ (change_by u (front now) ∷ []) =
+      ap (changes_in objects.n (blk + 1) (set updates blk u)) laid.same
+      ∙ changes_more objects.n blk u updates store (rows_of objects.n now.bytes) (omega (arith, h.updates_long)) long (omega (arith, h.store_long))
+      ∙ ap (λ (l : List ℕ). changes_in objects.n blk updates store ++ (change_by u l ∷ [])) (sym same) in
       record {
         few = omega arith;
         changes =
-            subst (λ (us : List Change). Begun text c objects blocks first r.spot (blocks - (blk + 1)) (rows_of objects now) us) (sym more)
-            (begun_more (blocks - blk) (blocks - (blk + 1)) r.spot u (omega arith) read.change h.changes);
-        at = omega (arith, laid.next, h.at);
-        room = record { few = few; long = read.room };
+            subst (λ (us : List Change). Begun first objects.n blocks before next (blocks - (blk + 1)) (front now) us) (sym more)
+            (begun_more h.changes (blocks - (blk + 1)) next (change_by u (front now)) (omega arith) read);
         store_long = laid-length laid ∙ h.store_long;
-        starts_long = length-set starts blk r.start ∙ h.starts_long;
-        ramps_long = length-set ramps blk r.ramp ∙ h.ramps_long;
+        updates_long = length-set updates blk u ∙ h.updates_long;
       }
 
-  pub gone : {count : ℕ} {before : List ℕ} → blocks ≤ blk → first ≡ rows_of count before
-      → UpdatesRead text c count objects blocks before rows store (record { starts = starts; ramps = ramps; count = last; spot = spot })
-  gone {count} {before} all e =
-      let n : blk ≡ blocks = omega (arith, h.few) in
-      record {
-        changes =
-            rw (← e)
-            (subst (λ (k : ℕ). spotted text spot (changes_in objects k starts ramps store) ≡ runs text c (updates_back objects blocks first)) n
-            (begun_all (blocks - blk) (omega arith) h.changes));
-        last = rw (← e) (subst (λ (k : ℕ). rows_of last rows ≡ rows_behind first (changes_in objects k starts ramps store)) n h.changes.last);
-        few = h.room.few;
-        room = h.room.long;
-      }
+  pub going-bad : blk < blocks → {m : ℕ} → bad m ≡ runs r (update_back objects.n (front rows)) → bad m ≡ runs first (updates_back objects.n blocks before)
+  going-bad here {m} e = begun-bad h.changes (blocks - (blk + 1)) m (omega arith) e
+
+  pub gone : blocks ≤ blk → (got (changes_in objects.n blocks updates store) r.line r.rest.now ≡ runs first (updates_back objects.n blocks before))
+      × (front rows ≡ rows_behind before (changes_in objects.n blocks updates store))
+  gone all =
+      let n : blk ≡ blocks = omega (arith, h.few) in (
+        subst (λ (k : ℕ). got (changes_in objects.n k updates store) r.line r.rest.now ≡ runs first (updates_back objects.n blocks before)) n (begun_all h.changes (omega arith)),
+        subst (λ (k : ℕ). front rows ≡ rows_behind before (changes_in objects.n k updates store)) n h.changes.last,
+      )

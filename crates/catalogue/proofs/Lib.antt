@@ -1,12 +1,11 @@
 pub mod Worked
-pub mod BackLending
+pub mod ScanLaws
+pub mod RowsLaws
 pub mod BackRuns
 pub mod BackRows
+pub mod BackLending
 pub mod BackUpdates
 pub mod BackSheets
-pub mod ScanLaws
-pub mod ScanNumbers
-pub mod RowsLaws
 pub mod BackFrames
 pub mod BackWhole
 pub mod WriteLines

@@ -17,12 +17,12 @@ use Rattle.oamd.specs.Batch.{entry}
 use Rattle.roundtrip.specs.Entries.{records_of, EntryInRange}
 use Rattle.text.specs.Laying.{Laid}
 use Rattle.text.proofs.LayLaws.{laid-bind, laid_is}
-use Rattle.catalogue.specs.declared.Stand.{Stand}
+use Rattle.catalogue.specs.declared.Latest.{Latest}
 use Rattle.catalogue.specs.Sheets.{Change, Sheet, rows_behind, rows_after, change_of, sheet_of, sheet_at, sheets_of}
 use Rattle.catalogue.specs.Text.{refused_line, frame_line, update_lines, sheet_text, catalogue}
-use Rattle.catalogue.specs.Parts.{rows_of}
+use Rattle.catalogue.specs.Parts.{front}
 use Rattle.catalogue.specs.Reads.{in-range, records-within, sheet-alike}
-use Rattle.catalogue.specs.Writes.{Within, Standing, Stepped, changes_from, sheet_by, Matched}
+use Rattle.catalogue.specs.Writes.{Within, Stepped, changes_from, sheet_by, Matched}
 use Rattle.catalogue.proofs.WriteFrames.{Going, going_step, going_end}
 
 -- ---- a frame
@@ -38,26 +38,24 @@ module _ (frame : ℕ) (a : ReadAnswer) (records : List ℕ) where
   many : length these ≡ a.timing.blocks
   many = length-map (from 0 (a.timing.blocks - 0)) _ ∙ length_from 0 (a.timing.blocks - 0) ∙ sub-zero a.timing.blocks
 
-  pub sheet-refused : {text text' before : List ℕ} {to : ℕ} (at : Stand) → (a.refusal ≡ 0 → ⊥) → a.timing.blocks ≡ 0 → Standing at before
-      → Laid text text' at.to to (refused_line frame a.refusal)
-      → Stepped text text' at.to (record { to = to; count = at.count }) before (sheet_text (rows_of at.count before) (sheet_by frame a records))
-      (rows_behind (rows_of at.count before) (sheet_by frame a records).updates)
+  pub sheet-refused : {text text' : List ℕ} {at to : ℕ} (latest : Latest) → (a.refusal ≡ 0 → ⊥) → a.timing.blocks ≡ 0
+      → Laid text text' at to (refused_line frame a.refusal)
+      → Stepped text text' at to latest (sheet_text (front latest) (sheet_by frame a records)) (rows_behind (front latest) (sheet_by frame a records).updates)
   unfolding sheet_of sheet_text rows_behind from
-  sheet-refused {before = before} at h none standing laid =
+  sheet-refused latest h none laid =
       let e = ne_eqb a.refusal 0 h in
       let this : ℕ → Change = change_of a.programme.objects a.timing.blocks records a.timing.updates in
       record {
         laid = laid_is (rw e refl) laid;
-        rows_are = ap (λ (n : ℕ). rows_behind (rows_of at.count before) (map this (from 0 n))) (sym none);
-        standing = record { few = standing.few; room = standing.room };
+        rows_are = ap (λ (n : ℕ). rows_behind (front latest) (map this (from 0 n))) (sym none);
       }
 
-  pub sheet-accepted : {text text' text'' before' : List ℕ} {to : ℕ} {next : Stand} (at : Stand) (first : List ℕ) → a.refusal ≡ 0
-      → Laid text text' at.to to (frame_line frame a.programme.objects a.timing.blocks)
-      → Stepped text' text'' to next before' (update_lines a.programme.objects first these) (rows_behind first these)
-      → Stepped text text'' at.to next before' (sheet_text first (sheet_by frame a records)) (rows_behind first (sheet_by frame a records).updates)
+  pub sheet-accepted : {text text' text'' : List ℕ} {at to next : ℕ} {latest : Latest} (first : List ℕ) → a.refusal ≡ 0
+      → Laid text text' at to (frame_line frame a.programme.objects a.timing.blocks)
+      → Stepped text' text'' to next latest (update_lines a.programme.objects first these) (rows_behind first these)
+      → Stepped text text'' at next latest (sheet_text first (sheet_by frame a records)) (rows_behind first (sheet_by frame a records).updates)
   unfolding sheet_of sheet_text
-  sheet-accepted at first h laid s =
+  sheet-accepted first h laid s =
       let objects : ℕ = a.programme.objects in
       let text_is : frame_line frame objects a.timing.blocks ++ update_lines objects first these ≡ frame_line frame objects (length these) ++ update_lines objects first these =
       ap (λ (n : ℕ). frame_line frame objects n ++ update_lines objects first these) (sym many) in
@@ -66,7 +64,6 @@ module _ (frame : ℕ) (a : ReadAnswer) (records : List ℕ) where
             laid_is (text_is ∙ ap (λ (us : List Change). frame_line frame objects (length us) ++ update_lines objects first us) (sym updates-are)
             ∙ sym (rw (eq-eqb a.refusal 0 h) refl)) (laid-bind laid s.laid);
         rows_are = s.rows_are ∙ ap (rows_behind first) (sym updates-are);
-        standing = s.standing;
       }
 
 -- ---- an entry that was read
@@ -99,9 +96,9 @@ module _ (store starts lengths frames first : List ℕ) where
   left i = sheets_of store (drop i starts) (drop i lengths) (drop i frames)
 
   -- the invariant, before entry i
-  abbrev pub Cataloguing : List ℕ → List ℕ → List ℕ → ℕ → Stand → ℕ → Type 0
-  Cataloguing text₀ text before at₀ at i = Going text₀ text at₀ at before (catalogue first (left 0)) (rows_after first (left 0))
-      (catalogue (rows_of at.count before) (left i)) (rows_after (rows_of at.count before) (left i))
+  abbrev pub Cataloguing : List ℕ → List ℕ → ℕ → ℕ → Latest → ℕ → Type 0
+  Cataloguing text₀ text at₀ at latest i = Going text₀ text at₀ at (catalogue first (left 0)) (rows_after first (left 0))
+      (catalogue (front latest) (left i)) (rows_after (front latest) (left i))
 
   left_more : Matched starts lengths frames → (i : ℕ) → i < length starts
       → left i ≡ sheet_at store (get_or starts i 0) (get_or lengths i 0) (get_or frames i 0) ∷ left (i + 1)
@@ -112,18 +109,18 @@ module _ (store starts lengths frames first : List ℕ) where
   unfolding sheets_of
   left_none i h = rw (drop_of_length-le starts h) refl
 
-  module _ {text₀ text before : List ℕ} {at₀ : ℕ} {at : Stand} (i : ℕ) (g : Cataloguing text₀ text before at₀ at i) where
-    pub cataloguing_more : {text' before' : List ℕ} {next : Stand} (x : Sheet) → Matched starts lengths frames → i < length starts
+  module _ {text₀ text : List ℕ} {at₀ at : ℕ} (latest : Latest) (i : ℕ) (g : Cataloguing text₀ text at₀ at latest i) where
+    pub cataloguing_more : {text' : List ℕ} {next : ℕ} {then : Latest} (x : Sheet) → Matched starts lengths frames → i < length starts
         → x ≡ sheet_at store (get_or starts i 0) (get_or lengths i 0) (get_or frames i 0)
-        → Stepped text text' at.to next before' (sheet_text (rows_of at.count before) x) (rows_behind (rows_of at.count before) x.updates)
-        → Cataloguing text₀ text' before' at₀ next (i + 1)
+        → Stepped text text' at next then (sheet_text (front latest) x) (rows_behind (front latest) x.updates)
+        → Cataloguing text₀ text' at₀ next then (i + 1)
     unfolding catalogue rows_after
-    cataloguing_more {text'} {before'} {next} x same h e s =
+    cataloguing_more {text'} {next} {then} x same h e s =
         let more : left i ≡ x ∷ left (i + 1) = left_more same i h ∙ ap (λ (y : Sheet). y ∷ left (i + 1)) (sym e) in
-        going_step (catalogue (rows_of next.count before') (left (i + 1))) (rows_after (rows_of next.count before') (left (i + 1)))
-        (ap (catalogue (rows_of at.count before)) more ∙ rw s.rows_are refl)
-        (ap (rows_after (rows_of at.count before)) more ∙ rw s.rows_are refl) g s
+        going_step (catalogue (front then) (left (i + 1))) (rows_after (front then) (left (i + 1)))
+        (ap (catalogue (front latest)) more ∙ rw s.rows_are refl)
+        (ap (rows_after (front latest)) more ∙ rw s.rows_are refl) g s
 
-    pub cataloguing_end : length starts ≤ i → Stepped text₀ text at₀ at before (catalogue first (left 0)) (rows_after first (left 0))
+    pub cataloguing_end : length starts ≤ i → Stepped text₀ text at₀ at latest (catalogue first (left 0)) (rows_after first (left 0))
     unfolding catalogue rows_after
-    cataloguing_end h = going_end (ap (catalogue (rows_of at.count before)) (left_none i h)) (ap (rows_after (rows_of at.count before)) (left_none i h)) g
+    cataloguing_end h = going_end (ap (catalogue (front latest)) (left_none i h)) (ap (rows_after (front latest)) (left_none i h)) g

@@ -11,14 +11,13 @@ use Rattle.bits.specs.Refusals.{number_of}
 use Rattle.oamd.specs.Tables.{most_objects, record_bytes}
 use Rattle.oamd.specs.Record.{onto}
 use Rattle.text.specs.Laying.{capped, Laid}
-use Rattle.text.proofs.LayLaws.{laid-bind, laid-length}
+use Rattle.text.proofs.LayLaws.{laid-bind}
 use Rattle.catalogue.specs.declared.CatalogueAnswer.{CatalogueAnswer}
-use Rattle.catalogue.specs.declared.Stand.{Stand}
-use Rattle.catalogue.specs.Sheets.{Sheet, rows_bytes, rows_after, sheets_of}
+use Rattle.catalogue.specs.Sheets.{Sheet, rows_bytes, sheets_of}
 use Rattle.catalogue.specs.Text.{catalogue}
 use Rattle.catalogue.specs.Answer.{before_bytes, rows_in, rows_laid, Catalogued, catalogue_answer, not_catalogued, catalogued, cataloguing}
 use Rattle.catalogue.specs.Parts.{rows_of}
-use Rattle.catalogue.specs.Writes.{RowsRoom, Taken, Stepped, Matched, Written}
+use Rattle.catalogue.specs.Writes.{RowsRoom, Matched, Written}
 use Rattle.catalogue.proofs.WriteRows.{laid-front}
 
 -- what was laid from a buffer's start on stands in place of its first bytes
@@ -30,18 +29,14 @@ sets-onto l s h = sets-eq l s 0 (omega arith) ∙ ap (λ (n : ℕ). l ++ drop n 
 
 module _ (before : List ℕ) (room : before_bytes ≤ length before) where
   pub taken : {rows rows' : List ℕ} {r : ℕ} (count : ℕ) → RowsRoom rows → count ≡ min (get_or before 0 0) most_objects
-      → Laid rows rows' 0 r (take (1 + record_bytes * count - 1) (drop 1 before)) → Taken count before rows'
+      → Laid rows rows' 0 r (take (1 + record_bytes * count - 1) (drop 1 before)) → rows_of count rows' ≡ rows_in before
   unfolding rows_in
   taken {rows} {rows'} {r} count rows-room e laid =
       let n : 1 + record_bytes * count - 1 ≡ rows_bytes count = omega arith in
       let rest = length-drop 1 before in
       let long = length-take-le (rows_bytes count) (drop 1 before) (omega arith) in
       let laid' : Laid rows rows' 0 r (take (rows_bytes count) (drop 1 before)) = subst (λ (m : ℕ). Laid rows rows' 0 r (take m (drop 1 before))) n laid in
-      record {
-        few = omega arith;
-        rows_are = laid-front (take (rows_bytes count) (drop 1 before)) (rows_bytes count) long (omega arith) laid' ∙ ap (λ (m : ℕ). take (rows_bytes m) (drop 1 before)) e;
-        room = laid-length laid ∙ rows-room;
-      }
+      laid-front (take (rows_bytes count) (drop 1 before)) (rows_bytes count) long (omega arith) laid' ∙ ap (λ (m : ℕ). take (rows_bytes m) (drop 1 before)) e
 
   pub kept : {before' before'' : List ℕ} {p q : ℕ} (count : ℕ) (rows : List ℕ) → count ≤ most_objects → RowsRoom rows → Laid before before' 0 p (count ∷ [])
       → Laid before' before'' p q (rows_of count rows) → before'' ≡ onto (rows_laid (rows_of count rows)) before
@@ -94,9 +89,3 @@ module _ (store starts lengths frames before text : List ℕ) where
     unfolding cataloguing
     matched h =
         sym (rw (eq-eqb (length lengths) (length starts) m.each-length, eq-eqb (length frames) (length starts) m.each-frame, le-leb before_bytes (length before) h) refl)
-
--- ---- from the rows that were taken
-
-pub from-taken : {text text' rows : List ℕ} {at : ℕ} {next : Stand} (first first' : List ℕ) (xs : List Sheet) → first ≡ first'
-    → Stepped text text' at next rows (catalogue first xs) (rows_after first xs) → Stepped text text' at next rows (catalogue first' xs) (rows_after first' xs)
-from-taken {text} {text'} {rows} {at} {next} first first' xs e s = subst (λ (x : List ℕ). Stepped text text' at next rows (catalogue x xs) (rows_after x xs)) e s

@@ -7,21 +7,15 @@ use Rattle.oamd.specs.declared.Update.{Update}
 use Rattle.oamd.specs.Tables.{most_objects, most_blocks, record_stride, room_bytes}
 use Rattle.oamd.specs.Record.{onto}
 use Rattle.text.specs.Laying.{Laid}
-use Rattle.catalogue.specs.declared.Stand.{Stand}
+use Rattle.catalogue.specs.declared.Latest.{Latest}
 use Rattle.catalogue.specs.Sheets.{Change, Sheet, rows_bytes, rows_after, change_of, sheet_of}
 use Rattle.catalogue.specs.Text.{update_line, entry_lines, catalogue}
 use Rattle.catalogue.specs.Answer.{rows_in, rows_laid}
-use Rattle.catalogue.specs.Parts.{rows_of}
+use Rattle.catalogue.specs.Parts.{front}
 
 -- an array for the rows of every update
 abbrev pub RowsRoom : List ℕ → Type 0
 RowsRoom rows = length rows ≡ rows_bytes most_objects
-
--- how many objects the update before has, whose rows were taken into such an array
-pub record Taken (count : ℕ) (before rows : List ℕ) : Type 0 where
-  pub few : count ≤ most_objects
-  pub rows_are : rows_of count rows ≡ rows_in before
-  pub room : RowsRoom rows
 
 -- the records of so many objects and blocks, in a room for those of every payload
 pub record Within (objects blocks : ℕ) (records : List ℕ) : Type 0 where
@@ -30,16 +24,10 @@ pub record Within (objects blocks : ℕ) (records : List ℕ) : Type 0 where
   pub bytes : record_stride * (objects * blocks) ≤ room_bytes
   pub long : length records ≡ room_bytes
 
--- the update before has no more objects than there can be, and its rows stand in such an array
-pub record Standing (at : Stand) (before : List ℕ) : Type 0 where
-  pub few : at.count ≤ most_objects
-  pub room : RowsRoom before
-
--- a text was laid, and the rows of the update before, in their array, are now these
-pub record Stepped (text text' : List ℕ) (at : ℕ) (next : Stand) (before l rows : List ℕ) : Type 0 where
-  pub laid : Laid text text' at next.to l
-  pub rows_are : rows_of next.count before ≡ rows
-  pub standing : Standing next before
+-- a text was laid, and the rows of the latest update, in their array, are now these
+pub record Stepped (text text' : List ℕ) (at to : ℕ) (latest : Latest) (l rows : List ℕ) : Type 0 where
+  pub laid : Laid text text' at to l
+  pub rows_are : front latest ≡ rows
 
 -- an update with its rows
 abbrev pub change_by : Update → List ℕ → Change

@@ -15,11 +15,7 @@ fn lay_name(text: &mut [u8], at: usize, k: usize) -> usize
     requires { k < record_bytes }
     ensures { Laid text.old text.new at result (field_of k).key }
 {
-    let names = keys::FIELDS;
-    let places = keys::FIELD_AT;
-    let from = places[k] as usize;
-    let end = places[k + 1] as usize;
-    lay_bytes(text, at, &names[from..end])
+    lay_bytes(text, at, keys::FIELDS[k])
 }
 
 fn lay_field(text: &mut [u8], at: usize, k: usize, v: u8) -> usize
@@ -35,10 +31,7 @@ fn lay_listed(text: &mut [u8], at: usize, full: bool, before: u8, v: u8, k: usiz
     requires { k < record_bytes }
     ensures { Laid text.old text.new at result (listed full before v k) }
 {
-    if full {
-        return lay_field(text, at, k, v);
-    }
-    if before != v {
+    if full | (before != v) {
         return lay_field(text, at, k, v);
     }
     at
@@ -58,10 +51,8 @@ fn lay_changes(
 {
     let from = RECORD_BYTES * j;
     let mut to = at;
-    let mut k: usize = 0;
-    while k < RECORD_BYTES {
+    for k in 0..RECORD_BYTES {
         to = lay_listed(text, to, full, before[from + k], rows[from + k], k);
-        k = k + 1;
     }
     to
 }
@@ -75,12 +66,10 @@ fn has_changes(full: bool, before: &[u8], rows: &[u8], j: usize) -> bool
         return true;
     }
     let from = RECORD_BYTES * j;
-    let mut k: usize = 0;
-    while k < RECORD_BYTES {
+    for k in 0..RECORD_BYTES {
         if before[from + k] != rows[from + k] {
             return true;
         }
-        k = k + 1;
     }
     false
 }
@@ -112,10 +101,8 @@ pub fn lay_entries(
     ensures { Laid text.old text.new at result (texts_for objects (entry_line full before.now rows.now)) }
 {
     let mut to = at;
-    let mut j: usize = 0;
-    while j < objects {
+    for j in 0..objects {
         to = lay_entry(text, to, full, before, rows, j);
-        j = j + 1;
     }
     to
 }

@@ -1,7 +1,10 @@
 // The catalogue of a segment of frames: its text, and the text read back.
 #![tactic(auto)]
 
-use oamd::MOST_BLOCKS;
+ghost use Rattle.std.specs.Prelude.{◌≡◌, ◌≤◌, length};
+ghost use Rattle.oamd.specs.Tables.{most_objects};
+
+use oamd::{RECORD_BYTES, Timing};
 
 mod before; // before.rt: the update before, as it is lent from call to call
 mod entries; // entries.rt: the entries of an update
@@ -37,77 +40,66 @@ pub struct BackAnswer {
     pub refusal: u8,
 }
 
+// The most objects of a frame.
+const MOST_OBJECTS: u8 = 159;
+
 // The rows of every update: 24 bytes for each of 159 objects.
-pub const ROWS_BYTES: usize = 3816;
+pub const ROWS_BYTES: usize = RECORD_BYTES * MOST_OBJECTS as usize;
 
 // And the number of objects in front of them, as the update before is lent.
-pub const BEFORE_BYTES: usize = 3817;
+pub const BEFORE_BYTES: usize = 1 + ROWS_BYTES;
 
-// Where the reading of a text stands: a place of it, the number of the line there, and whether all is good so far; if not, the line is the bad one.
+// A text as far as it was read: what is left of it, and the number of the line there.
 #[derive(Clone, Copy)]
-pub struct Spot {
-    pub at: usize,
+pub(crate) struct Reader<'a> {
+    pub rest: &'a [u8],
     pub line: usize,
-    pub good: bool,
 }
 
-// A number that was read, and where reading stands behind it.
+// The number of a line that cannot stand where it does.
 #[derive(Clone, Copy)]
-pub struct Number {
-    pub value: u64,
-    pub spot: Spot,
+pub(crate) struct BadLine {
+    pub line: usize,
 }
 
-// Where the laying of a text stands: its next place, and how many objects the update before has, 0 where there is none.
+// A number of objects: no more than there can be.
 #[derive(Clone, Copy)]
-pub struct Stand {
-    pub to: usize,
-    pub count: usize,
+pub(crate) struct Objects {
+    pub n: usize,
+    ghost few: { n ≤ most_objects },
 }
 
-// A frame as its lines gave it: the starts and the ramps of its updates, of which there are as many as blocks. Their rows stand apart, one update behind the other.
+// The rows of the latest update, of so many objects, in front of an array with room for those of every update.
 #[derive(Clone, Copy)]
-pub struct Page {
+pub(crate) struct Latest {
+    pub count: Objects,
+    pub bytes: [u8; ROWS_BYTES],
+}
+
+// A segment of frames, given as to a batch: a start, a length and a frame for each entry.
+#[derive(Clone, Copy)]
+pub(crate) struct Shelf<'a> {
+    pub store: &'a [u8],
+    pub starts: &'a [u64],
+    pub lengths: &'a [u64],
+    pub frames: &'a [u32],
+    ghost each_length: { length lengths.now ≡ length starts.now },
+    ghost each_frame: { length frames.now ≡ length starts.now },
+}
+
+// A frame as its lines gave it. The rows of its updates stand apart, one update behind the other.
+#[derive(Clone, Copy)]
+pub(crate) struct Page {
     pub frame: u32,
     pub refusal: u8,
     pub objects: u8,
-    pub blocks: u8,
-    pub starts: [u16; MOST_BLOCKS],
-    pub ramps: [u16; MOST_BLOCKS],
+    pub timing: Timing,
 }
 
-// An update's line as it was read, and where reading stands behind the update's entries.
+// The frames of a text: how many, and the places behind their lines and their records.
 #[derive(Clone, Copy)]
-pub struct Timed {
-    pub start: u16,
-    pub ramp: u16,
-    pub spot: Spot,
-}
-
-// The starts and the ramps of a frame's updates, the objects of the update before behind them, and where reading stands.
-#[derive(Clone, Copy)]
-pub struct Updates {
-    pub starts: [u16; MOST_BLOCKS],
-    pub ramps: [u16; MOST_BLOCKS],
-    pub count: usize,
-    pub spot: Spot,
-}
-
-// A frame, the objects of the update before behind it, and where reading stands.
-#[derive(Clone, Copy)]
-pub struct Leaf {
-    pub page: Page,
-    pub count: usize,
-    pub spot: Spot,
-}
-
-// The frames of a text: how many, the places behind their lines and their records, the objects of the update before behind them, and the next line; or the line that is bad.
-#[derive(Clone, Copy)]
-pub struct Tally {
+pub(crate) struct Tally {
     pub frames: u64,
     pub lines: usize,
     pub records: usize,
-    pub count: usize,
-    pub line: usize,
-    pub good: bool,
 }

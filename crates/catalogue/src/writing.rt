@@ -2,15 +2,15 @@
 ghost use Rattle.std.specs.Prelude.{◌≡◌, ◌≤◌, length};
 ghost use Rattle.bits.specs.Refusals.{number_of};
 ghost use Rattle.text.specs.Laying.{capped};
-ghost use Rattle.catalogue.specs.Sheets.{rows_after, sheets_of};
 ghost use Rattle.catalogue.specs.Text.{catalogue};
 ghost use Rattle.catalogue.specs.Answer.{before_bytes, rows_in, catalogue_answer, catalogued, cataloguing};
-ghost use Rattle.catalogue.specs.Writes.{RowsRoom, Matched, Stepped, Written};
+ghost use Rattle.catalogue.specs.Writes.{Written};
+ghost use Rattle.catalogue.specs.Parts.{sheets_on};
 ghost use Rattle.catalogue.specs.Calls.{cataloguing_alone};
 
 use crate::before::{keep_before, take_before};
 use crate::frames::lay_catalogue;
-use crate::{BEFORE_BYTES, CatalogueAnswer, ROWS_BYTES, Stand};
+use crate::{BEFORE_BYTES, CatalogueAnswer, Shelf};
 use bits::Refusal;
 
 fn refused(refusal: Refusal, place: u64) -> CatalogueAnswer
@@ -19,88 +19,41 @@ fn refused(refusal: Refusal, place: u64) -> CatalogueAnswer
     CatalogueAnswer {
         place,
         length: 0,
-        refusal: bits::number(refusal),
+        refusal: refusal.number(),
     }
 }
 
-// The whole text, from the update before as it was lent. Its rows stand in an array, and behind it those of the last update.
-fn lay_whole(
-    store: &[u8],
-    starts: &[u64],
-    lengths: &[u64],
-    frames: &[u32],
-    before: &[u8],
-    rows: &mut [u8],
-    text: &mut [u8],
-) -> Stand
-    requires cases { Matched starts.now lengths.now frames.now }
-    requires before_bytes_in_bounds { (before_bytes ≤ length before.now) × RowsRoom rows.old }
-    ensures { Stepped text.old text.new 0 result rows.new
-        (catalogue (rows_in before.now) (sheets_of store.now starts.now lengths.now frames.now))
-        (rows_after (rows_in before.now) (sheets_of store.now starts.now lengths.now frames.now)) }
+// The length of the text: over a short buffer nothing behind the end is stored.
+fn measure(shelf: &Shelf, before: &[u8]) -> usize
+    requires { before_bytes ≤ length before.now }
+    ensures { result ≡ capped (length (catalogue (rows_in before.now) (sheets_on shelf.now))) }
 {
-    let count = take_before(before, rows);
-    lay_catalogue(
-        store,
-        starts,
-        lengths,
-        frames,
-        Stand { to: 0, count },
-        rows,
-        text,
-    )
-}
-
-// Its length: over a short buffer nothing behind the end is stored.
-fn measure(store: &[u8], starts: &[u64], lengths: &[u64], frames: &[u32], before: &[u8]) -> usize
-    requires cases { Matched starts.now lengths.now frames.now }
-    requires before_bytes_in_bounds { before_bytes ≤ length before.now }
-    ensures { result ≡ capped (length (catalogue (rows_in before.now) (sheets_of store.now starts.now lengths.now frames.now))) }
-{
-    let mut rows = [0u8; ROWS_BYTES];
+    let mut latest = take_before(before);
     let mut none = [0u8; 1];
-    let end = lay_whole(store, starts, lengths, frames, before, &mut rows, &mut none);
-    end.to
+    lay_catalogue(shelf, &mut latest, &mut none)
 }
 
 // The text, and the last update for the next call.
-fn lay_all(
-    store: &[u8],
-    starts: &[u64],
-    lengths: &[u64],
-    frames: &[u32],
-    before: &mut [u8],
-    text: &mut [u8],
-)
-    requires cases { Matched starts.now lengths.now frames.now }
-    requires before_bytes_in_bounds { before_bytes ≤ length before.old }
-    ensures { Written text.old text.new before.old before.new
-        (sheets_of store.now starts.now lengths.now frames.now) }
+fn lay_all(shelf: &Shelf, before: &mut [u8], text: &mut [u8])
+    requires { before_bytes ≤ length before.old }
+    ensures { Written text.old text.new before.old before.new (sheets_on shelf.now) }
 {
-    let mut rows = [0u8; ROWS_BYTES];
-    let end = lay_whole(store, starts, lengths, frames, before, &mut rows, text);
-    keep_before(before, &rows, end.count);
+    let mut latest = take_before(before);
+    lay_catalogue(shelf, &mut latest, text);
+    keep_before(before, &latest);
 }
 
 // Lays the text, if there is room for all of it: its length first.
-fn write_sheets(
-    store: &[u8],
-    starts: &[u64],
-    lengths: &[u64],
-    frames: &[u32],
-    before: &mut [u8],
-    text: &mut [u8],
-) -> CatalogueAnswer
-    requires cases { Matched starts.now lengths.now frames.now }
-    requires before_bytes_in_bounds { before_bytes ≤ length before.old }
+fn write_sheets(shelf: &Shelf, before: &mut [u8], text: &mut [u8]) -> CatalogueAnswer
+    requires { before_bytes ≤ length before.old }
     ensures { (record { answer = result; before = before.new; text = text.new })
-        ≡ catalogued before.old text.old (sheets_of store.now starts.now lengths.now frames.now) }
+        ≡ catalogued before.old text.old (sheets_on shelf.now) }
 {
-    let needed = measure(store, starts, lengths, frames, before);
+    let needed = measure(shelf, before);
     if text.len() < needed {
         return refused(Refusal::ShortText, needed as u64);
     }
-    lay_all(store, starts, lengths, frames, before, text);
+    lay_all(shelf, before, text);
     CatalogueAnswer {
         place: 0,
         length: needed as u64,
@@ -130,7 +83,13 @@ pub fn write_catalogue_on(
     if before.len() < BEFORE_BYTES {
         return refused(Refusal::Room, BEFORE_BYTES as u64);
     }
-    write_sheets(store, starts, lengths, frames, before, text)
+    let shelf = Shelf {
+        store,
+        starts,
+        lengths,
+        frames,
+    };
+    write_sheets(&shelf, before, text)
 }
 
 // Lays the catalogue of a segment by itself: its first update lists every field.

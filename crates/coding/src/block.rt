@@ -4,18 +4,15 @@ ghost use Rattle.bits.specs.Writes.{to_bits};
 ghost use Rattle.coding.specs.Packing.{PacksIn, opening_bits, fore_bits, aft_bits};
 
 use crate::Packed;
-use crate::packing::{nothing, pack};
 use crate::parts::{basic_if, distance, extent, position, screen, status, zone};
-use bits::less;
 use oamd::Scene;
 
 // Whether it is active, and gain and priority.
 fn opening(first: bool, s: Scene) -> Packed
     ensures { PacksIn 1 17 result (opening_bits first s) }
 {
-    let idle = less(1, s.active);
-    let p = nothing();
-    let p = pack(p, 1, idle as u64);
+    let idle = 1u8.saturating_sub(s.active);
+    let p = Packed::nothing().pack(1, idle as u64);
     let p = status(s.active == 1, first, p);
     basic_if(s.active == 1, p, s)
 }
@@ -35,17 +32,13 @@ pub fn fore(first: bool, s: Scene) -> Packed
 pub fn aft(s: Scene) -> Packed
     ensures { PacksIn 1 30 result (aft_bits s) }
 {
-    let p = nothing();
-    let p = extent(p, s.volume);
-    let p = screen(p, s.screen);
-    let p = pack(p, 1, s.snap as u64);
-    pack(p, 1, 0)
+    let p = extent(Packed::nothing(), s.volume);
+    screen(p, s.screen).pack(1, s.snap as u64).pack(1, 0)
 }
 
 // A whole block whose render info is not sent.
 pub fn short(first: bool, s: Scene) -> Packed
     ensures { PacksIn 1 18 result (opening_bits first s ++ to_bits 1 0) }
 {
-    let p = opening(first, s);
-    pack(p, 1, 0)
+    opening(first, s).pack(1, 0)
 }

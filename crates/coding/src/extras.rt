@@ -3,18 +3,16 @@ ghost use Rattle.form.specs.Form.{divergence_bits, precise_bits};
 ghost use Rattle.coding.specs.Packing.{PacksIn, Room, Behind, axes_bits};
 
 use crate::Packed;
-use crate::packing::{nothing, pack_both, pack_if};
-use bits::as_flag;
 use oamd::{Divergence, Precise};
 
 pub fn divergence(sent: bool, d: Divergence) -> Packed
     ensures { PacksIn 0 11 result (divergence_bits sent d) }
 {
-    let p = nothing();
-    let p = pack_if(sent, p, 1, d.used as u64);
-    let p = pack_if(d.used == 1, p, 2, d.mode as u64);
-    let p = pack_both(d.used == 1, d.mode == 0, p, 2, d.value as u64);
-    pack_if(d.mode == 2, p, 6, d.value as u64)
+    Packed::nothing()
+        .pack_if(sent, 1, d.used as u64)
+        .pack_if(d.used == 1, 2, d.mode as u64)
+        .pack_if((d.used == 1) & (d.mode == 0), 2, d.value as u64)
+        .pack_if(d.mode == 2, 6, d.value as u64)
 }
 
 fn axes(p: Packed, precise: Precise) -> Packed
@@ -24,17 +22,17 @@ fn axes(p: Packed, precise: Precise) -> Packed
     let x = oamd::has_x(precise.presence as u32);
     let y = oamd::has_y(precise.presence as u32);
     let z = oamd::has_z(precise.presence as u32);
-    let p = pack_if(x, p, 2, precise.x as u64);
-    let p = pack_if(y, p, 2, precise.y as u64);
-    pack_if(z, p, 2, precise.z as u64)
+    p.pack_if(x, 2, precise.x as u64)
+        .pack_if(y, 2, precise.y as u64)
+        .pack_if(z, 2, precise.z as u64)
 }
 
 pub fn precise(sent: bool, d: Precise) -> Packed
     ensures { PacksIn 0 10 result (precise_bits sent d) }
 {
-    let some = as_flag(0 < d.presence);
-    let p = nothing();
-    let p = pack_if(sent, p, 1, some as u64);
-    let p = pack_if(0 < d.presence, p, 3, d.presence as u64);
+    let some = u8::from(0 < d.presence);
+    let p = Packed::nothing()
+        .pack_if(sent, 1, some as u64)
+        .pack_if(0 < d.presence, 3, d.presence as u64);
     axes(p, d)
 }

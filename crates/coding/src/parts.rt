@@ -7,8 +7,7 @@ ghost use Rattle.coding.specs.Packing.{Room, Whole, Behind};
 
 use crate::Packed;
 use crate::choices::{z_bits, z_sign};
-use crate::packing::{kept_if, pack, pack_both, pack_whole};
-use bits::{choice, less};
+use bits::pick;
 use oamd::{Location, Scene, Screen, Volume, Zone};
 
 // 0 dB, as a record has it.
@@ -19,7 +18,7 @@ pub fn status(sent: bool, first: bool, p: Packed) -> Packed
     requires { Room 2 p }
     ensures { Behind 0 2 p result (status_bits sent first) }
 {
-    pack_both(sent, !first, p, 2, 1)
+    p.pack_if(sent & !first, 2, 1)
 }
 
 // w bits of v where a test holds, else x bits of y. A group whose fields hang on each other is one number of one width here, each computed whatever the
@@ -28,9 +27,7 @@ fn either(on: bool, p: Packed, w: u32, v: u64, x: u32, y: u64) -> Packed
     requires { Whole (pick on w x) (pick on v y) p }
     ensures { Behind (pick on w x) (pick on w x) p result (to_bits (pick on w x) (pick on v y)) }
 {
-    let width = if on { w } else { x };
-    let value = if on { v } else { y };
-    pack_whole(p, width, value)
+    p.pack_whole(pick(on, w, x), pick(on, v, y))
 }
 
 // Index 0 for 0 dB, 1 for minus infinity, else 2 and how far it lies below +15 dB, 0 dB left out (Tables 18 and 19).
@@ -38,11 +35,11 @@ fn gain(p: Packed, v: u8) -> Packed
     requires { Room 8 p }
     ensures { Behind 2 8 p result (gain_bits (coded_gain v)) }
 {
-    let most = choice(ZERO_DB < v, ZERO_DB + 15, ZERO_DB + 14);
-    let below = less(most, v);
-    let width = choice(v == 0, 2, 8);
-    let value = choice(v == 0, 1, 128 + below % 64);
-    either(v == ZERO_DB, p, 2, 0, width as u32, value as u64)
+    let most = pick(ZERO_DB < v, ZERO_DB + 15, ZERO_DB + 14);
+    let below = most.saturating_sub(v);
+    let width = pick(v == 0, 2, 8);
+    let value = pick(v == 0, 1, 128 + below % 64);
+    either(v == ZERO_DB, p, 2, 0, width, value as u64)
 }
 
 // The flag for 32 of 32, else 5 bits.
@@ -58,9 +55,7 @@ pub fn basic_if(active: bool, p: Packed, s: Scene) -> Packed
     requires { Room 14 p }
     ensures { Behind 0 14 p result (only active (basic_bits s)) }
 {
-    let more = gain(p, s.gain);
-    let more = priority(more, s.priority);
-    kept_if(active, more, p)
+    p.kept_if(active, priority(gain(p, s.gain), s.priority))
 }
 
 // An absolute position; in a later block it says that it is one, by a 0 in front.
@@ -80,18 +75,17 @@ pub fn distance(p: Packed, v: u8) -> Packed
     requires { Room 6 p }
     ensures { Behind 1 6 p result (distance_bits (coded_distance v)) }
 {
-    let index = less(v, 2);
-    let width = choice(v == 1, 2, 6);
-    let value = choice(v == 1, 3, 32 + index % 16);
-    either(0 < v, p, width as u32, value as u64, 1, 0)
+    let index = v.saturating_sub(2);
+    let width = pick(v == 1, 2, 6);
+    let value = pick(v == 1, 3, 32 + index % 16);
+    either(0 < v, p, width, value as u64, 1, 0)
 }
 
 pub fn zone(p: Packed, z: Zone) -> Packed
     requires { Room 4 p }
     ensures { Behind 4 4 p result (zone_bits z) }
 {
-    let p = pack(p, 3, z.index as u64);
-    pack(p, 1, z.elevation as u64)
+    p.pack(3, z.index as u64).pack(1, z.elevation as u64)
 }
 
 // No size, one for all three behind index 1, or three behind index 2 (Table 17).
@@ -99,12 +93,12 @@ pub fn extent(p: Packed, v: Volume) -> Packed
     requires { Room 22 p }
     ensures { Behind 2 22 p result (extent_bits (coded_extent v)) }
 {
-    let even = bits::both(v.width == v.depth, v.width == v.height);
-    let width = choice(v.width == 0, 2, 7);
-    let value = choice(v.width == 0, 0, 32 + v.width % 32);
+    let even = (v.width == v.depth) & (v.width == v.height);
+    let width = pick(v.width == 0, 2, 7);
+    let value = pick(v.width == 0, 0, 32 + v.width % 32);
     let two = (64 + v.width as u64 % 32) * 32 + v.depth as u64 % 32;
     let three = two * 32 + v.height as u64 % 32;
-    either(even, p, width as u32, value as u64, 17, three)
+    either(even, p, width, value as u64, 17, three)
 }
 
 // Whether it is used, and where it is, factor and depth.

@@ -7,8 +7,6 @@ ghost use Rattle.coding.specs.Packing.{PacksIn, Room, Behind, ramp_bits};
 
 use crate::Packed;
 use crate::choices::{coded_offset, ramp_bits, ramp_code, ramp_index, ramp_indexed};
-use crate::packing::{nothing, pack, pack_both, pack_if};
-use bits::less;
 use oamd::Update;
 
 // The sample offset of all blocks, and how many there are behind the first.
@@ -16,22 +14,22 @@ pub fn lead(first: u8, blocks: u8) -> Packed
     ensures { PacksIn 1 12 result (offset_bits (coded_offset first) ++ to_bits 3 (blocks - 1)) }
 {
     let offset = coded_offset(first);
-    let more = less(blocks, 1);
-    let p = nothing();
-    let p = pack(p, 2, offset.code as u64);
-    let p = pack_if(offset.code == 1, p, 2, offset.index as u64);
-    let p = pack_if(offset.code == 2, p, 5, offset.bits as u64);
-    pack(p, 3, more as u64)
+    let more = blocks.saturating_sub(1);
+    Packed::nothing()
+        .pack(2, offset.code as u64)
+        .pack_if(offset.code == 1, 2, offset.index as u64)
+        .pack_if(offset.code == 2, 5, offset.bits as u64)
+        .pack(3, more as u64)
 }
 
 fn ramp(p: Packed, code: u8, indexed: u8, index: u8, bits: u16) -> Packed
     requires { Room 18 p }
     ensures { Behind 2 18 p result (ramp_bits code indexed index bits) }
 {
-    let p = pack(p, 2, code as u64);
-    let p = pack_if(code == 3, p, 1, indexed as u64);
-    let p = pack_if(indexed == 1, p, 4, index as u64);
-    pack_both(code == 3, indexed == 0, p, 11, bits as u64)
+    p.pack(2, code as u64)
+        .pack_if(code == 3, 1, indexed as u64)
+        .pack_if(indexed == 1, 4, index as u64)
+        .pack_if((code == 3) & (indexed == 0), 11, bits as u64)
 }
 
 pub fn update(u: Update) -> Packed
@@ -44,7 +42,6 @@ pub fn update(u: Update) -> Packed
     let index = ramp_index(length);
     let bits = ramp_bits(code, length);
     let factor = start / 32;
-    let p = nothing();
-    let p = pack(p, 6, factor as u64);
+    let p = Packed::nothing().pack(6, factor as u64);
     ramp(p, code, indexed, index, bits)
 }

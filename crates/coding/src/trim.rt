@@ -5,7 +5,6 @@ ghost use Rattle.form.specs.Form.{config_bits};
 ghost use Rattle.coding.specs.Packing.{PacksIn, Room, Behind, balances_bits, trims_bits};
 
 use crate::Packed;
-use crate::packing::{nothing, pack, pack_both, pack_if};
 use oamd::TrimConfig;
 
 // A balance: a sign and an amount (Table 34).
@@ -13,8 +12,7 @@ fn balance(on: bool, p: Packed, sign: u8, amount: u8) -> Packed
     requires { Room 5 p }
     ensures { Behind 0 5 p result (only on (to_bits 1 sign) ++ only on (to_bits 4 amount)) }
 {
-    let p = pack_if(on, p, 1, sign as u64);
-    pack_if(on, p, 4, amount as u64)
+    p.pack_if(on, 1, sign as u64).pack_if(on, 4, amount as u64)
 }
 
 fn balances(p: Packed, c: TrimConfig) -> Packed
@@ -35,18 +33,19 @@ fn trims(p: Packed, c: TrimConfig) -> Packed
     let centre = oamd::has_centre(c.presence as u32);
     let surround = oamd::has_surround(c.presence as u32);
     let height = oamd::has_height(c.presence as u32);
-    let p = pack_if(centre, p, 4, c.centre as u64);
-    let p = pack_if(surround, p, 4, c.surround as u64);
-    let p = pack_if(height, p, 4, c.height as u64);
+    let p = p
+        .pack_if(centre, 4, c.centre as u64)
+        .pack_if(surround, 4, c.surround as u64)
+        .pack_if(height, 4, c.height as u64);
     balances(p, c)
 }
 
 pub fn config(c: TrimConfig) -> Packed
     ensures { PacksIn 1 29 result (config_bits c) }
 {
-    let p = nothing();
-    let p = pack(p, 1, c.bydefault as u64);
-    let p = pack_if(c.bydefault == 0, p, 1, c.disabled as u64);
-    let p = pack_both(c.bydefault == 0, c.disabled == 0, p, 5, c.presence as u64);
+    let p = Packed::nothing()
+        .pack(1, c.bydefault as u64)
+        .pack_if(c.bydefault == 0, 1, c.disabled as u64)
+        .pack_if((c.bydefault == 0) & (c.disabled == 0), 5, c.presence as u64);
     trims(p, c)
 }

@@ -45,12 +45,30 @@ pub const RAMP: [u8; 5] = *b"ramp=";
 
 pub const OBJECT: [u8; 7] = *b"object=";
 
-// The names of a record's fields, byte 0 first, one behind the other.
-pub const FIELDS: [u8; 197] =
-    *b"active=class=gain=priority=x=y=z=distance=width=depth=height=zone=elevation=screen=screen_factor=screen_depth=snap=divergence=divergence_mode=divergence_value=precise=precise_x=precise_y=precise_z=";
-
-// Where each of them begins, and where the last ends.
-pub const FIELD_AT: [u8; 25] = [
-    0, 7, 13, 18, 27, 29, 31, 33, 42, 48, 54, 61, 66, 76, 83, 97, 110, 115, 126, 142, 159, 167,
-    177, 187, 197,
+// The names of a record's fields, byte 0 first.
+pub const FIELDS: [&[u8]; 24] = [
+    b"active=",
+    b"class=",
+    b"gain=",
+    b"priority=",
+    b"x=",
+    b"y=",
+    b"z=",
+    b"distance=",
+    b"width=",
+    b"depth=",
+    b"height=",
+    b"zone=",
+    b"elevation=",
+    b"screen=",
+    b"screen_factor=",
+    b"screen_depth=",
+    b"snap=",
+    b"divergence=",
+    b"divergence_mode=",
+    b"divergence_value=",
+    b"precise=",
+    b"precise_x=",
+    b"precise_y=",
+    b"precise_z=",
 ];

@@ -73,11 +73,12 @@ pub fn start() -> Pen
 }
 
 // Open bits and v behind them, n bits together.
+#[tactic(auto, unfolding(crate::specs::Laying::joined))]
 fn join(word: u64, n: u32, v: u64) -> u64
     requires { (1 ≤ n) × (n ≤ 64) }
     ensures { result ≡ joined word n v }
 {
-    std::num::wrapping_add_u64(word, v << (64 - n))
+    word.wrapping_add(v << (64 - n))
 }
 
 // Lays a field of w bits, which hold all of v, behind what the pen has laid. Where eight bytes have room, the bits that are held are stored with it, and those that fill a byte are
@@ -87,10 +88,8 @@ pub fn put(out: &mut [u8], pen: Pen, w: u32, v: u64) -> Pen
     requires w_bound { reach out.old pen + w ≤ most_position }
     ensures { Put w out.old out.new pen result v }
 {
-    let stored = pen.stored;
-    let held = pen.held;
-    let bytes = stored.raw();
-    let n = held.raw() + w;
+    let bytes = pen.stored.raw();
+    let n = pen.held.raw() + w;
     if bytes as usize + 8 <= out.len() {
         let y = join(pen.word, n, v);
         store_whole(out, bytes as usize, y);
@@ -100,18 +99,14 @@ pub fn put(out: &mut [u8], pen: Pen, w: u32, v: u64) -> Pen
             stored: ByteCount::new(bytes + n / 8),
         };
     }
+    let held = BitCount::new(n);
     if 63 < n {
-        return Pen {
-            word: pen.word,
-            held: BitCount::new(n),
-            stored,
-        };
+        return Pen { held, ..pen };
     }
-    let y = join(pen.word, n, v);
     Pen {
-        word: y,
-        held: BitCount::new(n),
-        stored,
+        word: join(pen.word, n, v),
+        held,
+        ..pen
     }
 }
 
@@ -120,7 +115,5 @@ pub fn finish(out: &mut [u8], pen: Pen)
     requires { place pen ≤ most_position }
     ensures { out.new ≡ set_wide out.old pen.stored.0 pen.word }
 {
-    let stored = pen.stored;
-    let bytes = stored.raw();
-    store_end(out, bytes as usize, pen.word);
+    store_end(out, pen.stored.raw() as usize, pen.word);
 }

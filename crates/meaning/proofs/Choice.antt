@@ -2,8 +2,7 @@
 -- Assumes nothing.
 use mathlib.Core.Path.{◌≡◌}
 use mathlib.Core.Bool.{Bool, true, false}
-use Prim.Native.Nat.{ℕ, ◌-◌, ◌<◌}
-use native.Mathlib.Omega.{arith}
+use Prim.Native.Nat.{ℕ, ◌≤◌}
 use borrow.Author.Tests.{eq-eqb, ne_eqb, lt-ltb, le-ltb}
 use borrow.Author.Rules.{rules}
 use Rattle.bits.specs.Language.{pick}
@@ -16,8 +15,9 @@ module _ {A : Type 0} (t u : Bool) (a b r : A) where
   pub passed : u ≡ t → u ≡ false → r ≡ b → r ≡ pick t a b
   passed q h e = rw (← q, h) e
 
--- a difference that the code gives as 0
-pub none_left : (a b : ℕ) → a < b → a - b ≡ 0
-none_left a b h = omega arith
+-- what holds of both that a test picks from
+pub within : (t : Bool) {a b n : ℕ} → a ≤ n → b ≤ n → pick t a b ≤ n
+within true p q = p
+within false p q = q
 
-pub ruleset tests = (eq-eqb, ne_eqb, lt-ltb, le-ltb, none_left, rules)
+pub ruleset tests = (eq-eqb, ne_eqb, lt-ltb, le-ltb, rules)

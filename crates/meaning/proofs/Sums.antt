@@ -1,13 +1,16 @@
 -- A sum over a list, as a loop makes it: what stands so far and what is left are together the whole. Assumes nothing.
-use mathlib.Core.Path.{◌≡◌, refl, sym, ◌∙◌}
+use mathlib.Core.Path.{◌≡◌, refl, sym, ap, ◌∙◌}
 use mathlib.Core.Bool.{Bool, true, false}
 use mathlib.Core.List.{List, [], ◌∷◌}
-use Prim.Native.Nat.{ℕ, suc, ◌+◌, ◌*◌, ◌<◌, ◌≤◌}
+use Prim.Native.Nat.{ℕ, zero, suc, ◌+◌, ◌-◌, ◌*◌, ◌/◌, ◌%◌, ◌^◌, ◌<◌, ◌≤◌}
 use native.Mathlib.Numerals.{add-one}
 use native.Mathlib.Omega.{arith}
 use lib.Dec.{eqb}
-use lib.ListN.{length, get_or, drop, drop_of_length-le}
+use lib.ListN.{length, get_or, drop, replicate, drop_of_length-le}
 use lib.Seq.{drop-cons}
+use Rattle.std.specs.Int.Count.{ones}
+use Rattle.std.proofs.Math.Nat.{mod-one}
+use Rattle.std.proofs.lemmas.Nat.{ones_cat, mod-pow-add, pow_pos}
 use borrow.Author.Tests.{eqb-true, eqb-false}
 use Rattle.bits.specs.Language.{flag}
 use Rattle.oamd.specs.Programme.{labels, bed_objects, all_beds}
@@ -64,3 +67,21 @@ module _ (n v : ℕ) {most : ℕ} {counts : List ℕ} {sum k next : ℕ} {t : Bo
 pub bed-sum : Sum (λ i bs. all_beds bs) (λ i b. bed_objects b)
 unfolding all_beds
 bed-sum = record { nil = λ i. refl; cons = λ i b bs. refl }
+
+-- a flag is its own count
+one-flag : (a : ℕ) → a < 2 → a * 1 ≡ ones a
+unfolding ones
+one-flag zero h = refl
+one-flag (suc zero) h = refl
+one-flag (suc (suc a)) h = absurd (omega arith)
+
+-- where each flag counts one, as many labels as flags are set
+pub each-one : (n k m v : ℕ) → n ≡ k + m → labels n k (replicate m 1) v ≡ ones (v % 2 ^ m)
+unfolding labels
+each-one n k zero v e = rw (mod-one v) (one-flag zero (omega arith))
+each-one n k (suc m) v e =
+    let f : n - 1 - k ≡ m = omega arith in
+    let g : suc m ≡ 1 + m = omega arith in
+    let low : v % 2 ^ m < 2 ^ m = omega (arith, pow_pos m) in
+    rw (f, each-one n (suc k) m v (omega arith), g, mod-pow-add v 1 m, ones_cat m (v / 2 ^ m % 2) (v % 2 ^ m) low)
+    (ap (λ (j : ℕ). j + ones (v % 2 ^ m)) (one-flag (v / 2 ^ m % 2) (omega arith)))

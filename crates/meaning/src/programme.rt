@@ -3,6 +3,7 @@ ghost use Rattle.std.specs.Prelude.{◌≡◌, ◌≤◌};
 ghost use Rattle.oamd.specs.Tables.{bed_labels, nonstd_labels};
 ghost use Rattle.oamd.specs.Programme.{labels, bed_objects, all_beds, named, agrees, shares, class_of};
 
+use bits::pick;
 use oamd::{Bed, MOST_BEDS, Programme, Shares};
 
 // The speaker labels of bed_channel_assignment[].
@@ -10,29 +11,19 @@ fn standard_labels(v: u32) -> u32
     ensures { (result ≡ labels 10 0 bed_labels v) × (result ≤ 20) }
 {
     let mut sum: u32 = 0;
-    let mut k: u32 = 0;
-    while k < 10 {
+    for k in 0..10 {
         if bits::flag(10, k, v) {
-            sum = sum + oamd::bed_labels(k) as u32;
+            sum += oamd::bed_labels(k) as u32;
         }
-        k = k + 1;
     }
     sum
 }
 
-// The channel labels of nonstd_bed_channel_assignment[], one for each flag.
+// The channel labels of nonstd_bed_channel_assignment[], one for each of 17 flags that is set.
 fn nonstd_labels(v: u32) -> u32
     ensures { (result ≡ labels 17 0 nonstd_labels v) × (result ≤ 17) }
 {
-    let mut sum: u32 = 0;
-    let mut k: u32 = 0;
-    while k < 17 {
-        if bits::flag(17, k, v) {
-            sum = sum + 1;
-        }
-        k = k + 1;
-    }
-    sum
+    (v % (1 << 17)).count_ones()
 }
 
 // A bed without an assignment, as of an entry that is not used, has no labels to count.
@@ -55,11 +46,8 @@ fn all_beds(beds: [Bed; MOST_BEDS]) -> u32
     ensures { (result ≡ all_beds beds) × (result ≤ 180) }
 {
     let mut sum: u32 = 0;
-    let mut i: usize = 0;
-    while i < MOST_BEDS {
-        let b = beds[i];
-        sum = sum + bed_objects(b);
-        i = i + 1;
+    for b in beds {
+        sum += bed_objects(b);
     }
     sum
 }
@@ -69,31 +57,19 @@ fn named_by(p: Programme) -> Shares
     ensures { (result ≡ named p) × (result.bed ≤ 255) × (result.isf ≤ 255) × (result.dynamic ≤ 256) }
 {
     if p.dynonly == 1 {
-        let rest = if p.lfe < p.objects {
-            p.objects - p.lfe
-        } else {
-            0
-        };
         return Shares {
             bed: p.lfe as u32,
             isf: 0,
-            dynamic: rest as u32,
+            dynamic: p.objects.saturating_sub(p.lfe) as u32,
         };
     }
     let beds = p.beds;
     let content = p.content as u32;
-    let bed = all_beds(beds);
-    let isf = if oamd::has_isf(content) {
-        oamd::isf_objects(p.isf) as u32
-    } else {
-        0
-    };
-    let dynamic = if oamd::has_dynamic(content) {
-        p.dynamics as u32 + 1
-    } else {
-        0
-    };
-    Shares { bed, isf, dynamic }
+    Shares {
+        bed: all_beds(beds),
+        isf: pick(oamd::has_isf(content), oamd::isf_objects(p.isf) as u32, 0),
+        dynamic: pick(oamd::has_dynamic(content), p.dynamics as u32 + 1, 0),
+    }
 }
 
 // Whether the objects named are the object count, or, with reserved content, no more.
@@ -115,17 +91,9 @@ pub fn shares(p: Programme) -> Shares
     ensures { (result ≡ shares p) × (result.bed ≤ 255) × (result.isf ≤ 255) }
 {
     let n = named_by(p);
-    let others = n.bed + n.isf;
-    let objects = p.objects as u32;
-    let dynamic = if others < objects {
-        objects - others
-    } else {
-        0
-    };
     Shares {
-        bed: n.bed,
-        isf: n.isf,
-        dynamic,
+        dynamic: (p.objects as u32).saturating_sub(n.bed + n.isf),
+        ..n
     }
 }
 

@@ -1,63 +1,48 @@
 // What an object is from a block on: each group's value by its status (Tables 28 and 29).
 ghost use Rattle.std.specs.Prelude.{◌≡◌};
-ghost use Rattle.bits.specs.Language.{pick};
 ghost use Rattle.oamd.specs.Block.{has_gain, has_priority};
-ghost use Rattle.oamd.specs.Meaning.{value_of, gain_of, priority_of, default_location, default_volume, default_zone, default_screen, idle, resolve};
+ghost use Rattle.oamd.specs.Meaning.{value_of, gain_of, priority_of, idle, resolve};
 ghost use Rattle.meaning.specs.Shown.{default_shown, shown_before, shown_of, sent_of, mixed_of};
 
 use crate::Shown;
 use crate::values::{distance_of, gain_of, location_of, priority_of, volume_of};
+use bits::pick;
 use oamd::{Basic, Block, Location, Render, Scene, Screen, Status, Volume, Zone};
 
-fn default_location() -> Location
-    ensures { result ≡ default_location }
-{
-    Location {
-        x: 31,
-        y: 31,
-        z: 64,
-        distance: 0,
-    }
-}
+// The defaults of Table 29; what it does not name is 0.
+const DEFAULT_LOCATION: Location = Location {
+    x: 31,
+    y: 31,
+    z: 64,
+    distance: 0,
+};
 
-fn default_volume() -> Volume
-    ensures { result ≡ default_volume }
-{
-    Volume {
-        width: 0,
-        depth: 0,
-        height: 0,
-    }
-}
+const DEFAULT_VOLUME: Volume = Volume {
+    width: 0,
+    depth: 0,
+    height: 0,
+};
 
-fn default_zone() -> Zone
-    ensures { result ≡ default_zone }
-{
-    Zone {
-        index: 0,
-        elevation: 1,
-    }
-}
+const DEFAULT_ZONE: Zone = Zone {
+    index: 0,
+    elevation: 1,
+};
 
-fn default_screen() -> Screen
-    ensures { result ≡ default_screen }
-{
-    Screen {
-        used: 0,
-        factor: 0,
-        depth: 0,
-    }
-}
+const DEFAULT_SCREEN: Screen = Screen {
+    used: 0,
+    factor: 0,
+    depth: 0,
+};
 
 // What object_render_info gives by default.
 pub fn default_shown() -> Shown
     ensures { result ≡ default_shown }
 {
     Shown {
-        location: default_location(),
-        volume: default_volume(),
-        zone: default_zone(),
-        screen: default_screen(),
+        location: DEFAULT_LOCATION,
+        volume: DEFAULT_VOLUME,
+        zone: DEFAULT_ZONE,
+        screen: DEFAULT_SCREEN,
         snap: 0,
     }
 }
@@ -66,15 +51,11 @@ pub fn default_shown() -> Shown
 pub fn shown_before(before: Scene) -> Shown
     ensures { result ≡ shown_before before }
 {
-    let location = before.location;
-    let volume = before.volume;
-    let zone = before.zone;
-    let screen = before.screen;
     Shown {
-        location,
-        volume,
-        zone,
-        screen,
+        location: before.location,
+        volume: before.volume,
+        zone: before.zone,
+        screen: before.screen,
         snap: before.snap,
     }
 }
@@ -83,97 +64,54 @@ pub fn shown_before(before: Scene) -> Shown
 pub fn idle(class: u8) -> Scene
     ensures { result ≡ idle class }
 {
-    let location = default_location();
-    let volume = default_volume();
-    let zone = default_zone();
-    let screen = default_screen();
     Scene {
         active: 0,
         class,
         gain: 0,
         priority: 0,
-        location,
-        volume,
-        zone,
-        screen,
+        location: DEFAULT_LOCATION,
+        volume: DEFAULT_VOLUME,
+        zone: DEFAULT_ZONE,
+        screen: DEFAULT_SCREEN,
         snap: 0,
     }
 }
 
-// A number whose default is 0.
-fn number_by(status: Status, sent: bool, valuebefore: u8, value: u8) -> u8
-    ensures { result ≡ value_of status sent 0 valuebefore value }
+// A value by its status: the default; as sent; that of the block before; as sent, or else that of the block before.
+fn by_status<T: Copy>(status: Status, sent: bool, default: T, valuebefore: T, value: T) -> T
+    ensures { result ≡ value_of status sent default valuebefore value }
 {
     match status {
-        Status::Default => 0,
+        Status::Default => default,
         Status::Full => value,
         Status::Reuse => valuebefore,
-        Status::Mixed => { if sent { value } else { valuebefore } }
+        Status::Mixed => pick(sent, value, valuebefore),
     }
 }
 
 fn gain_after(valuebefore: u8, gainbefore: u8, b: Basic) -> u8
     ensures { result ≡ value_of b.status (has_gain b.parts) 0 valuebefore (gain_of b.gain gainbefore) }
 {
-    let status = b.status;
-    let coded = b.gain;
-    let value = gain_of(coded, gainbefore);
-    number_by(status, oamd::has_gain(b.parts as u32), valuebefore, value)
+    let sent = oamd::has_gain(b.parts as u32);
+    by_status(b.status, sent, 0, valuebefore, gain_of(b.gain, gainbefore))
 }
 
 fn priority_after(valuebefore: u8, b: Basic) -> u8
     ensures { result ≡ value_of b.status (has_priority b.parts) 0 valuebefore (priority_of b.priority) }
 {
-    let status = b.status;
-    let coded = b.priority;
-    let value = priority_of(coded);
-    number_by(
-        status,
-        oamd::has_priority(b.parts as u32),
-        valuebefore,
-        value,
-    )
-}
-
-// The first, where a test holds, else the second: of each group of object_render_info.
-fn location_if(sent: bool, value: Location, valuebefore: Location) -> Location
-    ensures { result ≡ pick sent value valuebefore }
-{
-    if sent { value } else { valuebefore }
-}
-
-fn volume_if(sent: bool, value: Volume, valuebefore: Volume) -> Volume
-    ensures { result ≡ pick sent value valuebefore }
-{
-    if sent { value } else { valuebefore }
-}
-
-fn zone_if(sent: bool, value: Zone, valuebefore: Zone) -> Zone
-    ensures { result ≡ pick sent value valuebefore }
-{
-    if sent { value } else { valuebefore }
-}
-
-fn screen_if(sent: bool, value: Screen, valuebefore: Screen) -> Screen
-    ensures { result ≡ pick sent value valuebefore }
-{
-    if sent { value } else { valuebefore }
+    let sent = oamd::has_priority(b.parts as u32);
+    by_status(b.status, sent, 0, valuebefore, priority_of(b.priority))
 }
 
 // What is sent, group by group.
 fn sent_shown(locationbefore: Location, n: Render) -> Shown
     ensures { result ≡ sent_of locationbefore n }
 {
-    let position = n.position;
-    let distance = n.distance;
-    let extent = n.extent;
-    let zone = n.zone;
-    let screen = n.screen;
     Shown {
-        location: location_of(position, distance_of(distance), locationbefore),
-        volume: volume_of(extent),
-        zone,
-        screen,
+        location: location_of(n.position, distance_of(n.distance), locationbefore),
+        volume: volume_of(n.extent),
+        zone: n.zone,
+        screen: n.screen,
         snap: n.snap,
     }
 }
@@ -182,19 +120,11 @@ fn sent_shown(locationbefore: Location, n: Render) -> Shown
 pub fn mixed_shown(before: Scene, parts: u32, sent: Shown) -> Shown
     ensures { result ≡ mixed_of before parts sent }
 {
-    let location = before.location;
-    let volume = before.volume;
-    let zone = before.zone;
-    let screen = before.screen;
-    let place = sent.location;
-    let size = sent.volume;
-    let area = sent.zone;
-    let reference = sent.screen;
     Shown {
-        location: location_if(oamd::has_position(parts), place, location),
-        volume: volume_if(oamd::has_size(parts), size, volume),
-        zone: zone_if(oamd::has_zone(parts), area, zone),
-        screen: screen_if(oamd::has_screen(parts), reference, screen),
+        location: pick(oamd::has_position(parts), sent.location, before.location),
+        volume: pick(oamd::has_size(parts), sent.volume, before.volume),
+        zone: pick(oamd::has_zone(parts), sent.zone, before.zone),
+        screen: pick(oamd::has_screen(parts), sent.screen, before.screen),
         snap: sent.snap,
     }
 }
@@ -203,16 +133,11 @@ pub fn mixed_shown(before: Scene, parts: u32, sent: Shown) -> Shown
 fn shown_after(before: Scene, n: Render) -> Shown
     ensures { result ≡ shown_of before n }
 {
-    let status = n.status;
-    let location = before.location;
-    match status {
+    match n.status {
         Status::Default => default_shown(),
-        Status::Full => sent_shown(location, n),
+        Status::Full => sent_shown(before.location, n),
         Status::Reuse => shown_before(before),
-        Status::Mixed => {
-            let sent = sent_shown(location, n);
-            mixed_shown(before, n.parts as u32, sent)
-        }
+        Status::Mixed => mixed_shown(before, n.parts as u32, sent_shown(before.location, n)),
     }
 }
 
@@ -220,22 +145,16 @@ fn shown_after(before: Scene, n: Render) -> Shown
 pub fn resolved(blockbefore: Scene, gainbefore: u8, b: Block) -> Scene
     ensures { result ≡ resolve blockbefore gainbefore b }
 {
-    let basic = b.basic;
-    let render = b.render;
-    let shown = shown_after(blockbefore, render);
-    let location = shown.location;
-    let volume = shown.volume;
-    let zone = shown.zone;
-    let screen = shown.screen;
+    let shown = shown_after(blockbefore, b.render);
     Scene {
         active: b.active,
         class: b.class,
-        gain: gain_after(blockbefore.gain, gainbefore, basic),
-        priority: priority_after(blockbefore.priority, basic),
-        location,
-        volume,
-        zone,
-        screen,
+        gain: gain_after(blockbefore.gain, gainbefore, b.basic),
+        priority: priority_after(blockbefore.priority, b.basic),
+        location: shown.location,
+        volume: shown.volume,
+        zone: shown.zone,
+        screen: shown.screen,
         snap: shown.snap,
     }
 }

@@ -37,18 +37,17 @@ fn start_of(offset: SampleCount, factor: u8) -> SampleCount
     requires { offset.0 ≤ 255 }
     ensures { result.0 ≡ start_of offset.0 factor }
 {
-    let steps = SampleCount::new(32 * factor as u16);
-    offset.plus(steps)
+    offset.plus(SampleCount::new(32 * factor as u16))
 }
 
 // The timing of one block, by the sample offset of the frame.
 pub fn update_of(o: Offset, u: BlockUpdate) -> Update
     ensures { result ≡ update_of (offset_of o) u }
 {
-    let offset = offset_of(o);
-    let start = start_of(offset, u.factor);
-    let ramp = ramp_of(u);
-    Update { start, ramp }
+    Update {
+        start: start_of(offset_of(o), u.factor),
+        ramp: ramp_of(u),
+    }
 }
 
 // The timing of a payload without an object element.

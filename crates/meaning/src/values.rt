@@ -2,7 +2,7 @@
 ghost use Rattle.std.specs.Prelude.{◌≡◌};
 ghost use Rattle.oamd.specs.Meaning.{gain_of, priority_of, moved_by, across, upright, height_of, distance_of, location_of, volume_of};
 
-use bits::{choice, less};
+use bits::pick;
 use oamd::{Distance, Extent, Gain, Location, Position, Priority, Volume};
 
 // 0 dB, as a record has it.
@@ -15,11 +15,9 @@ const ZERO_Z: u32 = 64;
 pub fn gain_of(g: Gain, gainbefore: u8) -> u8
     ensures { result ≡ gain_of g gainbefore }
 {
-    let index = g.index;
-    let bits = g.bits;
-    let fine = less(choice(bits < 15, ZERO_DB + 15, ZERO_DB + 14), bits);
-    let sent = choice(index == 2, fine, gainbefore);
-    choice(index == 0, ZERO_DB, choice(index == 1, 0, sent))
+    let fine = pick(g.bits < 15, ZERO_DB + 15, ZERO_DB + 14).saturating_sub(g.bits);
+    let sent = pick(g.index == 2, fine, gainbefore);
+    pick(g.index == 0, ZERO_DB, pick(g.index == 1, 0, sent))
 }
 
 // The priority in 32nds.
@@ -33,17 +31,14 @@ pub fn priority_of(p: Priority) -> u8
 fn across_of(v: u32) -> u8
     ensures { result ≡ across v }
 {
-    if 62 < v { 62 } else { v as u8 }
+    v.min(62) as u8
 }
 
 // A numerator of z plus 64, between minus 15 and 15.
 fn upright_of(v: u32) -> u8
     ensures { result ≡ upright v }
 {
-    if v < ZERO_Z - 15 {
-        return 49;
-    }
-    if ZERO_Z + 15 < v { 79 } else { v as u8 }
+    v.clamp(ZERO_Z - 15, ZERO_Z + 15) as u8
 }
 
 // A coordinate moved by a difference of 3 bits in two's complement; below 0 it is 0.
@@ -51,21 +46,18 @@ fn moved_by(v: u8, d: u8) -> u32
     ensures { result ≡ moved_by v d }
 {
     let sum = v as u32 + d as u32;
-    if d < 4 {
-        return sum;
-    }
-    if sum < 8 { 0 } else { sum - 8 }
+    pick(d < 4, sum, sum.saturating_sub(8))
 }
 
 // z by its sign, where 0 is minus.
 fn height_of(sign: u8, z: u8) -> u32
     ensures { result ≡ height_of sign z }
 {
-    let n = z as u32;
     if sign != 0 {
-        return ZERO_Z + n;
+        ZERO_Z + z as u32
+    } else {
+        ZERO_Z.saturating_sub(z as u32)
     }
-    if ZERO_Z < n { 0 } else { ZERO_Z - n }
 }
 
 // 0 not given, 1 infinity, else by the index.
@@ -105,11 +97,11 @@ pub fn location_of(p: Position, distance: u8, locationbefore: Location) -> Locat
 pub fn volume_of(e: Extent) -> Volume
     ensures { result ≡ volume_of e }
 {
-    let all = choice(e.index == 1, e.all, 0);
+    let all = pick(e.index == 1, e.all, 0);
     let each = e.index == 2;
     Volume {
-        width: choice(each, e.width, all),
-        depth: choice(each, e.depth, all),
-        height: choice(each, e.height, all),
+        width: pick(each, e.width, all),
+        depth: pick(each, e.depth, all),
+        height: pick(each, e.height, all),
     }
 }

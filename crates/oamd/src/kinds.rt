@@ -3,13 +3,13 @@ ghost use Rattle.std.specs.Prelude.{◌≡◌};
 ghost use Rattle.oamd.specs.Element.{kind};
 
 use crate::Kind;
-use bits::both;
 
 // Known are the object element (id 1) with no alternate id or with alternate id 0, the trim element (id 2) and the extended object element (id 5).
 pub fn kind_of(id: u32, alternate: u32) -> Kind
     ensures { result ≡ kind id alternate }
 {
-    if both(id == 1, alternate != 0) {
+    let other_data = (id == 1) & (alternate != 0);
+    if other_data {
         return Kind::Unknown;
     }
     match id {

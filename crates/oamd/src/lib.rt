@@ -24,7 +24,7 @@ pub use tables::{bed_labels, distance_code, isf_objects, ramp_code, ramp_duratio
 
 // One bed of the program assignment, as carried (5.5.3).
 #[repr(C)]
-#[derive(Clone, Copy)]
+#[derive(Clone, Copy, PartialEq, Eq)]
 pub struct Bed {
     pub assignment: u32,
     pub lfeonly: u8,
@@ -33,7 +33,7 @@ pub struct Bed {
 
 // The programme: the object count, and each field of the program assignment as carried; what is not carried is 0 (5.5.3).
 #[repr(C)]
-#[derive(Clone, Copy)]
+#[derive(Clone, Copy, PartialEq, Eq)]
 pub struct Programme {
     pub objects: u8,
     pub dynonly: u8,
@@ -58,7 +58,7 @@ pub struct Shares {
 
 // When an update starts, and how long it takes to take hold.
 #[repr(C)]
-#[derive(Clone, Copy)]
+#[derive(Clone, Copy, PartialEq, Eq)]
 pub struct Update {
     pub start: SampleCount,
     pub ramp: SampleCount,
@@ -66,7 +66,7 @@ pub struct Update {
 
 // The timing of each block; entries past the last block are 0.
 #[repr(C)]
-#[derive(Clone, Copy)]
+#[derive(Clone, Copy, PartialEq, Eq)]
 pub struct Timing {
     pub blocks: u8,
     pub updates: [Update; MOST_BLOCKS],

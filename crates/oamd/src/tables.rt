@@ -25,41 +25,35 @@ const RAMP_DURATIONS: [u16; 16] = [
 pub fn isf_objects(i: u8) -> u8
     ensures { result ≡ get_or isf_objects i 0 }
 {
-    let k = i as usize;
-    if k < 6 { ISF_OBJECTS[k] } else { 0 }
+    ISF_OBJECTS.get(i as usize).copied().unwrap_or(0)
 }
 
 pub fn bed_labels(i: u32) -> u8
     ensures { (result ≡ get_or bed_labels i 0) × (result ≤ 2) }
 {
-    let k = i as usize;
-    if k < 10 { BED_LABELS[k] } else { 0 }
+    BED_LABELS.get(i as usize).copied().unwrap_or(0)
 }
 
 pub fn distance_code(i: u8) -> u8
     ensures { result ≡ get_or distance_codes i 0 }
 {
-    let k = i as usize;
-    if k < 16 { DISTANCE_CODES[k] } else { 0 }
+    DISTANCE_CODES.get(i as usize).copied().unwrap_or(0)
 }
 
 pub fn sample_offset(i: u8) -> u8
     ensures { result ≡ get_or sample_offsets i 0 }
 {
-    let k = i as usize;
-    if k < 4 { SAMPLE_OFFSETS[k] } else { 0 }
+    SAMPLE_OFFSETS.get(i as usize).copied().unwrap_or(0)
 }
 
 pub fn ramp_code(i: u8) -> u16
     ensures { result ≡ get_or ramp_codes i 0 }
 {
-    let k = i as usize;
-    if k < 3 { RAMP_CODES[k] } else { 0 }
+    RAMP_CODES.get(i as usize).copied().unwrap_or(0)
 }
 
 pub fn ramp_duration(i: u8) -> u16
     ensures { result ≡ get_or ramp_durations i 0 }
 {
-    let k = i as usize;
-    if k < 16 { RAMP_DURATIONS[k] } else { 0 }
+    RAMP_DURATIONS.get(i as usize).copied().unwrap_or(0)
 }

@@ -6,35 +6,36 @@ ghost use Rattle.std.specs.Prelude.{◌≤◌, length, IfOk};
 use std::io;
 use std::io::{Print, Read};
 
+// The room for a payload that is read: one byte more than a payload may have, so that a longer one is told.
+pub const ROOM: usize = 4097;
+
 // Reads until the buffer is full or the input ends: how many bytes were read.
 pub fn read_full<R: Read>(input: &mut R, buffer: &mut [u8]) -> io::Result<usize>
     ensures { IfOk result (λ n. n ≤ length buffer.new) }
 {
     let mut done: usize = 0;
     while done < buffer.len() {
-        let n = input.read(&mut buffer[done..])?;
-        if n == 0 {
-            break;
+        match input.read(&mut buffer[done..])? {
+            0 => break,
+            n => done += n,
         }
-        done = done + n;
     }
     Ok(done)
 }
 
 // The first n bytes of a text.
 pub fn show<P: Print>(out: &P, text: &[u8], n: usize) -> io::Result<()> {
-    if n <= text.len() {
-        return out.write_all(&text[0..n]);
+    match text.get(..n) {
+        Some(first) => out.write_all(first),
+        None => Ok(()),
     }
-    Ok(())
 }
 
 // The listing of a payload; there is room for every one.
 pub fn list<P: Print>(out: &P, payload: &[u8]) -> io::Result<()> {
     let mut page = [0u8; 100000];
     let a = text::list_text(payload, &mut page);
-    let length = a.length;
-    show(out, &page, length.raw() as usize)
+    show(out, &page, a.length.raw() as usize)
 }
 
 // A line of a key and a number.

@@ -15,6 +15,7 @@ use Rattle.bits.specs.declared.Cur.{Cur}
 use Rattle.bits.specs.declared.Limit.{Limit}
 use Rattle.bits.specs.declared.Refusal.TheVariants.{Second, Early}
 use Rattle.bits.specs.declared.Size.{Size}
+use Rattle.bits.specs.declared.Step.{Step}
 use Rattle.bits.specs.Language.{pick, Bits, bits, bits_if, refuse_if}
 use Rattle.bits.specs.Refusals.{number_of}
 use Rattle.bits.specs.Size.{variable_bits_max}
@@ -24,6 +25,7 @@ use Rattle.bits.proofs.Sticky.{Left, start, step, done, broken, bind, plain, fra
 use Rattle.oamd.specs.declared.Kind.{Kind}
 use Rattle.oamd.specs.declared.Kind.TheVariants.{Unknown, Object, Trim, Extended}
 use Rattle.oamd.specs.declared.Programme.{Programme}
+use Rattle.oamd.specs.declared.Timing.{Timing}
 use Rattle.oamd.specs.Tables.{most_objects, most_blocks}
 use Rattle.oamd.specs.Programme.{set?}
 use Rattle.oamd.specs.Record.{plain_records, bytes_of, onto}
@@ -33,8 +35,6 @@ use Rattle.oamd.specs.Element.{fields, pass_over, read_known, oa_element, oa_ele
 use Rattle.oamd.specs.Payload.{timing, records}
 use Rattle.reader.specs.declared.Scope.{Scope}
 use Rattle.reader.specs.declared.State.{State}
-use Rattle.reader.specs.declared.StateStep.{StateStep}
-use Rattle.reader.specs.declared.TimingStep.{TimingStep}
 use Rattle.reader.specs.Layout.{no_trim_bytes}
 use Rattle.reader.specs.Steps.{Buffers, lent, nothing_read, object_seen, trim_seen, extended_seen, unknown_seen, seen, too_early, Holding, Underway, state_of, Scoped}
 use Rattle.reader.specs.Steps.{Sized, ElementRead, TrimRead, ExtendedRead, FieldsRead, KnownRead, BodyRead, OneRead, ElementsRead}
@@ -65,7 +65,7 @@ told-early Extended h = ap not h.records.object-told
 
 module _ {scope : Scope} {st : State} {b : Bits} {c : Cur} {l : Limit} {out table : List ℕ} (asked : Underway 1 scope st (lent out table)) where
   -- nothing
-  pub unknown-fields : FieldsRead Unknown scope st b c l (lent out table) (record { state = st; cur = c }) (lent out table)
+  pub unknown-fields : FieldsRead Unknown scope st b c l (lent out table) (record { value = st; cur = c }) (lent out table)
   unfolding fields
   unknown-fields = record {
     sized = asked.ready.sized;
@@ -74,8 +74,8 @@ module _ {scope : Scope} {st : State} {b : Bits} {c : Cur} {l : Limit} {out tabl
     went = λ q known t sc first timely h. record { known = known; reads = plain; holding = λ z. h };
   }
 
-  pub object-fields : {r : TimingStep} {out' : List ℕ} → ElementRead scope.objects scope.shares b c l out r out'
-      → FieldsRead Object scope st b c l (lent out table) (record { state = object_seen r.timing st; cur = r.cur }) (lent out' table)
+  pub object-fields : {r : Step Timing} {out' : List ℕ} → ElementRead scope.objects scope.shares b c l out r out'
+      → FieldsRead Object scope st b c l (lent out table) (record { value = object_seen r.value st; cur = r.cur }) (lent out' table)
   unfolding fields scenes timing records bytes_of plain_records onto
   object-fields e = record {
     sized = record { out = still-roomy asked.ready.sized.out e.size; table = asked.ready.sized.table };
@@ -104,7 +104,7 @@ module _ {scope : Scope} {st : State} {b : Bits} {c : Cur} {l : Limit} {out tabl
   }
 
   pub trim-fields : {cur : Cur} {table' : List ℕ} → TrimRead scope.objects b c l table cur table'
-      → FieldsRead Trim scope st b c l (lent out table) (record { state = trim_seen st; cur = cur }) (lent out table')
+      → FieldsRead Trim scope st b c l (lent out table) (record { value = trim_seen st; cur = cur }) (lent out table')
   unfolding fields trim_of
   trim-fields e = record {
     sized = record { out = asked.ready.sized.out; table = e.size };
@@ -121,7 +121,7 @@ module _ {scope : Scope} {st : State} {b : Bits} {c : Cur} {l : Limit} {out tabl
   }
 
   pub extended-fields : {cur : Cur} {out' : List ℕ} → ExtendedRead (scope.objects * st.timing.blocks) b c l out cur out'
-      → FieldsRead Extended scope st b c l (lent out table) (record { state = extended_seen st; cur = cur }) (lent out' table)
+      → FieldsRead Extended scope st b c l (lent out table) (record { value = extended_seen st; cur = cur }) (lent out' table)
   unfolding fields records
   extended-fields e = record {
     sized = record { out = still-roomy asked.ready.sized.out e.size; table = asked.ready.sized.table };
@@ -154,7 +154,7 @@ module _ {scope : Scope} {st : State} {b : Bits} {c : Cur} {l : Limit} {out tabl
 module _ {scope : Scope} {st : State} (back : ℕ) {b : Bits} {c first timely : Cur} {l : Limit} {held : Buffers} {x y : ℕ} (k : Kind) (asked : Underway 1 scope st held)
     (g : Reads (refuse_if (seen k st) (number_of Second) back x) b c l x first) (d : Reads (refuse_if (too_early k st) (number_of Early) back y) b first l y timely) where
   -- refused: a second one of its kind, one too early, or one behind a refusal
-  pub known-refused : (timely.no ≡ 0 → ⊥) → KnownRead k back scope st b c l held (record { state = st; cur = timely }) held
+  pub known-refused : (timely.no ≡ 0 → ⊥) → KnownRead k back scope st b c l held (record { value = st; cur = timely }) held
   unfolding read_known
   known-refused z = record {
     sized = asked.ready.sized;
@@ -171,7 +171,7 @@ module _ {scope : Scope} {st : State} (back : ℕ) {b : Bits} {c first timely : 
   }
 
   -- not refused: its fields
-  pub known_read : {r : StateStep} {held' : Buffers} → timely.no ≡ 0 → FieldsRead k scope st b timely l held r held' → KnownRead k back scope st b c l held r held'
+  pub known_read : {r : Step State} {held' : Buffers} → timely.no ≡ 0 → FieldsRead k scope st b timely l held r held' → KnownRead k back scope st b c l held r held'
   unfolding read_known
   known_read z e = record {
     sized = e.sized;
@@ -194,7 +194,7 @@ module _ {scope : Scope} {st : State} (back : ℕ) {b : Bits} {c first timely : 
 
 -- an unknown element is counted
 pub passed : {scope : Scope} {st : State} (back : ℕ) {b : Bits} {c : Cur} {l : Limit} {held : Buffers} → Underway 1 scope st held
-    → BodyRead Unknown back scope st b c l held (record { state = unknown_seen st; cur = c }) held
+    → BodyRead Unknown back scope st b c l held (record { value = unknown_seen st; cur = c }) held
 unfolding oa_element pass_over
 passed {st = st} back asked = record {
   sized = asked.ready.sized;
@@ -208,7 +208,7 @@ passed {st = st} back asked = record {
 }
 
 -- any other is a known one
-pub as-known : {scope : Scope} {st : State} (back : ℕ) {b : Bits} {c : Cur} {l : Limit} {held held' : Buffers} {r : StateStep} (k : Kind) → (k ≡ Unknown → ⊥)
+pub as-known : {scope : Scope} {st : State} (back : ℕ) {b : Bits} {c : Cur} {l : Limit} {held held' : Buffers} {r : Step State} (k : Kind) → (k ≡ Unknown → ⊥)
     → KnownRead k back scope st b c l held r held' → BodyRead k back scope st b c l held r held'
 unfolding oa_element
 as-known back Unknown h e = absurd (h refl)
@@ -222,10 +222,10 @@ as-known back Extended h e = e
 unrefused : (c d : Cur) {o : Cur} → o ≡ pick (eqb c.no 0) d c → o.no ≡ 0 → c.no ≡ 0
 unrefused c d e z = by_zero c.no (λ y. y) (λ y. ap (λ (o : Cur). o.no) (sym (rw (ne_eqb c.no 0 y) at e)) ∙ z)
 
-pub framed-read : {scope : Scope} {st : State} {b : Bits} {c c₁ c₂ o c₃ c₄ d : Cur} {l i : Limit} {held held' : Buffers} {id other flag back n : ℕ} {z : Size} {k : Kind} {r : StateStep}
+pub framed-read : {scope : Scope} {st : State} {b : Bits} {c c₁ c₂ o c₃ c₄ d : Cur} {l i : Limit} {held held' : Buffers} {id other flag back n : ℕ} {z : Size} {k : Kind} {r : Step State}
     → Reads (bits 4) b c l id c₁ → Reads variable_bits_max b c₁ l z c₂ → n ≡ z.value + 1 → o ≡ open_at l c₂ (8 * n) (size_length z) → i ≡ inner_of l c₂ (8 * n)
     → Reads (bits_if (set? scope.alternate) 4) b o i other c₃ → Reads (bits 1) b c₃ i flag c₄ → k ≡ kind id other → back ≡ back_to_id scope.alternate z
-    → BodyRead k back scope st b c₄ i held r held' → d ≡ close_at r.cur i → OneRead scope st b c l held (record { state = r.state; cur = d }) held'
+    → BodyRead k back scope st b c₄ i held r held' → d ≡ close_at r.cur i → OneRead scope st b c l held (record { value = r.value; cur = d }) held'
 unfolding oa_element_md framed open_at close_at
 framed-read {c₂ = c₂} {r = r} r₁ r₂ hn ho hi r₃ r₄ hk hb body hd = record {
   sized = body.sized;
@@ -287,8 +287,8 @@ module _ {n : ℕ} {scope : Scope} {st₀ : State} {b : Bits} {c : Cur} {l : Lim
   }
 
   module _ {i : ℕ} {st : State} {cur : Cur} {held : Buffers} (x : Ongoing n scope st₀ b c l held₀ i st cur held) where
-    pub further : {r : StateStep} {held' : Buffers} → i < n → length held'.out ≡ length held.out → OneRead scope st b cur l held r held'
-        → Ongoing n scope st₀ b c l held₀ (i + 1) r.state r.cur held'
+    pub further : {r : Step State} {held' : Buffers} → i < n → length held'.out ≡ length held.out → OneRead scope st b cur l held r held'
+        → Ongoing n scope st₀ b c l held₀ (i + 1) r.value r.cur held'
     unfolding elements
     further h e one = record {
       within = omega arith;
@@ -304,7 +304,7 @@ module _ {n : ℕ} {scope : Scope} {st₀ : State} {b : Bits} {c : Cur} {l : Lim
     }
 
     -- none is left, or one was refused
-    pub ended : (n ≤ i) ⊎ (cur.no ≡ 0 → ⊥) → ElementsRead n scope st₀ b c l held₀ (record { state = st; cur = cur }) held
+    pub ended : (n ≤ i) ⊎ (cur.no ≡ 0 → ⊥) → ElementsRead n scope st₀ b c l held₀ (record { value = st; cur = cur }) held
     unfolding elements
     ended h = record {
       sized = x.sized;

@@ -70,46 +70,40 @@ bytes_there done left r t from e h =
 
 module _ (count frame : ℕ) (timing : Timing) (scratch out₀ : List ℕ) where
   -- before record i
-  pub record Going (from at blk i : ℕ) (out : List ℕ) : Type 0 where
+  pub record Going (blk i : ℕ) (out : List ℕ) : Type 0 where
     pub within : i ≤ count
-    pub taken : from ≡ record_bytes * i
-    pub place : at ≡ record_stride * i
     pub block : 0 < timing.blocks → blk ≡ i % timing.blocks
     pub same : length out ≡ length out₀
     pub stands : (rs : List Record) (t : List ℕ) → length rs ≡ count → scratch ≡ onto (bytes_of rs) t → Laid-so-far (time_of frame timing) i rs out₀ out
 
 module _ {count frame : ℕ} {timing : Timing} {scratch out₀ : List ℕ} where
-  pub set_out : Going count frame timing scratch out₀ 0 0 0 0 out₀
+  pub set_out : Going count frame timing scratch out₀ 0 0 out₀
   unfolding timed_bytes_of onto
   set_out = record {
     within = omega arith;
-    taken = omega arith;
-    place = omega arith;
     block = λ some. sym (zero-mod timing.blocks);
     same = refl;
     stands = λ rs t long stand. record { done = []; left = rs; all = refl; far = refl; stand = sym (from_first out₀) };
   }
 
   -- its block is one of the timing
-  pub block_there : {from at blk i : ℕ} {out : List ℕ} → Going count frame timing scratch out₀ from at blk i out → i < count → count ≤ most_objects * timing.blocks
+  pub block_there : {blk i : ℕ} {out : List ℕ} → Going count frame timing scratch out₀ blk i out → i < count → count ≤ most_objects * timing.blocks
       → blk < timing.blocks
   block_there {i = i} x h few = let some : 0 < timing.blocks = omega arith in omega (arith, x.block some, mod-lt i some)
 
-  pub go_on_lem : {from at blk i next time : ℕ} {out out₁ out₂ : List ℕ} → Going count frame timing scratch out₀ from at blk i out → i < count → count ≤ most_objects * timing.blocks
+  pub go_on_lem : {blk i next time : ℕ} {out out₁ out₂ : List ℕ} → Going count frame timing scratch out₀ blk i out → i < count → count ≤ most_objects * timing.blocks
       → record_bytes * count ≤ length scratch → record_stride * count ≤ length out₀
-      → out₁ ≡ set_from at 0 (bytes_at scratch record_bytes from) out → time ≡ frame * frame_samples + (get_or timing.updates blk no_update).start.0 → out₂ ≡ set_from at record_bytes (time_bytes_of time) out₁
-      → next ≡ pick (ltb (blk + 1) timing.blocks) (blk + 1) 0 → Going count frame timing scratch out₀ (from + record_bytes) (at + record_stride) next (i + 1) out₂
+      → out₁ ≡ set_from (record_stride * i) 0 (bytes_at scratch record_bytes (record_bytes * i)) out → time ≡ frame * frame_samples + (get_or timing.updates blk no_update).start.0 → out₂ ≡ set_from (record_stride * i) record_bytes (time_bytes_of time) out₁
+      → next ≡ pick (ltb (blk + 1) timing.blocks) (blk + 1) 0 → Going count frame timing scratch out₀ next (i + 1) out₂
   unfolding block_time
-  go_on_lem {from} {at} {blk} {i} {next} {time} {out} {out₁} {out₂} x h few room fits first e second n =
+  go_on_lem {blk} {i} {next} {time} {out} {out₁} {out₂} x h few room fits first e second n =
       let some : 0 < timing.blocks = omega arith in
       let b = x.block some in
       record {
         within = omega arith;
-        taken = omega (arith, x.taken);
-        place = omega (arith, x.place);
         block = λ z. n ∙ next-block i timing.blocks blk some b ∙ ap (λ (k : ℕ). k % timing.blocks) (let s : suc i ≡ i + 1 = omega arith in s);
-        same = ap length second ∙ length-set_from at record_bytes (time_bytes_of time) out₁ ∙ ap length first
-            ∙ length-set_from at 0 (bytes_at scratch record_bytes from) out ∙ x.same;
+        same = ap length second ∙ length-set_from (record_stride * i) record_bytes (time_bytes_of time) out₁ ∙ ap length first
+            ∙ length-set_from (record_stride * i) 0 (bytes_at scratch record_bytes (record_bytes * i)) out ∙ x.same;
         stands = λ rs t long stand. more rs t stand (x.stands rs t long stand) long b _ refl;
       }
     where
@@ -119,24 +113,26 @@ module _ {count frame : ℕ} {timing : Timing} {scratch out₀ : List ℕ} where
           let z : length rs ≡ i = ap length (y.all ∙ ap (λ (l : List Record). y.done ++ l) none ∙ append-nil y.done) ∙ y.far in
           absurd (omega arith)
       more rs t stand y long b (r ∷ left) some =
+          let from : ℕ = record_bytes * i in
+          let at : ℕ = record_stride * i in
           let f : ℕ → ℕ = time_of frame timing in
           let front : List ℕ = timed_bytes_of f 0 y.done in
           let whole : rs ≡ y.done ++ (r ∷ left) = y.all ∙ ap (λ (l : List Record). y.done ++ l) some in
           let stood : scratch ≡ onto (bytes_of (y.done ++ (r ∷ left))) t = stand ∙ ap (λ (l : List Record). onto (bytes_of l) t) whole in
           let there : bytes_at scratch record_bytes from ≡ record_bytes_of r =
           ap (λ (l : List ℕ). bytes_at l record_bytes from) stood
-          ∙ bytes_there y.done left r t from (omega (arith, x.taken, y.far)) (omega (arith, ap length (sym stood), x.taken)) in
+          ∙ bytes_there y.done left r t from (omega (arith, y.far)) (omega (arith, ap length (sym stood))) in
           let when : time ≡ f (0 + length y.done) =
           e ∙ ap (block_time frame timing) (b ∙ ap (λ (k : ℕ). k % timing.blocks) (let s : i ≡ 0 + length y.done = omega (arith, y.far) in s)) in
           let far : length front ≡ record_stride * i = length-timed f 0 y.done ∙ ap (λ (k : ℕ). record_stride * k) y.far in
           let bytes : List ℕ = record_bytes_of r in
           let one : out₁ ≡ onto (front ++ bytes) out₀ =
           first ∙ ap₂ (λ (xs o : List ℕ). set_from at 0 xs o) there y.stand
-          ∙ seam bytes front out₀ at 0 (omega (arith, far, x.place)) (omega (arith, x.place, length_record r)) in
+          ∙ seam bytes front out₀ at 0 (omega (arith, far)) (omega (arith, length_record r)) in
           let two : out₂ ≡ onto ((front ++ bytes) ++ time_bytes_of time) out₀ =
           second ∙ ap (set_from at record_bytes (time_bytes_of time)) one
-          ∙ seam (time_bytes_of time) (front ++ bytes) out₀ at record_bytes (omega (arith, far, x.place, length_record r, length-append front bytes))
-          (omega (arith, x.place, length-time time)) in
+          ∙ seam (time_bytes_of time) (front ++ bytes) out₀ at record_bytes (omega (arith, far, length_record r, length-append front bytes))
+          (omega (arith, length-time time)) in
           record {
             done = y.done ++ (r ∷ []);
             left = left;
@@ -146,7 +142,7 @@ module _ {count frame : ℕ} {timing : Timing} {scratch out₀ : List ℕ} where
                 (append_assoc front bytes (time_bytes_of time) ∙ ap (λ (k : ℕ). front ++ (bytes ++ time_bytes_of k)) when ∙ sym (timed_more f 0 y.done r));
           }
 
-  pub arrive : {from at blk i : ℕ} {out : List ℕ} → Going count frame timing scratch out₀ from at blk i out → count ≤ i → Lent count frame timing scratch out₀ out
+  pub arrive : {blk i : ℕ} {out : List ℕ} → Going count frame timing scratch out₀ blk i out → count ≤ i → Lent count frame timing scratch out₀ out
   arrive {i = i} x h = record {
     same = x.same;
     front = λ rs t long stand.

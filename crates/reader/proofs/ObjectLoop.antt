@@ -109,9 +109,8 @@ pub record Stands (k : ℕ) (ss : List Scene) (t : List ℕ) (vs : List Block) (
 
 module _ (class k at₀ : ℕ) (b : Bits) (l : Limit) (c : Cur) (out₀ : List ℕ) where
   -- before block i of an object
-  pub record Inside (i at : ℕ) (scene : Scene) (cur : Cur) (out : List ℕ) : Type 0 where
+  pub record Inside (i : ℕ) (scene : Scene) (cur : Cur) (out : List ℕ) : Type 0 where
     pub within : i ≤ k
-    pub place : at ≡ at₀ + record_bytes * i
     pub vs : List Block
     pub many : length vs ≡ i
     pub size : length out ≡ length out₀
@@ -119,11 +118,10 @@ module _ (class k at₀ : ℕ) (b : Bits) (l : Limit) (c : Cur) (out₀ : List �
     pub stands : cur.no ≡ 0 → (ss : List Scene) (t : List ℕ) → Standing ss t out₀ → at₀ ≡ record_bytes * length ss → length t ≡ length out₀
         → Stands k ss t vs scene out
 
-pub enter : (class k at₀ : ℕ) (b : Bits) (l : Limit) (c : Cur) (out₀ : List ℕ) → Inside class k at₀ b l c out₀ 0 at₀ nothing_before c out₀
+pub enter : (class k at₀ : ℕ) (b : Bits) (l : Limit) (c : Cur) (out₀ : List ℕ) → Inside class k at₀ b l c out₀ 0 nothing_before c out₀
 unfolding object_data
 enter class k at₀ b l c out₀ = record {
   within = omega arith;
-  place = omega arith;
   vs = [];
   many = refl;
   size = refl;
@@ -131,24 +129,24 @@ enter class k at₀ b l c out₀ = record {
   stands = λ z ss t s e n. record { us = ss; stand = s; more = omega arith; rest = λ bs. refl };
 }
 
-module _ {class k at₀ : ℕ} {b : Bits} {l : Limit} {c : Cur} {out₀ : List ℕ} {i at : ℕ} {scene : Scene} {cur : Cur} {out : List ℕ} where
-  pub turn : {next : Scene} {cur' : Cur} (above : ℕ) → Inside class k at₀ b l c out₀ i at scene cur out → i < k → at + record_bytes ≤ length out
-      → above ≡ pick (leb (record_bytes * k) at) (scene_at out (at - record_bytes * k)).gain zero_db → Reads (resolved_block class i scene above) b cur l next cur'
-      → Inside class k at₀ b l c out₀ (i + 1) (at + record_bytes) next cur' (set_from at 0 (record_bytes_of (record_of next no_divergence no_precise)) out)
+module _ {class k at₀ : ℕ} {b : Bits} {l : Limit} {c : Cur} {out₀ : List ℕ} {i : ℕ} {scene : Scene} {cur : Cur} {out : List ℕ} where
+  pub turn : {next : Scene} {cur' : Cur} (above : ℕ) → Inside class k at₀ b l c out₀ i scene cur out → i < k → at₀ + record_bytes * i + record_bytes ≤ length out
+      → above ≡ pick (leb (record_bytes * k) (at₀ + record_bytes * i)) (scene_at out ((at₀ + record_bytes * i) - record_bytes * k)).gain zero_db → Reads (resolved_block class i scene above) b cur l next cur'
+      → Inside class k at₀ b l c out₀ (i + 1) next cur' (set_from (at₀ + record_bytes * i) 0 (record_bytes_of (record_of next no_divergence no_precise)) out)
   unfolding with_blocks
   turn {next} above x h fits a read =
+      let at : ℕ = at₀ + record_bytes * i in
       let q = coded read in
       let v = q.block in
       record {
         within = omega arith;
-        place = omega (arith, x.place);
         vs = x.vs ++ (v ∷ []);
         many = length-append x.vs (v ∷ []) ∙ omega (arith, x.many);
         size = length-set_from at 0 (record_bytes_of (record_of next no_divergence no_precise)) out ∙ x.size;
         left = for_step k (object_info_block class) (λ vs. give vs) i x.vs h x.left q.reads;
         stands = λ z ss t s e n.
             let y = x.stands (unique.begun q.reads z) ss t s e n in
-            let m : at ≡ record_bytes * length y.us = omega (arith, x.place, x.many, y.more) in
+            let m : at ≡ record_bytes * length y.us = omega (arith, x.many, y.more) in
             let g : above ≡ gain_of_object_before k y.us =
             a ∙ ap (λ (o : List ℕ). pick (leb (record_bytes * k) at) (scene_at o (at - record_bytes * k)).gain zero_db) y.stand ∙ gain-before y.us t k at (omega arith) m in
             let r : next ≡ resolve scene (gain_of_object_before k y.us) v = q.means z ∙ ap (λ (u : ℕ). resolve scene u v) g in
@@ -161,7 +159,7 @@ module _ {class k at₀ : ℕ} {b : Bits} {l : Limit} {c : Cur} {out₀ : List �
             };
       }
 
-  pub leave : Inside class k at₀ b l c out₀ i at scene cur out → k ≤ i → ObjectRead class k at₀ b c l out₀ cur out
+  pub leave : Inside class k at₀ b l c out₀ i scene cur out → k ≤ i → ObjectRead class k at₀ b c l out₀ cur out
   unfolding with_blocks
   leave x h = record {
     value = x.vs;

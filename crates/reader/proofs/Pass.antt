@@ -6,6 +6,7 @@ use mathlib.Core.List.{List, [], ◌∷◌, ◌++◌, append_assoc, append-nil}
 use Prim.Native.Nat.{ℕ, suc, ◌+◌, ◌*◌, ◌≤◌, ◌<◌}
 use native.Mathlib.Omega.{arith}
 use lib.ListN.{length, drop, replicate, length-append, drop_of_length-le, length-replicate}
+use borrow.Author.Tests.{eq-eqb, ne_eqb}
 use Rattle.bits.specs.declared.Cur.{Cur}
 use Rattle.bits.specs.declared.Limit.{Limit}
 use Rattle.bits.specs.Language.{Bits, P, give, ◌>>=◌, each, bits, when, run, ok}
@@ -93,11 +94,12 @@ module _ {X : Type 0} (p : Bool → P X) (f : Record → X → Record) where
 
     module _ {i : ℕ} {cur : Cur} {out : List ℕ} where
       -- where a record's bytes, with a value put in, are its bytes with some stored over
-      pub turn : {cur' : Cur} (at k : ℕ) (carry : Bool) (bytes : X → List ℕ) (v : X) → Mid i cur out → cur.no ≡ 0 → i < length rs → at ≡ record_bytes * i
+      pub turn : {cur' : Cur} (k : ℕ) (carry : Bool) (bytes : X → List ℕ) (v : X) → Mid i cur out → cur.no ≡ 0 → i < length rs
           → ((r : Record) (x : X) (tail : List ℕ) → set_from 0 k (bytes x) (record_bytes_of r ++ tail) ≡ record_bytes_of (f r x) ++ tail)
-          → carry ≡ carries (scene_at out at)
-          → Reads (p carry) b cur l v cur' → Mid (i + 1) cur' (set_from at k (bytes v) out)
-      turn at k carry bytes v x z h e lays q r =
+          → carry ≡ carries (scene_at out (record_bytes * i))
+          → Reads (p carry) b cur l v cur' → Mid (i + 1) cur' (set_from (record_bytes * i) k (bytes v) out)
+      turn k carry bytes v x z h lays q r =
+          let at : ℕ = record_bytes * i in
           let y = next rs x.vs (omega (arith, x.many)) in
           let o : out ≡ onto (bytes_of (y.front ++ (y.one ∷ y.rest))) t = x.stand (x.begun z) ∙ ap (λ (z : List Record). onto (bytes_of z) t) y.stands in
           let at_front : at ≡ length (bytes_of y.front) = omega (arith, length-bytes y.front, y.far, x.many) in
@@ -132,14 +134,14 @@ module _ {X : Type 0} (p : Bool → P X) (f : Record → X → Record) where
       stop x h = record { value = x.vs; reads = broken x.left h; stand = λ z. absurd (h z) }
 
   -- where a flag says whether there is anything to read
-  pub taken : {on : Bool} {none : X} {n : ℕ} {b : Bits} {c d : Cur} {l : Limit} {out out' : List ℕ} → on ≡ true
-      → Passed p f n b c l out d out' → PassedIf on p f none n b c l out d out'
-  taken e x = rw e (record { size = x.size; went = λ rs t s m z. x.went rs t s m })
+  pub taken : {v : ℕ} {none : X} {n : ℕ} {b : Bits} {c d : Cur} {l : Limit} {out out' : List ℕ} → v ≡ 1
+      → Passed p f n b c l out d out' → PassedIf (set? v) p f none n b c l out d out'
+  taken {v} e x = rw (eq-eqb v 1 e) (record { size = x.size; went = λ rs t s m z. x.went rs t s m })
 
-  pub passed : {on : Bool} {none : X} {n : ℕ} {b : Bits} {c : Cur} {l : Limit} {out : List ℕ} → on ≡ false
-      → PassedIf on p f none n b c l out c out
-  passed {none = none} {n} e =
-      rw e (record {
+  pub passed : {v : ℕ} {none : X} {n : ℕ} {b : Bits} {c : Cur} {l : Limit} {out : List ℕ} → (v ≡ 1 → ⊥)
+      → PassedIf (set? v) p f none n b c l out c out
+  passed {v} {none} {n} e =
+      rw (ne_eqb v 1 e) (record {
         size = refl;
         went = λ rs t s m z. record { value = replicate n none; reads = plain; stand = λ q. s q ∙ ap (λ (y : List Record). onto (bytes_of y) t) (sym z) };
       })
@@ -147,25 +149,23 @@ module _ {X : Type 0} (p : Bool → P X) (f : Record → X → Record) where
 -- ---- the loop of a pass over n records, whatever records they are
 
 module _ {X : Type 0} (p : Bool → P X) (f : Record → X → Record) (n : ℕ) (b : Bits) (c : Cur) (l : Limit) (out₀ : List ℕ) where
-  pub record Passing (i at : ℕ) (cur : Cur) (out : List ℕ) : Type 0 where
+  pub record Passing (i : ℕ) (cur : Cur) (out : List ℕ) : Type 0 where
     pub within : i ≤ n
-    pub place : at ≡ record_bytes * i
     pub size : length out ≡ length out₀
     pub mid : (rs : List Record) (t : List ℕ) → (c.no ≡ 0 → out₀ ≡ onto (bytes_of rs) t) → length rs ≡ n → Mid p f rs b c l t i cur out
 
-  pub set_out : Passing 0 0 c out₀
-  set_out = record { within = omega arith; place = refl; size = refl; mid = λ rs t s m. begin p f rs b c l t s }
+  pub set_out : Passing 0 c out₀
+  set_out = record { within = omega arith; size = refl; mid = λ rs t s m. begin p f rs b c l t s }
 
-  module _ {i at : ℕ} {cur : Cur} {out : List ℕ} (x : Passing i at cur out) where
+  module _ {i : ℕ} {cur : Cur} {out : List ℕ} (x : Passing i cur out) where
     pub go_on_lem : {cur' : Cur} (k : ℕ) (carry : Bool) (bytes : X → List ℕ) (v : X) → cur.no ≡ 0 → i < n
         → ((r : Record) (y : X) (tail : List ℕ) → set_from 0 k (bytes y) (record_bytes_of r ++ tail) ≡ record_bytes_of (f r y) ++ tail)
-        → carry ≡ carries (scene_at out at) → Reads (p carry) b cur l v cur'
-        → Passing (i + 1) (at + record_bytes) cur' (set_from at k (bytes v) out)
+        → carry ≡ carries (scene_at out (record_bytes * i)) → Reads (p carry) b cur l v cur'
+        → Passing (i + 1) cur' (set_from (record_bytes * i) k (bytes v) out)
     go_on_lem k carry bytes v z h lays q r = record {
       within = omega arith;
-      place = omega (arith, x.place);
-      size = length-set_from at k (bytes v) out ∙ x.size;
-      mid = λ rs t s m. turn p f rs b c l t at k carry bytes v (x.mid rs t s m) z (omega arith) x.place lays q r;
+      size = length-set_from (record_bytes * i) k (bytes v) out ∙ x.size;
+      mid = λ rs t s m. turn p f rs b c l t k carry bytes v (x.mid rs t s m) z (omega arith) lays q r;
     }
 
     pub give-up : (cur.no ≡ 0 → ⊥) → Passed p f n b c l out₀ cur out

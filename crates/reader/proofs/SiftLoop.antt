@@ -9,10 +9,11 @@ use native.Mathlib.Nat.{sub-zero}
 use lib.Dec.{eqb}
 use lib.ListN.{length, set, replicate, length-append}
 use borrow.Author.Tests.{le-leb, lt-leb, eq-eqb, ne_eqb}
-use Rattle.units.specs.declared.BitPos.{BitPos}
+use Rattle.std.specs.Prelude.{Option, Some, None, Ok, Err}
 use Rattle.bits.specs.declared.Cur.{Cur}
 use Rattle.bits.specs.declared.Limit.{Limit}
 use Rattle.bits.specs.declared.Refusal.TheVariants.{TooLong}
+use Rattle.bits.specs.declared.Step.{Step}
 use Rattle.bits.specs.Language.{Res, ok, no, pick, Bits, bits, bit, slice, number, P, run, and_then, past_payload}
 use Rattle.bits.specs.Refusals.{number_of}
 use Rattle.bits.specs.Steps.{no_ok, value, bind_ok, field_ok}
@@ -27,24 +28,15 @@ use Rattle.oamd.specs.Element as element
 use Rattle.oamd.specs.Element.{Known, nothing, framed, frame}
 use Rattle.oamd.specs.Payload.{oa_element_count, header}
 use Rattle.oamd.specs.Sift.{Sifting, stopped, dropping, behind, gone_at, sift, Sieve, sieve}
-use Rattle.oamd.specs.Answer.{missing_of}
-use Rattle.reader.specs.declared.HeaderStep.{HeaderStep}
+use Rattle.reader.specs.declared.Header.{Header}
 use Rattle.reader.specs.declared.Scope.{Scope}
 use Rattle.reader.specs.declared.State.{State}
-use Rattle.reader.specs.declared.StateStep.{StateStep}
 use Rattle.reader.specs.declared.Turn.{Turn}
 use Rattle.reader.specs.Layout.{no_trim_bytes}
-use Rattle.reader.specs.Sifts.{no_gone, filled, unsifted, sifted_by, sifted_from, sifted}
+use Rattle.reader.specs.Sifts.{no_gone, filled, unsifted, refusal_of, sifted_by, sifted_from, sifted}
 use Rattle.reader.specs.Steps.{Buffers, lent, nothing_read, Sized, Holding, state_of, OneRead, Headed, scope_of, whole_of}
-use Rattle.reader.specs.Turns.{unless_refused, prepend, drops_of, Turning, Refused, Dropped, Turned, TurnRead, Counted}
+use Rattle.reader.specs.Turns.{unless_refused, prepend, drops_of, Turning, RefusedAt, Dropped, Turned, TurnRead, Counted}
 use Rattle.reader.proofs.ElementLoop.{nothing-held}
-
--- ---- an answer in which nothing stands
-
-pub bare : {number place missing : ℕ} {head body : BitPos} {gone : List Gone} → gone ≡ replicate most_elements no_gone → head.0 ≡ 0 → body.0 ≡ 0
-    → record { place = place; missing = missing; refusal = number; head = head; count = 0; body = body; drops = 0; gone = gone } ≡ unsifted number place missing
-bare {number} {place} {missing} g e f i =
-    record { place = place; missing = missing; refusal = number; head = record { 0 = e i }; count = 0; body = record { 0 = f i }; drops = 0; gone = g i }
 
 -- ---- an element that is refused
 
@@ -64,17 +56,17 @@ id-read alternate b at e d {v = v} h x =
     go true q = value q
     go false q = absurd (no_ok (sym q))
 
-module _ {alternate : ℕ} {st : State} {b : Bits} {c d : Cur} {l : Limit} (asked : Refused l c d) where
+module _ {alternate : ℕ} {st : State} {b : Bits} {c d : Cur} {l : Limit} (asked : RefusedAt l c d) where
   -- it passes the payload's end
-  pub ends-pass : {gone : Gone} → d.no ≡ past_payload → Dropped alternate st b c l d (record { state = st; cur = d; dropped = true; gone = gone })
-  ends-pass e = record { told = refl; state = refl; same = λ k. rw (eq-eqb _ _ e, ne_eqb d.no 0 asked.told) }
+  pub ends-pass : d.no ≡ past_payload → Dropped alternate st b c l d (record { state = st; cur = d; gone = None })
+  ends-pass e = record { state = refl; same = λ k. rw (eq-eqb _ _ e, ne_eqb d.no 0 asked.told) }
 
   -- it is refused for anything else
   pub goes : {f : Frame} {v : ℕ} {id cur : Cur} → (d.no ≡ past_payload → ⊥) → Reads (bits 4) b c l v id → Reads (frame alternate) b c l f cur
       → Dropped alternate st b c l d
-      (record { state = st; cur = cur; dropped = true; gone = record { from = c.at; to = cur.at; place = d.at; id = v; refusal = d.no } })
+      (record { state = st; cur = cur; gone = Some (record { from = c.at; to = cur.at; place = d.at; id = v; refusal = d.no }) })
   goes {f} {v} {id} {cur} h x y =
-      record { told = refl; state = refl; same = λ k. rw (ne_eqb d.no past_payload h) (go k (eqb cur.no 0) (told asked.clean asked.whole y)) }
+      record { state = refl; same = λ k. rw (ne_eqb d.no past_payload h) (go k (eqb cur.no 0) (told asked.clean asked.whole y)) }
     where
       go : (k : ℕ → Sifting) (t : Bool)
           → run (frame alternate) b c.at.0 l.end.0 past_payload ≡ pick t (ok f cur.at.0) (no cur.no cur.at.0 cur.missing)
@@ -86,10 +78,9 @@ module _ {alternate : ℕ} {st : State} {b : Bits} {c d : Cur} {l : Limit} (aske
 
 -- ---- an element
 
-module _ {scope : Scope} {st : State} {b : Bits} {c : Cur} {l : Limit} {held held' : Buffers} {step : StateStep} (asked : Turning l c scope st held)
+module _ {scope : Scope} {st : State} {b : Bits} {c : Cur} {l : Limit} {held held' : Buffers} {step : Step State} (asked : Turning l c scope st held)
     (read : OneRead scope st b c l held step held') where
-  pub kept-turn : {gone : Gone} → step.cur.no ≡ 0
-      → TurnRead scope st b c l held (record { state = step.state; cur = step.cur; dropped = false; gone = gone }) held'
+  pub kept-turn : step.cur.no ≡ 0 → TurnRead scope st b c l held (record { state = step.value; cur = step.cur; gone = None }) held'
   unfolding sift
   kept-turn z = record {
     sized = read.sized;
@@ -112,7 +103,7 @@ module _ {scope : Scope} {st : State} {b : Bits} {c : Cur} {l : Limit} {held hel
         let e = told asked.clean asked.whole u.reads in
         record {
           then = known;
-          same = λ n. rw (rw (ne_eqb step.cur.no 0 z) at e, x.told, x.state)
+          same = λ n. rw (rw (ne_eqb step.cur.no 0 z) at e, x.state)
               (x.same (λ to. sift q scope.alternate n (state_of known st.unknown) b to l.end.0));
           holding = rw x.state h;
         };
@@ -123,24 +114,28 @@ module _ {scope : Scope} {st : State} {b : Bits} {c : Cur} {l : Limit} {held hel
 unless-clean : (d : Cur) (x : Sifting) → d.no ≡ 0 → unless_refused d x ≡ x
 unless-clean d x z = rw z
 
+none-left : {A : Type 0} (o : Option A) → ((a : A) → o ≡ Some a → ⊥) → o ≡ None
+none-left None h = refl
+none-left (Some a) h = absurd (h a refl)
+
 -- what the loop makes of an element: it is stored where it is dropped
 abbrev pub Stored : Turn → List Gone → ℕ → List Gone → ℕ → Type 0
 Stored r gone drops gone' drops' =
-    ((r.dropped ≡ true) × (gone' ≡ set gone drops r.gone) × (drops' ≡ drops + 1)) ⊎ ((r.dropped ≡ false) × (gone' ≡ gone) × (drops' ≡ drops))
+    ((one : Gone) × (r.gone ≡ Some one) × (gone' ≡ set gone drops one) × (drops' ≡ drops + 1)) ⊎ (((one : Gone) → r.gone ≡ Some one → ⊥) × (gone' ≡ gone) × (drops' ≡ drops))
 
 -- the elements behind a header, before the one at a bit, where st has been read
-abbrev rest : List ℕ → HeaderStep → ℕ → element.State → ℕ → Sifting
-rest s h n st at = sift h.programme h.alternate n st (bit s) at (8 * length s)
+abbrev rest : List ℕ → Step Header → ℕ → element.State → ℕ → Sifting
+rest s h n st at = sift h.value.programme h.value.alternate n st (bit s) at (8 * length s)
 
 -- all of them
-abbrev all : List ℕ → HeaderStep → Cur → Sifting
+abbrev all : List ℕ → Step Header → Cur → Sifting
 all s h count = rest s h count.v (state_of nothing 0) count.at.0
 
-module _ (s : List ℕ) (h : HeaderStep) (count : Cur) (t : List ℕ) where
+module _ (s : List ℕ) (h : Step Header) (count : Cur) (t : List ℕ) where
   -- before element i: list is dropped of those before it
   pub record Passing (i : ℕ) (st : State) (gone : List Gone) (drops : ℕ) (cur : Cur) (held : Buffers) : Type 0 where
     pub within : i ≤ count.v
-    pub sized : Sized h.programme.objects held
+    pub sized : Sized h.value.programme.objects held
     pub blocks : st.timing.blocks ≤ most_blocks
     pub unknown : st.unknown ≤ i
     pub clean : cur.no ≡ 0
@@ -149,10 +144,10 @@ module _ (s : List ℕ) (h : HeaderStep) (count : Cur) (t : List ℕ) where
     pub few : drops ≤ i
     pub holds : gone ≡ filled list
     pub known : Known
-    pub holding : Holding h.programme.objects known t st held
+    pub holding : Holding h.value.programme.objects known t st held
     pub same : all s h count ≡ prepend list (rest s h (count.v - i) (state_of known st.unknown) cur.at.0)
 
-module _ {s : List ℕ} {l : Limit} {h : HeaderStep} {count : Cur} (asked : Counted s l h count) where
+module _ {s : List ℕ} {l : Limit} {h : Step Header} {count : Cur} (asked : Counted s l h count) where
   pub pass_start : {st : State} {gone : List Gone} {t table : List ℕ} → st ≡ nothing_read → gone ≡ replicate most_elements no_gone → length t ≡ scratch_bytes
       → table ≡ no_trim_bytes → length table ≡ most_trim → Passing s h count t 0 st gone 0 count (lent t table)
   pass_start e g room empty size =
@@ -167,12 +162,12 @@ module _ {s : List ℕ} {l : Limit} {h : HeaderStep} {count : Cur} (asked : Coun
         few = omega arith;
         holds = refl;
         known = nothing;
-        holding = nothing-held h.programme.objects asked.headed.head.few empty;
+        holding = nothing-held h.value.programme.objects asked.headed.head.few empty;
         same = rw (sub-zero count.v);
       })
 
   module _ {t : List ℕ} {i : ℕ} {st : State} {gone : List Gone} {drops : ℕ} {cur : Cur} {held : Buffers} (x : Passing s h count t i st gone drops cur held) where
-    module _ (less : i < count.v) {scope : Scope} (es : scope ≡ scope_of h) where
+    module _ (less : i < count.v) {scope : Scope} (es : scope ≡ scope_of h.value) where
       pub pass-asks : Turning l cur scope st held
       pass-asks = rw (es, asked.whole) (record {
         whole = refl;
@@ -185,11 +180,11 @@ module _ {s : List ℕ} {l : Limit} {h : HeaderStep} {count : Cur} (asked : Coun
       })
 
       module _ {r : Turn} {held' : Buffers} (read : TurnRead scope st (bit s) cur l held r held') where
-        turn : TurnRead (scope_of h) st (bit s) cur (whole_of s) held r held'
+        turn : TurnRead (scope_of h.value) st (bit s) cur (whole_of s) held r held'
         turn = rw (es, asked.whole) at read
 
-        turned : Turned (scope_of h) h.programme x.known st (bit s) cur (whole_of s) t r held'
-        turned = turn.went h.programme x.known t (refl, refl) x.holding
+        turned : Turned (scope_of h.value) h.value.programme x.known st (bit s) cur (whole_of s) t r held'
+        turned = turn.went h.value.programme x.known t (refl, refl) x.holding
 
         goes_on : all s h count
             ≡ prepend x.list (unless_refused r.cur (prepend (drops_of r)
@@ -220,13 +215,13 @@ module _ {s : List ℕ} {l : Limit} {h : HeaderStep} {count : Cur} (asked : Coun
         }
           where
             stands : Stored r gone drops gone' drops' → (drops' ≡ length (x.list ++ drops_of r)) × (drops' ≤ i + 1) × (gone' ≡ filled (x.list ++ drops_of r))
-            stands (inl (e, g, n)) =
+            stands (inl (one, e, g, n)) =
                 rw e (
                   simp length-append (omega (arith, n, x.long)),
                   omega (arith, n, x.few),
-                  g ∙ rw x.holds (filled_next most_elements no_gone x.list r.gone drops (sym x.long) (omega (arith, x.few, asked.counts.small))),
+                  g ∙ rw x.holds (filled_next most_elements no_gone x.list one drops (sym x.long) (omega (arith, x.few, asked.counts.small))),
                 )
-            stands (inr (e, g, n)) = rw (e, append-nil x.list) (n ∙ x.long, omega (arith, n, x.few), g ∙ x.holds)
+            stands (inr (e, g, n)) = rw (none-left r.gone e, append-nil x.list) (n ∙ x.long, omega (arith, n, x.few), g ∙ x.holds)
 
     -- none is left
     pass-ends : i ≡ count.v → all s h count ≡ record { gone = x.list; last = ok (state_of x.known st.unknown) cur.at.0 }
@@ -237,7 +232,7 @@ module _ {s : List ℕ} {l : Limit} {h : HeaderStep} {count : Cur} (asked : Coun
 
   abbrev sieved : Sieve
   sieved = record {
-    header = record { programme = h.programme; alternate = h.alternate };
+    header = record { programme = h.value.programme; alternate = h.value.alternate };
     head = h.cur.at.0;
     count = count.v;
     body = count.at.0;
@@ -252,22 +247,22 @@ module _ {s : List ℕ} {l : Limit} {h : HeaderStep} {count : Cur} (asked : Coun
       rw (le-leb (length s) most_bytes asked.headed.short, ran asked.headed.head.reads (begun counts asked.clean), ran counts asked.clean)
 
   -- a refusal ended the pass
-  pub refused_there : {r pl m : ℕ} → (all s h count).last ≡ no r pl m → unsifted r pl (missing_of r m) ≡ sifted s
+  pub refused_there : {r pl m : ℕ} → (all s h count).last ≡ no r pl m → Err (refusal_of r pl m) ≡ sifted s
   refused_there e = sym (sifted-by ∙ ap (sifted_by sieved) e)
 
   -- all elements have been looked at
   pub sifted_there : {t : List ℕ} {st : State} {gone : List Gone} {drops : ℕ} {cur : Cur} {held : Buffers} {i : ℕ} → Passing s h count t i st gone drops cur held → i ≡ count.v
-      → record { place = 0; missing = 0; refusal = 0; head = h.cur.at; count = count.v; body = count.at; drops = drops; gone = gone } ≡ sifted s
+      → Ok (record { head = h.cur.at; count = count.v; body = count.at; drops = drops; gone = gone }) ≡ sifted s
   sifted_there x e = rw (x.long, x.holds) (sym (sifted-by ∙ rw (pass-ends x e)))
 
 -- ---- refused before the elements
 
-pub too_long : (s : List ℕ) → most_bytes < length s → unsifted (number_of TooLong) (length s) 0 ≡ sifted s
+pub too_long : (s : List ℕ) → most_bytes < length s → Err (unsifted (number_of TooLong) (length s) 0) ≡ sifted s
 unfolding sifted
 too_long s h = rw (lt-leb (length s) most_bytes h)
 
-pub uncounted : {s : List ℕ} {l : Limit} {h : HeaderStep} {n : ℕ} {count : Cur} → Headed s h → l ≡ whole_of s → Reads oa_element_count (bit s) h.cur l n count
-    → (count.no ≡ 0 → ⊥) → unsifted count.no count.at.0 (missing_of count.no count.missing) ≡ sifted s
+pub uncounted : {s : List ℕ} {l : Limit} {h : Step Header} {n : ℕ} {count : Cur} → Headed s h → l ≡ whole_of s → Reads oa_element_count (bit s) h.cur l n count
+    → (count.no ≡ 0 → ⊥) → Err (refusal_of count.no count.at.0 count.missing) ≡ sifted s
 unfolding sifted sieve run
 uncounted {s} {count = count} opened el r z =
     let both = bind {k = λ h. oa_element_count} opened.head.reads (rw el at r) in

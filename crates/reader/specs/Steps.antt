@@ -4,6 +4,7 @@ use Rattle.std.proofs.Math.Option.{Option, none}
 use Rattle.bits.specs.declared.Cur.{Cur}
 use Rattle.bits.specs.declared.Limit.{Limit}
 use Rattle.bits.specs.declared.Refusal.TheVariants.{Room}
+use Rattle.bits.specs.declared.Step.{Step}
 use Rattle.bits.specs.Refusals.{number_of}
 use Rattle.bits.specs.Language.{P, Bits, bits, when, each, for, bit}
 use Rattle.bits.specs.View.{Reads}
@@ -28,25 +29,23 @@ use Rattle.oamd.specs.Record.{Record, record_of, carries, all_carry, plain_recor
 use Rattle.oamd.specs.Element.{head_length, Known, there, scenes, is_second, is_early, fields, read_known, oa_element, oa_element_md, elements}
 use Rattle.oamd.specs.Payload.{header, object_audio_metadata_payload, timing, no_timing, records}
 use Rattle.oamd.specs.Answer.{refused_with}
-use Rattle.reader.specs.declared.TimingStep.{TimingStep}
+use Rattle.reader.specs.declared.Header.{Header}
+use Rattle.reader.specs.declared.Parsed.{Parsed}
 use Rattle.reader.specs.declared.Scope.{Scope}
 use Rattle.reader.specs.declared.State.{State}
-use Rattle.reader.specs.declared.StateStep.{StateStep}
-use Rattle.reader.specs.declared.HeaderStep.{HeaderStep}
-use Rattle.reader.specs.declared.PayloadStep.{PayloadStep}
 use Rattle.reader.specs.Layout.{no_trim_bytes}
 use Rattle.reader.specs.Rooms.{ElementRoom}
 use Rattle.reader.specs.Running.{with_blocks}
 
 -- ---- the object element
 
-pub record TimingRead (b : Bits) (c : Cur) (l : Limit) (r : TimingStep) : Type 0 where
+pub record TimingRead (b : Bits) (c : Cur) (l : Limit) (r : Step Timing) : Type 0 where
   pub value : MdUpdateInfo
   pub reads : Reads md_update_info b c l value r.cur
-  pub holds : r.timing ≡ timing_of value
-  pub counts : r.timing.blocks ≡ length value.blocks
-  pub some : 1 ≤ r.timing.blocks
-  pub few : r.timing.blocks ≤ most_blocks
+  pub holds : r.value ≡ timing_of value
+  pub counts : r.value.blocks ≡ length value.blocks
+  pub some : 1 ≤ r.value.blocks
+  pub few : r.value.blocks ≤ most_blocks
 
 -- the records of scenes stand at the front of the bytes t
 abbrev pub Standing : List Scene → List ℕ → List ℕ → Type 0
@@ -68,13 +67,13 @@ pub record ObjectsRead (n : ℕ) (s : Shares) (blocks : ℕ) (b : Bits) (c : Cur
   pub many : d.no ≡ 0 → length (all_scenes [] value) ≡ n * blocks
   pub stand : d.no ≡ 0 → Standing (all_scenes [] value) out out'
 
-pub record ElementRead (n : ℕ) (s : Shares) (b : Bits) (c : Cur) (l : Limit) (out : List ℕ) (r : TimingStep) (out' : List ℕ) : Type 0 where
+pub record ElementRead (n : ℕ) (s : Shares) (b : Bits) (c : Cur) (l : Limit) (out : List ℕ) (r : Step Timing) (out' : List ℕ) : Type 0 where
   pub value : ObjectElement
   pub reads : Reads (object_element n s) b c l value r.cur
-  pub holds : r.timing ≡ timing_of value.timing
-  pub few : r.timing.blocks ≤ most_blocks
+  pub holds : r.value ≡ timing_of value.timing
+  pub few : r.value.blocks ≤ most_blocks
   pub size : length out' ≡ length out
-  pub many : r.cur.no ≡ 0 → length (all_scenes [] value.objects) ≡ n * r.timing.blocks
+  pub many : r.cur.no ≡ 0 → length (all_scenes [] value.objects) ≡ n * r.value.blocks
   pub stand : r.cur.no ≡ 0 → Standing (all_scenes [] value.objects) out out'
 
 -- ---- the extended element
@@ -103,12 +102,12 @@ pub record Went {X : Type 0} (p : P (List X)) (f : Record → X → Record) (rs 
   pub reads : Reads p b c l value d
   pub stand : d.no ≡ 0 → out' ≡ onto (bytes_of (put f rs value)) t
 
+-- what a function promises that passes over n records, whatever records they are
 pub record Passed {X : Type 0} (p : Bool → P X) (f : Record → X → Record) (n : ℕ) (b : Bits) (c : Cur) (l : Limit) (out : List ℕ) (d : Cur) (out' : List ℕ) : Type 0 where
   pub size : length out' ≡ length out
   pub went : (rs : List Record) (t : List ℕ) → (c.no ≡ 0 → out ≡ onto (bytes_of rs) t) → length rs ≡ n
       → Went (each p (carriers rs)) f rs b c l t d out'
 
--- what a function promises that passes over n records, whatever records they are
 -- the same where a flag says that there is anything to read; else each value is none
 pub record PassedIf {X : Type 0} (on : Bool) (p : Bool → P X) (f : Record → X → Record) (none : X) (n : ℕ) (b : Bits) (c : Cur) (l : Limit) (out : List ℕ) (d : Cur) (out' : List ℕ) : Type 0 where
   pub size : length out' ≡ length out
@@ -244,48 +243,48 @@ abbrev pub Scoped : Programme → Scope → Type 0
 Scoped p scope = (p.objects ≡ scope.objects) × (shares p ≡ scope.shares)
 
 -- what reading the fields of a known element gives
-pub record Fielded (scope : Scope) (p : P Known) (b : Bits) (c : Cur) (l : Limit) (t : List ℕ) (r : StateStep) (held' : Buffers) : Type 0 where
+pub record Fielded (scope : Scope) (p : P Known) (b : Bits) (c : Cur) (l : Limit) (t : List ℕ) (r : Step State) (held' : Buffers) : Type 0 where
   pub known : Known
   pub reads : Reads p b c l known r.cur
-  pub holding : r.cur.no ≡ 0 → Holding scope.objects known t r.state held'
+  pub holding : r.cur.no ≡ 0 → Holding scope.objects known t r.value held'
 
 -- what a function promises that reads them, whatever has been read so far, where an element of this kind may come
-pub record FieldsRead (k : Kind) (scope : Scope) (st : State) (b : Bits) (c : Cur) (l : Limit) (held : Buffers) (r : StateStep) (held' : Buffers) : Type 0 where
+pub record FieldsRead (k : Kind) (scope : Scope) (st : State) (b : Bits) (c : Cur) (l : Limit) (held : Buffers) (r : Step State) (held' : Buffers) : Type 0 where
   pub sized : Sized scope.objects held'
-  pub few : r.state.timing.blocks ≤ most_blocks
-  pub same : r.state.unknown ≡ st.unknown
+  pub few : r.value.timing.blocks ≤ most_blocks
+  pub same : r.value.unknown ≡ st.unknown
   pub went : (q : Programme) (known : Known) (t : List ℕ) → Scoped q scope → is_second k known ≡ false → is_early k known ≡ false
       → Holding scope.objects known t st held → Fielded scope (fields q k known) b c l t r held'
 
 -- what reading p from a state gives
-pub record Went-on (scope : Scope) (p : P Rattle.oamd.specs.Element.State) (b : Bits) (c : Cur) (l : Limit) (t : List ℕ) (r : StateStep) (held' : Buffers) : Type 0 where
+pub record Went-on (scope : Scope) (p : P Rattle.oamd.specs.Element.State) (b : Bits) (c : Cur) (l : Limit) (t : List ℕ) (r : Step State) (held' : Buffers) : Type 0 where
   pub known : Known
-  pub reads : Reads p b c l (state_of known r.state.unknown) r.cur
-  pub holding : r.cur.no ≡ 0 → Holding scope.objects known t r.state held'
+  pub reads : Reads p b c l (state_of known r.value.unknown) r.cur
+  pub holding : r.cur.no ≡ 0 → Holding scope.objects known t r.value held'
 
 -- what reads a state from a state
 abbrev pub Onward : Type 1
 Onward = Programme → Rattle.oamd.specs.Element.State → P Rattle.oamd.specs.Element.State
 
 -- what a function promises that reads p, which are n elements, from a state, whatever has been read so far
-pub record Goes_on (n : ℕ) (scope : Scope) (st : State) (p : Onward) (b : Bits) (c : Cur) (l : Limit) (held : Buffers) (r : StateStep) (held' : Buffers) : Type 0 where
+pub record Goes_on (n : ℕ) (scope : Scope) (st : State) (p : Onward) (b : Bits) (c : Cur) (l : Limit) (held : Buffers) (r : Step State) (held' : Buffers) : Type 0 where
   pub sized : Sized scope.objects held'
-  pub few : r.state.timing.blocks ≤ most_blocks
-  pub next : r.state.unknown ≤ st.unknown + n
+  pub few : r.value.timing.blocks ≤ most_blocks
+  pub next : r.value.unknown ≤ st.unknown + n
   pub went : (q : Programme) (known : Known) (t : List ℕ) → Scoped q scope → (c.no ≡ 0 → Holding scope.objects known t st held)
       → Went-on scope (p q (state_of known st.unknown)) b c l t r held'
 
 -- a known element, an element of any kind, an element with its frame, and n of them
-abbrev pub KnownRead : Kind → ℕ → Scope → State → Bits → Cur → Limit → Buffers → StateStep → Buffers → Type 0
+abbrev pub KnownRead : Kind → ℕ → Scope → State → Bits → Cur → Limit → Buffers → Step State → Buffers → Type 0
 KnownRead k back scope st b c l held r held' = Goes_on 1 scope st (λ q s. read_known q back s k) b c l held r held'
 
-abbrev pub BodyRead : Kind → ℕ → Scope → State → Bits → Cur → Limit → Buffers → StateStep → Buffers → Type 0
+abbrev pub BodyRead : Kind → ℕ → Scope → State → Bits → Cur → Limit → Buffers → Step State → Buffers → Type 0
 BodyRead k back scope st b c l held r held' = Goes_on 1 scope st (λ q s. oa_element q back s k) b c l held r held'
 
-abbrev pub OneRead : Scope → State → Bits → Cur → Limit → Buffers → StateStep → Buffers → Type 0
+abbrev pub OneRead : Scope → State → Bits → Cur → Limit → Buffers → Step State → Buffers → Type 0
 OneRead scope st b c l held r held' = Goes_on 1 scope st (λ q s. oa_element_md q scope.alternate s) b c l held r held'
 
-abbrev pub ElementsRead : ℕ → Scope → State → Bits → Cur → Limit → Buffers → StateStep → Buffers → Type 0
+abbrev pub ElementsRead : ℕ → Scope → State → Bits → Cur → Limit → Buffers → Step State → Buffers → Type 0
 ElementsRead n scope st b c l held r held' = Goes_on n scope st (λ q s. elements q scope.alternate n s) b c l held r held'
 
 -- ---- the payload
@@ -296,36 +295,36 @@ whole_of s = record { end = record { 0 = 8 * length s }; inner = false }
 abbrev pub start_cur : Cur
 start_cur = record { missing = 0; v = 0; at = record { 0 = 0 }; no = 0 }
 
-pub record HeaderRead (b : Bits) (c : Cur) (l : Limit) (r : HeaderStep) : Type 0 where
-  pub reads : Reads header b c l (record { programme = r.programme; alternate = r.alternate }) r.cur
-  pub few : r.programme.objects ≤ most_objects
-  pub bit : r.alternate < 2
+pub record HeaderRead (b : Bits) (c : Cur) (l : Limit) (r : Step Header) : Type 0 where
+  pub reads : Reads header b c l (record { programme = r.value.programme; alternate = r.value.alternate }) r.cur
+  pub few : r.value.programme.objects ≤ most_objects
+  pub bit : r.value.alternate < 2
 
 -- a payload that is not too long, of which the header has been read
-pub record Headed (s : List ℕ) (h : HeaderStep) : Type 0 where
+pub record Headed (s : List ℕ) (h : Step Header) : Type 0 where
   pub short : length s ≤ most_bytes
   pub head : HeaderRead (bit s) start_cur (whole_of s) h
 
 -- what the elements behind it are read by
-abbrev pub scope_of : HeaderStep → Scope
+abbrev pub scope_of : Header → Scope
 scope_of h = record { objects = h.programme.objects; shares = shares h.programme; alternate = h.alternate }
 
 -- what is asked of it and of the buffers
-pub record Opening (s : List ℕ) (h : HeaderStep) (held : Buffers) : Type 0 where
+pub record Opening (s : List ℕ) (h : Step Header) (held : Buffers) : Type 0 where
   pub headed : Headed s h
-  pub sized : Sized h.programme.objects held
+  pub sized : Sized h.value.programme.objects held
   pub empty : held.table ≡ no_trim_bytes
 
-pub record PayloadRead (s out : List ℕ) (r : PayloadStep) (held' : Buffers) : Type 0 where
+pub record PayloadRead (s out : List ℕ) (r : Step Parsed) (held' : Buffers) : Type 0 where
   pub short : length s ≤ most_bytes
   pub known : Known
   pub reads : Reads object_audio_metadata_payload (bit s) start_cur (whole_of s)
-      (record { programme = r.programme; known = known; unknown = r.state.unknown }) r.cur
+      (record { programme = r.value.programme; known = known; unknown = r.value.state.unknown }) r.cur
   pub clean : r.cur.no ≡ 0 → r.cur.missing ≡ 0
-  pub holding : r.cur.no ≡ 0 → Holding r.programme.objects known out r.state held'
-  pub sized : Sized r.programme.objects held'
-  pub few : r.programme.objects ≤ most_objects
-  pub little : r.state.timing.blocks ≤ most_blocks
+  pub holding : r.cur.no ≡ 0 → Holding r.value.programme.objects known out r.value.state held'
+  pub sized : Sized r.value.programme.objects held'
+  pub few : r.value.programme.objects ≤ most_objects
+  pub little : r.value.state.timing.blocks ≤ most_blocks
 
 -- ---- the answers
 

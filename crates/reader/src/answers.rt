@@ -11,13 +11,10 @@ use oamd::{Bed, MOST_BEDS, Programme, ReadAnswer, Timing};
 pub fn missing_bits(refusal: u8, missing: u64) -> u32
     ensures { result ≡ missing_of refusal missing }
 {
-    if refusal != bits::number(Refusal::EndsEarly) {
+    if refusal != Refusal::EndsEarly.number() {
         return 0;
     }
-    if 4294967295 < missing {
-        return 4294967295;
-    }
-    missing as u32
+    u32::try_from(missing).unwrap_or(u32::MAX)
 }
 
 // A refusal, at its place, with the bits that were missing there: all else is 0.
@@ -42,13 +39,12 @@ pub fn refused(refusal: u8, place: u64, missing: u32) -> ReadAnswer
         dynamics: 0,
         beds: [bed; MOST_BEDS],
     };
-    let timing = meaning::no_timing();
     ReadAnswer {
         place,
         refusal,
         unknown: 0,
         programme,
-        timing,
+        timing: meaning::no_timing(),
         missing,
     }
 }
@@ -57,7 +53,7 @@ pub fn refused(refusal: u8, place: u64, missing: u32) -> ReadAnswer
 pub fn refused_with(refusal: Refusal, place: u64) -> ReadAnswer
     ensures { result ≡ refused_with (number_of refusal) place 0 }
 {
-    refused(bits::number(refusal), place, 0)
+    refused(refusal.number(), place, 0)
 }
 
 // Refusal 9, with the bytes that are needed: both lent buffers stay as they came.

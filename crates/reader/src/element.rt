@@ -6,8 +6,8 @@ ghost use Rattle.reader.specs.Steps.{lent, nothing_read, seen, too_early, HeadLe
 use crate::extended::read_extended;
 use crate::objects::read_object_element;
 use crate::trim::read_trim;
-use crate::{Scope, State, StateStep};
-use bits::{Cur, Limit, Refusal};
+use crate::{Scope, State};
+use bits::{Cur, Limit, Refusal, Step};
 use oamd::{Kind, MOST_TRIM};
 use units::ByteCount;
 
@@ -47,33 +47,33 @@ fn read_fields(
     kind: Kind,
     out: &mut [u8],
     table: &mut [u8; MOST_TRIM],
-) -> StateStep
+) -> Step<State>
     requires { Underway 1 scope st (lent out.old table.old) }
     ensures { FieldsRead kind scope st (bit s.now) c l (lent out.old table.old) result (lent out.new table.new) }
 {
     match kind {
-        Kind::Unknown => StateStep { state: st, cur: c },
+        Kind::Unknown => Step { value: st, cur: c },
         Kind::Object => {
             let step = read_object_element(s, l, c, scope, out);
-            let timing = step.timing;
-            let cur = step.cur;
             let mut state = st;
-            state.timing = timing;
+            state.timing = step.value;
             state.object = true;
-            StateStep { state, cur }
+            Step {
+                value: state,
+                cur: step.cur,
+            }
         }
         Kind::Trim => {
             let cur = read_trim(s, l, c, scope.objects, table);
             let mut state = st;
             state.trim = true;
-            StateStep { state, cur }
+            Step { value: state, cur }
         }
         Kind::Extended => {
-            let timing = st.timing;
-            let cur = read_extended(s, l, c, scope.objects * timing.blocks as usize, out);
+            let cur = read_extended(s, l, c, scope.objects * st.timing.blocks as usize, out);
             let mut state = st;
             state.extended = true;
-            StateStep { state, cur }
+            Step { value: state, cur }
         }
     }
 }
@@ -91,15 +91,15 @@ fn read_known(
     back: u32,
     out: &mut [u8],
     table: &mut [u8; MOST_TRIM],
-) -> StateStep
+) -> Step<State>
     requires { Underway 1 scope st (lent out.old table.old) }
     ensures { KnownRead kind back scope st (bit s.now) c l (lent out.old table.old) result (lent out.new table.new) }
 {
     let first = bits::refuse_if(is_second(kind, st), s, l, c, Refusal::Second, back);
     let timely = bits::refuse_if(is_early(kind, st), s, l, first, Refusal::Early, back);
     if timely.no != 0 {
-        return StateStep {
-            state: st,
+        return Step {
+            value: st,
             cur: timely,
         };
     }
@@ -117,14 +117,17 @@ fn read_body(
     back: u32,
     out: &mut [u8],
     table: &mut [u8; MOST_TRIM],
-) -> StateStep
+) -> Step<State>
     requires { Underway 1 scope st (lent out.old table.old) }
     ensures { BodyRead kind back scope st (bit s.now) c l (lent out.old table.old) result (lent out.new table.new) }
 {
     if let Kind::Unknown = kind {
         let mut state = st;
-        state.unknown = st.unknown + 1;
-        return StateStep { state, cur: c };
+        state.unknown += 1;
+        return Step {
+            value: state,
+            cur: c,
+        };
     }
     read_known(s, l, c, scope, st, kind, back, out, table)
 }
@@ -145,13 +148,13 @@ pub fn read_element(
     st: State,
     out: &mut [u8],
     table: &mut [u8; MOST_TRIM],
-) -> StateStep
+) -> Step<State>
     requires { Underway 1 scope st (lent out.old table.old) }
     ensures { OneRead scope st (bit s.now) c l (lent out.old table.old) result (lent out.new table.new) }
 {
     let id = bits::take(s, l, c, 4);
     let step = bits::read_size(s, l, id);
-    let size = step.size;
+    let size = step.value;
     let sized = step.cur;
     let length = ByteCount::new(size.value + 1);
     let counted = 5 * size.groups;
@@ -162,11 +165,9 @@ pub fn read_element(
     let kind = oamd::kind_of(id.v, other.v);
     let back = 4 + counted + head_bits(scope.alternate);
     let body = read_body(s, held, discard, scope, st, kind, back, out, table);
-    let state = body.state;
-    let inside = body.cur;
-    StateStep {
-        state,
-        cur: bits::close(inside, held),
+    Step {
+        value: body.value,
+        cur: bits::close(body.cur, held),
     }
 }
 
@@ -174,9 +175,8 @@ pub fn read_element(
 pub fn nothing_read() -> State
     ensures { result ≡ nothing_read }
 {
-    let timing = meaning::no_timing();
     State {
-        timing,
+        timing: meaning::no_timing(),
         object: false,
         trim: false,
         extended: false,
@@ -194,21 +194,19 @@ pub fn read_elements(
     n: u32,
     out: &mut [u8],
     table: &mut [u8; MOST_TRIM],
-) -> StateStep
+) -> Step<State>
     requires { Underway n scope st (lent out.old table.old) }
     ensures { ElementsRead n scope st (bit s.now) c l (lent out.old table.old) result (lent out.new table.new) }
 {
     let mut state = st;
     let mut cur = c;
-    let mut i: u32 = 0;
-    while i < n {
+    for i in 0..n {
         if cur.no != 0 {
-            return StateStep { state, cur };
+            return Step { value: state, cur };
         }
         let step = read_element(s, l, cur, scope, state, out, table);
-        state = step.state;
+        state = step.value;
         cur = step.cur;
-        i = i + 1;
     }
-    StateStep { state, cur }
+    Step { value: state, cur }
 }

@@ -1,34 +1,18 @@
-// The records' room: all of it, and the gain that stands there of the object before.
+// The records' room: how much of it is enough, and the gain that stands there of the object before.
 ghost use Rattle.std.specs.Prelude.{◌≡◌, ◌+◌, ◌-◌, ◌≤◌, leb, length};
 ghost use Rattle.bits.specs.Language.{pick};
-ghost use Rattle.oamd.specs.Tables.{record_bytes, scratch_bytes};
+ghost use Rattle.oamd.specs.Tables.{record_bytes};
 ghost use Rattle.oamd.specs.Meaning.{zero_db};
 ghost use Rattle.record.specs.Bytes.{scene_at};
-ghost use Rattle.reader.specs.Layout.{few_bytes};
-
-use oamd::SCRATCH_BYTES;
 
 // Up to so many objects, a payload's records are kept in less room: to clear all of it takes longer than to read them.
 pub const FEW_OBJECTS: u8 = 16;
 
-const FEW_BYTES: usize = 3072;
+// The room of their records.
+pub const FEW_BYTES: usize = 3072;
 
 // The gain of 0 dB.
 const ZERO_DB: u8 = 50;
-
-// Room for the records of few objects.
-pub fn little_room() -> [u8; FEW_BYTES]
-    ensures { length result ≡ few_bytes }
-{
-    [0u8; FEW_BYTES]
-}
-
-// Room for those of every payload.
-pub fn all_room() -> [u8; SCRATCH_BYTES]
-    ensures { length result ≡ scratch_bytes }
-{
-    [0u8; SCRATCH_BYTES]
-}
 
 // The gain that stands `back` bytes before a record, or 0 dB where no object stands before it.
 pub fn gain_of_object_before(out: &[u8], at: usize, back: usize) -> u8

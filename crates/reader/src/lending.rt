@@ -22,19 +22,12 @@ pub fn lend_records(scratch: &[u8], count: usize, frame: u32, timing: Timing, re
     requires { Lending count timing scratch.now records.old }
     ensures { Lent count frame timing scratch.now records.old records.new }
 {
-    let updates = timing.updates;
-    let blocks = timing.blocks as usize;
-    let mut from: usize = 0;
-    let mut at: usize = 0;
     let mut blk: usize = 0;
-    let mut i: usize = 0;
-    while i < count {
-        copy_record(scratch, from, records, at);
-        let u = updates[blk];
+    for i in 0..count {
+        let at = RECORD_STRIDE * i;
+        copy_record(scratch, RECORD_BYTES * i, records, at);
+        let u = timing.updates[blk];
         record::store_time(records, at, record::time_of(frame, u.start));
-        from = from + RECORD_BYTES;
-        at = at + RECORD_STRIDE;
-        blk = record::next_block(blk, blocks);
-        i = i + 1;
+        blk = record::next_block(blk, timing.blocks as usize);
     }
 }

@@ -4,9 +4,9 @@
 ghost use Rattle.std.specs.Prelude.{◌≡◌};
 ghost use Rattle.oamd.specs.Answer.{reading};
 
-use crate::layout::FEW_OBJECTS;
+use crate::layout::{FEW_BYTES, FEW_OBJECTS};
 use bits::{Cur, Refusal};
-use oamd::{Gone, MOST_BYTES, MOST_ELEMENTS, Programme, ReadAnswer, Shares, Timing};
+use oamd::{Gone, MOST_BYTES, MOST_ELEMENTS, Programme, ReadAnswer, SCRATCH_BYTES, Shares, Timing};
 use units::BitPos;
 
 mod timing; // timing.rt: starts and ramps of all blocks
@@ -26,12 +26,6 @@ pub use payload::{limit_of, read_head};
 pub use sifting::sift;
 pub use timing::read_timing;
 
-#[derive(Clone, Copy)]
-pub struct TimingStep {
-    pub timing: Timing,
-    pub cur: Cur,
-}
-
 // What the elements are read by: the object count, the objects of each class, and whether alternate ids are sent.
 #[derive(Clone, Copy)]
 pub struct Scope {
@@ -50,48 +44,46 @@ pub struct State {
     pub unknown: u8,
 }
 
+// What stands before the element count.
 #[derive(Clone, Copy)]
-pub struct StateStep {
-    pub state: State,
-    pub cur: Cur,
-}
-
-#[derive(Clone, Copy)]
-pub struct HeaderStep {
+pub struct Header {
     pub programme: Programme,
     pub alternate: u32,
-    pub cur: Cur,
 }
 
+// What the whole payload gives.
 #[derive(Clone, Copy)]
-pub struct PayloadStep {
+pub struct Parsed {
     pub programme: Programme,
     pub state: State,
-    pub cur: Cur,
 }
 
-// An element of a pass that drops what is refused: what has been read behind it, where the next one begins or the refusal that ends the pass, and whether and as what
-// it is dropped.
+// An element of a pass that drops what is refused: what has been read behind it, where the next one begins or the refusal that ends the pass, and as what it is dropped,
+// if it is.
 #[derive(Clone, Copy)]
 pub struct Turn {
     pub state: State,
     pub cur: Cur,
-    pub dropped: bool,
-    pub gone: Gone,
+    pub gone: Option<Gone>,
 }
 
 // Which elements of a payload salvage drops: the first bit of the element count, the count, the first bit of the elements, and the elements that go, of which there are
-// `drops`; entries past them are 0. Where a refusal ends the pass all but refusal, place and missing bits is 0.
+// `drops`; entries past them are 0. An array with a count, since no memory is taken.
 #[derive(Clone, Copy)]
 pub struct Sifted {
-    pub place: u64,
-    pub missing: u32,
-    pub refusal: u8,
     pub head: BitPos,
     pub count: u32,
     pub body: BitPos,
     pub drops: usize,
     pub gone: [Gone; MOST_ELEMENTS],
+}
+
+// The refusal that ends the pass: its number, its place, and how many bits were missing there.
+#[derive(Clone, Copy)]
+pub struct Refused {
+    pub place: u64,
+    pub missing: u32,
+    pub refusal: u8,
 }
 
 // Reads the payload of a frame, by the frame's number. Accepted: the records, each with its time, and the trim table are the first bytes of the lent buffers, and no other
@@ -105,10 +97,9 @@ pub fn read(payload: &[u8], frame: u32, records: &mut [u8], trim: &mut [u8]) -> 
         return answers::refused_with(Refusal::TooLong, len as u64);
     }
     let head = payload::read_head(payload);
-    let programme = head.programme;
-    if programme.objects <= FEW_OBJECTS {
-        keeping::read_few(payload, head, frame, records, trim)
+    if head.value.programme.objects <= FEW_OBJECTS {
+        keeping::read_in::<FEW_BYTES>(payload, head, frame, records, trim)
     } else {
-        keeping::read_many(payload, head, frame, records, trim)
+        keeping::read_in::<SCRATCH_BYTES>(payload, head, frame, records, trim)
     }
 }

@@ -5,21 +5,20 @@ ghost use Rattle.oamd.specs.Tables.{most_bytes};
 ghost use Rattle.reader.specs.Steps.{lent, scope_of, whole_of, Headed, Opening, HeaderRead, PayloadRead};
 
 use crate::element::{nothing_read, read_elements};
-use crate::{HeaderStep, PayloadStep, Scope};
-use bits::{Cur, Limit, Refusal};
+use crate::{Header, Parsed, Scope};
+use bits::{Cur, Limit, Refusal, Step};
 use oamd::MOST_TRIM;
 use units::{BitPos, ByteCount};
 
 // What stands before the element count. The object counts are compared as soon as the program assignment has been read.
-fn read_header(s: &[u8], l: Limit, c: Cur) -> HeaderStep
+fn read_header(s: &[u8], l: Limit, c: Cur) -> Step<Header>
     ensures { HeaderRead (bit s.now) c l result }
 {
     let version = syntax::read_version(s, l, c);
     let objects = syntax::read_object_count(s, l, version);
     let step = syntax::read_assignment(s, l, objects, objects.v as u8);
-    let programme = step.programme;
     let agreed = bits::refuse_if(
-        !meaning::agrees(programme),
+        !meaning::agrees(step.value),
         s,
         l,
         step.cur,
@@ -27,9 +26,11 @@ fn read_header(s: &[u8], l: Limit, c: Cur) -> HeaderStep
         0,
     );
     let alternate = bits::take(s, l, agreed, 1);
-    HeaderStep {
-        programme,
-        alternate: alternate.v,
+    Step {
+        value: Header {
+            programme: step.value,
+            alternate: alternate.v,
+        },
         cur: alternate,
     }
 }
@@ -47,7 +48,7 @@ pub fn limit_of(s: &[u8]) -> Limit
 }
 
 // The header of a payload.
-pub fn read_head(s: &[u8]) -> HeaderStep
+pub fn read_head(s: &[u8]) -> Step<Header>
     requires { length s.now ≤ most_bytes }
     ensures { Headed s.now result }
 {
@@ -62,13 +63,12 @@ pub fn read_head(s: &[u8]) -> HeaderStep
 }
 
 // What the elements behind a header are read by.
-pub fn scope_of(head: HeaderStep) -> Scope
+pub fn scope_of(head: Header) -> Scope
     ensures { result ≡ scope_of head }
 {
-    let programme = head.programme;
     Scope {
-        objects: programme.objects as usize,
-        shares: meaning::shares(programme),
+        objects: head.programme.objects as usize,
+        shares: meaning::shares(head.programme),
         alternate: head.alternate,
     }
 }
@@ -76,23 +76,22 @@ pub fn scope_of(head: HeaderStep) -> Scope
 // All of it, behind its header.
 pub fn read_payload(
     s: &[u8],
-    head: HeaderStep,
+    head: Step<Header>,
     out: &mut [u8],
     table: &mut [u8; MOST_TRIM],
-) -> PayloadStep
+) -> Step<Parsed>
     requires { Opening s.now head (lent out.old table.old) }
     ensures { PayloadRead s.now out.old result (lent out.new table.new) }
 {
     let l = limit_of(s);
-    let programme = head.programme;
     let count = syntax::read_element_count(s, l, head.cur);
-    let scope = scope_of(head);
+    let scope = scope_of(head.value);
     let step = read_elements(s, l, count, scope, nothing_read(), count.v, out, table);
-    let state = step.state;
-    let cur = step.cur;
-    PayloadStep {
-        programme,
-        state,
-        cur,
+    Step {
+        value: Parsed {
+            programme: head.value.programme,
+            state: step.value,
+        },
+        cur: step.cur,
     }
 }

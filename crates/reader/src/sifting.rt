@@ -2,98 +2,69 @@
 ghost use Rattle.std.specs.Prelude.{◌≡◌, replicate};
 ghost use Rattle.bits.specs.Language.{bit};
 ghost use Rattle.oamd.specs.Tables.{most_elements};
-ghost use Rattle.oamd.specs.Answer.{missing_of};
-ghost use Rattle.reader.specs.Sifts.{no_gone, unsifted, sifted};
+ghost use Rattle.reader.specs.Sifts.{no_gone, refusal_of, sifted};
 ghost use Rattle.reader.specs.Steps.{lent};
-ghost use Rattle.reader.specs.Turns.{Turning, Refused, Dropped, TurnRead, Counted};
+ghost use Rattle.reader.specs.Turns.{Turning, RefusedAt, Dropped, TurnRead, Counted};
 
 use crate::answers::missing_bits;
 use crate::element::{nothing_read, read_element};
-use crate::layout::all_room;
 use crate::payload::{limit_of, read_head, scope_of};
 use crate::trim::no_trim;
-use crate::{HeaderStep, Scope, Sifted, State, Turn};
-use bits::{Cur, Limit, Refusal};
+use crate::{Header, Refused, Scope, Sifted, State, Turn};
+use bits::{Cur, Limit, Refusal, Step};
 use oamd::{Gone, MOST_BYTES, MOST_ELEMENTS, MOST_TRIM, SCRATCH_BYTES};
 use units::BitPos;
-
-fn no_gone() -> Gone
-    ensures { result ≡ no_gone }
-{
-    Gone {
-        from: BitPos::new(0),
-        to: BitPos::new(0),
-        place: BitPos::new(0),
-        id: 0,
-        refusal: 0,
-    }
-}
 
 // Room for all that can be dropped.
 fn none_gone() -> [Gone; MOST_ELEMENTS]
     ensures { result ≡ replicate most_elements no_gone }
 {
-    let none = no_gone();
+    let none = Gone {
+        from: BitPos::new(0),
+        to: BitPos::new(0),
+        place: BitPos::new(0),
+        id: 0,
+        refusal: 0,
+    };
     [none; MOST_ELEMENTS]
 }
 
-// A refusal that ends it: all else is 0.
-fn refused(refusal: u8, place: u64, missing: u32) -> Sifted
-    ensures { result ≡ unsifted refusal place missing }
-{
-    let gone = none_gone();
-    Sifted {
-        place,
-        missing,
-        refusal,
-        head: BitPos::new(0),
-        count: 0,
-        body: BitPos::new(0),
-        drops: 0,
-        gone,
-    }
-}
-
 // The refusal that a cursor carries.
-fn refused_at(c: Cur) -> Sifted
-    ensures { result ≡ unsifted c.no c.at.0 (missing_of c.no c.missing) }
+fn refused_at(c: Cur) -> Refused
+    ensures { result ≡ refusal_of c.no c.at.0 c.missing }
 {
-    let missing = missing_bits(c.no, c.missing);
-    refused(c.no, c.at.raw() as u64, missing)
+    Refused {
+        place: c.at.raw() as u64,
+        missing: missing_bits(c.no, c.missing),
+        refusal: c.no,
+    }
 }
 
 // An element that begins at c and was refused, as d says: the pass ends if it passes the payload's end, and goes on behind its declared end else.
 fn drop_element(s: &[u8], l: Limit, c: Cur, d: Cur, alternate: u32, state: State) -> Turn
-    requires { Refused l c d }
+    requires { RefusedAt l c d }
     ensures { Dropped alternate state (bit s.now) c l d result }
 {
-    if d.no == bits::number(Refusal::EndsEarly) {
-        let gone = no_gone();
+    if d.no == Refusal::EndsEarly.number() {
         return Turn {
             state,
             cur: d,
-            dropped: true,
-            gone,
+            gone: None,
         };
     }
     let id = bits::take(s, l, c, 4);
     let step = syntax::read_frame(s, l, c, alternate);
-    let cur = step.cur;
-    let from = c.at;
-    let to = cur.at;
-    let place = d.at;
     let gone = Gone {
-        from,
-        to,
-        place,
+        from: c.at,
+        to: step.cur.at,
+        place: d.at,
         id: id.v as u8,
         refusal: d.no,
     };
     Turn {
         state,
-        cur,
-        dropped: true,
-        gone,
+        cur: step.cur,
+        gone: Some(gone),
     }
 }
 
@@ -113,76 +84,68 @@ fn sift_element(
     let kept = *out;
     let kept_table = *table;
     let step = read_element(s, l, c, scope, st, out, table);
-    let cur = step.cur;
-    if cur.no == 0 {
-        let state = step.state;
-        let gone = no_gone();
+    if step.cur.no == 0 {
         return Turn {
-            state,
-            cur,
-            dropped: false,
-            gone,
+            state: step.value,
+            cur: step.cur,
+            gone: None,
         };
     }
     *out = kept;
     *table = kept_table;
-    drop_element(s, l, c, cur, scope.alternate, st)
+    drop_element(s, l, c, step.cur, scope.alternate, st)
 }
 
 // All elements, behind the header and their count.
-fn sift_elements(s: &[u8], l: Limit, head: HeaderStep, count: Cur) -> Sifted
+fn sift_elements(s: &[u8], l: Limit, head: Step<Header>, count: Cur) -> Result<Sifted, Refused>
     requires { Counted s.now l head count }
     ensures { result ≡ sifted s.now }
 {
-    let scope = scope_of(head);
-    let mut scratch = all_room();
+    let scope = scope_of(head.value);
+    let mut scratch = [0u8; SCRATCH_BYTES];
     let mut table = no_trim();
     let mut state = nothing_read();
     let mut gone = none_gone();
     let mut drops: usize = 0;
     let mut cur = count;
-    let mut i: u32 = 0;
-    while i < count.v {
+    for i in 0..count.v {
         let turn = sift_element(s, l, cur, scope, state, &mut scratch, &mut table);
         cur = turn.cur;
         if cur.no != 0 {
-            return refused_at(cur);
+            return Err(refused_at(cur));
         }
         state = turn.state;
-        if turn.dropped {
-            let one = turn.gone;
+        if let Some(one) = turn.gone {
             gone[drops] = one;
-            drops = drops + 1;
+            drops += 1;
         }
-        i = i + 1;
     }
-    let first = head.cur.at;
-    let body = count.at;
-    Sifted {
-        place: 0,
-        missing: 0,
-        refusal: 0,
-        head: first,
+    Ok(Sifted {
+        head: head.cur.at,
         count: count.v,
-        body,
+        body: count.at,
         drops,
         gone,
-    }
+    })
 }
 
 // Which elements salvage drops, or the refusal for which nothing can be salvaged.
-pub fn sift(payload: &[u8]) -> Sifted
+pub fn sift(payload: &[u8]) -> Result<Sifted, Refused>
     ensures { result ≡ sifted payload.now }
 {
     let len = payload.len();
     if MOST_BYTES < len {
-        return refused(bits::number(Refusal::TooLong), len as u64, 0);
+        return Err(Refused {
+            place: len as u64,
+            missing: 0,
+            refusal: Refusal::TooLong.number(),
+        });
     }
     let head = read_head(payload);
     let l = limit_of(payload);
     let count = syntax::read_element_count(payload, l, head.cur);
     if count.no != 0 {
-        return refused_at(count);
+        return Err(refused_at(count));
     }
     sift_elements(payload, l, head, count)
 }

@@ -2,27 +2,22 @@
 ghost use Rattle.bits.specs.Language.{bit};
 ghost use Rattle.reader.specs.Steps.{TimingRead};
 
-use crate::TimingStep;
-use bits::{Cur, Limit};
+use bits::{Cur, Limit, Step};
+use oamd::Timing;
 
-pub fn read_timing(s: &[u8], l: Limit, c: Cur) -> TimingStep
+pub fn read_timing(s: &[u8], l: Limit, c: Cur) -> Step<Timing>
     ensures { TimingRead (bit s.now) c l result }
 {
     let start = syntax::read_offset(s, l, c);
-    let behind = start.cur;
-    let offset = start.offset;
-    let count = bits::take(s, l, behind, 3);
+    let count = bits::take(s, l, start.cur, 3);
     let n = count.v as usize + 1;
     let mut timing = meaning::no_timing();
     let mut cur = count;
-    let mut i: usize = 0;
-    while i < n {
+    for i in 0..n {
         let step = syntax::read_update(s, l, cur);
-        let update = step.update;
-        timing.updates[i] = meaning::update_of(offset, update);
+        timing.updates[i] = meaning::update_of(start.value, step.value);
         cur = step.cur;
-        i = i + 1;
     }
     timing.blocks = n as u8;
-    TimingStep { timing, cur }
+    Step { value: timing, cur }
 }

@@ -17,7 +17,7 @@ pub fn no_trim() -> [u8; MOST_TRIM]
     [0u8; MOST_TRIM]
 }
 
-// A configuration's bytes, from a place on.
+// A configuration's bytes, from a place on. One by one: a slice of the fields to copy from would take as many lines.
 fn store_config(out: &mut [u8; MOST_TRIM], at: usize, config: TrimConfig)
     requires { at + config_bytes ≤ most_trim }
     ensures { out.new ≡ set_from at 0 (config_bytes_of config) out.old }
@@ -40,24 +40,12 @@ fn read_configs(s: &[u8], l: Limit, c: Cur, out: &mut [u8; MOST_TRIM]) -> Cur
     ensures { ConfigsRead true (bit s.now) c l out.old result out.new }
 {
     let mut cur = c;
-    let mut at = TRIM_HEAD;
-    let mut i: usize = 0;
-    while i < TRIM_CONFIGS {
+    for i in 0..TRIM_CONFIGS {
         let step = syntax::read_trim_config(s, l, cur);
-        let config = step.config;
-        store_config(out, at, config);
+        store_config(out, TRIM_HEAD + CONFIG_BYTES * i, step.value);
         cur = step.cur;
-        at = at + CONFIG_BYTES;
-        i = i + 1;
     }
     cur
-}
-
-fn read_configs_if(on: bool, s: &[u8], l: Limit, c: Cur, out: &mut [u8; MOST_TRIM]) -> Cur
-    requires { length out.old ≡ most_trim }
-    ensures { ConfigsRead on (bit s.now) c l out.old result out.new }
-{
-    if on { read_configs(s, l, c, out) } else { c }
 }
 
 // The flag of each object.
@@ -66,31 +54,11 @@ fn read_flags(s: &[u8], l: Limit, c: Cur, objects: usize, out: &mut [u8; MOST_TR
     ensures { FlagsRead true objects (bit s.now) c l out.old result out.new }
 {
     let mut cur = c;
-    let mut i: usize = 0;
-    while i < objects {
+    for i in 0..objects {
         cur = bits::take(s, l, cur, 1);
         out[TRIM_FIXED + i] = cur.v as u8;
-        i = i + 1;
     }
     cur
-}
-
-fn read_flags_if(
-    on: bool,
-    s: &[u8],
-    l: Limit,
-    c: Cur,
-    objects: usize,
-    out: &mut [u8; MOST_TRIM],
-) -> Cur
-    requires { (objects ≤ most_objects) × (length out.old ≡ most_trim) }
-    ensures { FlagsRead on objects (bit s.now) c l out.old result out.new }
-{
-    if on {
-        read_flags(s, l, c, objects, out)
-    } else {
-        c
-    }
 }
 
 // The trim element of a programme of so many objects, laid out from the front of out, which is all 0 before: what is not carried stays 0.
@@ -104,8 +72,16 @@ pub fn read_trim(s: &[u8], l: Limit, c: Cur, objects: usize, out: &mut [u8; MOST
     out[0] = 1;
     out[1] = warp.v as u8;
     out[2] = mode.v as u8;
-    let behind = read_configs_if(mode.v == 2, s, l, mode, out);
+    let behind = if mode.v == 2 {
+        read_configs(s, l, mode, out)
+    } else {
+        mode
+    };
     let flagged = bits::take(s, l, behind, 1);
     out[PER_OBJECT_BYTE] = flagged.v as u8;
-    read_flags_if(flagged.v == 1, s, l, flagged, objects, out)
+    if flagged.v == 1 {
+        read_flags(s, l, flagged, objects, out)
+    } else {
+        flagged
+    }
 }

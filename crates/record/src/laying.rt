@@ -8,6 +8,7 @@ ghost use Rattle.record.specs.Bytes.{divergence_byte, precise_byte, set_from};
 use oamd::{Divergence, Precise, Scene};
 
 // The record of a scene, with nothing from an extended element.
+#[tactic(auto, unfolding(oamd::specs::Record::record_bytes_of))]
 pub fn store_scene(records: &mut [u8], at: usize, r: Scene)
     requires { at + record_bytes ≤ length records.old }
     ensures { records.new ≡ set_from at 0 (record_bytes_of (record_of r no_divergence no_precise)) records.old }

@@ -7,7 +7,7 @@ mod carrying; // carrying.rt: whether a record can carry what the extended eleme
 mod words; // words.rt: eight bytes as a number
 mod time; // time.rt: a record's time
 
-pub use carrying::{carries, carries_at};
+pub use carrying::{DYNAMIC, carries, carries_at};
 pub use laying::{store_divergence, store_precise, store_scene};
 pub use taking::{divergence_at, gain_at, has_bytes, precise_at, scene_at};
 pub use time::{has_time, next_block, store_time, time_of};

@@ -11,101 +11,11 @@ use oamd::{Divergence, Location, Precise, RECORD_BYTES, Scene, Screen, Volume, Z
 pub fn has_bytes(bytes: &[u8], at: usize, n: usize) -> bool
     ensures { result ≡ leb (at + n) (length bytes.now) }
 {
-    if bytes.len() < at {
-        return false;
-    }
-    n <= bytes.len() - at
-}
-
-fn location_at(records: &[u8], at: usize) -> Location
-    requires { at + record_bytes ≤ length records.now }
-    ensures { result ≡ (scene_at records.now at).location }
-{
-    Location {
-        x: records[at + 4],
-        y: records[at + 5],
-        z: records[at + 6],
-        distance: records[at + 7],
-    }
-}
-
-fn volume_at(records: &[u8], at: usize) -> Volume
-    requires { at + record_bytes ≤ length records.now }
-    ensures { result ≡ (scene_at records.now at).volume }
-{
-    Volume {
-        width: records[at + 8],
-        depth: records[at + 9],
-        height: records[at + 10],
-    }
-}
-
-fn zone_at(records: &[u8], at: usize) -> Zone
-    requires { at + record_bytes ≤ length records.now }
-    ensures { result ≡ (scene_at records.now at).zone }
-{
-    Zone {
-        index: records[at + 11],
-        elevation: records[at + 12],
-    }
-}
-
-fn screen_at(records: &[u8], at: usize) -> Screen
-    requires { at + record_bytes ≤ length records.now }
-    ensures { result ≡ (scene_at records.now at).screen }
-{
-    Screen {
-        used: records[at + 13],
-        factor: records[at + 14],
-        depth: records[at + 15],
-    }
-}
-
-fn scene_of(records: &[u8], at: usize) -> Scene
-    requires { at + record_bytes ≤ length records.now }
-    ensures { result ≡ scene_at records.now at }
-{
-    let location = location_at(records, at);
-    let volume = volume_at(records, at);
-    let zone = zone_at(records, at);
-    let screen = screen_at(records, at);
-    Scene {
-        active: records[at],
-        class: records[at + 1],
-        gain: records[at + 2],
-        priority: records[at + 3],
-        location,
-        volume,
-        zone,
-        screen,
-        snap: records[at + 16],
-    }
-}
-
-fn divergence_of(records: &[u8], at: usize) -> Divergence
-    requires { at + record_bytes ≤ length records.now }
-    ensures { result ≡ divergence_at records.now at }
-{
-    Divergence {
-        used: records[at + 17],
-        mode: records[at + 18],
-        value: records[at + 19],
-    }
-}
-
-fn precise_of(records: &[u8], at: usize) -> Precise
-    requires { at + record_bytes ≤ length records.now }
-    ensures { result ≡ precise_at records.now at }
-{
-    Precise {
-        presence: records[at + 20],
-        x: records[at + 21],
-        y: records[at + 22],
-        z: records[at + 23],
-    }
+    at <= bytes.len() && n <= bytes.len() - at
 }
 
 // The gain of the record that begins at `at`. There must be a whole record, as in laying.rt.
+#[tactic(auto, unfolding(crate::specs::Bytes::scene_at))]
 pub fn gain_at(records: &[u8], at: usize) -> u8
     requires { at + record_bytes ≤ length records.now }
     ensures { result ≡ (scene_at records.now at).gain }
@@ -146,41 +56,79 @@ fn no_scene() -> Scene
     }
 }
 
+#[tactic(auto, unfolding(crate::specs::Bytes::scene_at))]
 pub fn scene_at(records: &[u8], at: usize) -> Scene
     ensures there { at + record_bytes ≤ length records.now → result ≡ scene_at records.now at }
     ensures absent { length records.now < at + record_bytes → result ≡ idle 0 }
 {
-    if has_bytes(records, at, RECORD_BYTES) {
-        return scene_of(records, at);
+    if !has_bytes(records, at, RECORD_BYTES) {
+        return no_scene();
     }
-    no_scene()
+    Scene {
+        active: records[at],
+        class: records[at + 1],
+        gain: records[at + 2],
+        priority: records[at + 3],
+        location: Location {
+            x: records[at + 4],
+            y: records[at + 5],
+            z: records[at + 6],
+            distance: records[at + 7],
+        },
+        volume: Volume {
+            width: records[at + 8],
+            depth: records[at + 9],
+            height: records[at + 10],
+        },
+        zone: Zone {
+            index: records[at + 11],
+            elevation: records[at + 12],
+        },
+        screen: Screen {
+            used: records[at + 13],
+            factor: records[at + 14],
+            depth: records[at + 15],
+        },
+        snap: records[at + 16],
+    }
 }
 
+#[tactic(auto, unfolding(crate::specs::Bytes::divergence_at))]
 pub fn divergence_at(records: &[u8], at: usize) -> Divergence
     ensures there { at + record_bytes ≤ length records.now → result ≡ divergence_at records.now at }
     ensures absent { length records.now < at + record_bytes → result ≡ no_divergence }
 {
-    if has_bytes(records, at, RECORD_BYTES) {
-        return divergence_of(records, at);
+    if !has_bytes(records, at, RECORD_BYTES) {
+        return Divergence {
+            used: 0,
+            mode: 0,
+            value: 0,
+        };
     }
     Divergence {
-        used: 0,
-        mode: 0,
-        value: 0,
+        used: records[at + 17],
+        mode: records[at + 18],
+        value: records[at + 19],
     }
 }
 
+#[tactic(auto, unfolding(crate::specs::Bytes::precise_at))]
 pub fn precise_at(records: &[u8], at: usize) -> Precise
     ensures there { at + record_bytes ≤ length records.now → result ≡ precise_at records.now at }
     ensures absent { length records.now < at + record_bytes → result ≡ no_precise }
 {
-    if has_bytes(records, at, RECORD_BYTES) {
-        return precise_of(records, at);
+    if !has_bytes(records, at, RECORD_BYTES) {
+        return Precise {
+            presence: 0,
+            x: 0,
+            y: 0,
+            z: 0,
+        };
     }
     Precise {
-        presence: 0,
-        x: 0,
-        y: 0,
-        z: 0,
+        presence: records[at + 20],
+        x: records[at + 21],
+        y: records[at + 22],
+        z: records[at + 23],
     }
 }

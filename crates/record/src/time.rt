@@ -20,11 +20,11 @@ pub fn time_of(frame: u32, start: SampleCount) -> SampleTime
 pub fn next_block(blk: usize, blocks: usize) -> usize
     ensures { result ≡ pick (ltb (blk + 1) blocks) (blk + 1) 0 }
 {
-    if blocks <= blk {
-        return 0;
+    if blk < blocks.saturating_sub(1) {
+        blk + 1
+    } else {
+        0
     }
-    let next = blk + 1;
-    if next < blocks { next } else { 0 }
 }
 
 // Bytes 24 to 31 of the record that begins at `at`. There must be a whole record, as in laying.rt.

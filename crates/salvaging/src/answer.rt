@@ -1,11 +1,11 @@
 // What is answered.
 ghost use Rattle.std.specs.Prelude.{◌≡◌, ◌≤◌, length, replicate};
 ghost use Rattle.oamd.specs.Tables.{most_elements};
-ghost use Rattle.salvaging.specs.Salvage.{no_drop, reported, refused_with, accepted_with};
+ghost use Rattle.salvaging.specs.Salvage.{no_drop, drop_of, reported, refused_with, accepted_with};
 ghost use Rattle.salvaging.specs.Parts.{gone_by};
 
 use crate::{Drop, SalvageAnswer};
-use oamd::MOST_ELEMENTS;
+use oamd::{Gone, MOST_ELEMENTS};
 use reader::Sifted;
 use units::{BitPos, ByteCount};
 
@@ -36,6 +36,18 @@ pub fn refused(refusal: u8, place: u64, missing: u32) -> SalvageAnswer
     }
 }
 
+impl From<Gone> for Drop {
+    fn from(g: Gone) -> Drop
+        ensures { result ≡ drop_of g }
+    {
+        Drop {
+            place: g.place,
+            id: g.id,
+            refusal: g.refusal,
+        }
+    }
+}
+
 // The elements that go, as they are reported.
 fn report(found: Sifted) -> [Drop; MOST_ELEMENTS]
     requires { (found.drops ≤ most_elements) × (length found.gone ≡ most_elements) }
@@ -43,16 +55,8 @@ fn report(found: Sifted) -> [Drop; MOST_ELEMENTS]
 {
     let gone = found.gone;
     let mut dropped = no_drops();
-    let mut i: usize = 0;
-    while i < found.drops {
-        let g = gone[i];
-        let place = g.place;
-        dropped[i] = Drop {
-            place,
-            id: g.id,
-            refusal: g.refusal,
-        };
-        i = i + 1;
+    for i in 0..found.drops {
+        dropped[i] = Drop::from(gone[i]);
     }
     dropped
 }

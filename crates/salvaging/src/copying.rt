@@ -17,7 +17,7 @@ fn copy_field(s: &[u8], from: BitPos, w: u32, out: &mut [u8], pen: Pen) -> Pen
 {
     let window = bits::window(s, from);
     let seen = bits::look(window, from.raw() % 8, w);
-    laying::put(out, pen, w, seen.v as u64)
+    laying::put(out, pen, w, seen.value as u64)
 }
 
 // n bits, which may lie behind the payload's end: there they are 0.
@@ -31,7 +31,7 @@ pub fn copy_run(s: &[u8], from: BitPos, n: BitCount, out: &mut [u8], pen: Pen) -
     while WIDEST <= rest {
         next = copy_field(s, source, WIDEST, out, next);
         source = source.after(BitCount::new(WIDEST));
-        rest = rest - WIDEST;
+        rest -= WIDEST;
     }
     if rest == 0 {
         return next;

@@ -51,8 +51,7 @@ pub fn left_width(payload: &[u8], found: Sifted) -> BitCount
     requires { Fair payload.now found }
     ensures { result.0 ≡ length (left_by payload.now found) }
 {
-    let head = found.head;
-    let before = head.since(BitPos::new(0));
+    let before = found.head.since(BitPos::new(0));
     let count = count_width(kept(found));
     let behind = runs_width(payload, found);
     before.plus(count).plus(behind)
@@ -64,9 +63,8 @@ fn put_left(out: &mut [u8], payload: &[u8], found: Sifted) -> Pen
     ensures { Laid most_left out.old out.new blank result (left_by payload.now found) }
 {
     let first = BitPos::new(0);
-    let head = found.head;
     let start = laying::start();
-    let next = copy_run(payload, first, head.since(first), out, start);
+    let next = copy_run(payload, first, found.head.since(first), out, start);
     let next = put_count(out, next, kept(found));
     put_runs(out, next, payload, found)
 }

@@ -1,7 +1,7 @@
 // `salvage`: a payload with elements that a read refuses, to one that is accepted, without them.
 #![tactic(auto)]
 
-ghost use Rattle.std.specs.Prelude.{◌≡◌};
+ghost use Rattle.std.specs.Prelude.{◌≡◌, Ok};
 ghost use Rattle.reader.specs.Sifts.{sifted};
 ghost use Rattle.salvaging.specs.Salvage.{salvaging};
 
@@ -38,17 +38,14 @@ pub struct SalvageAnswer {
 
 // What is answered of a payload, by the elements of it that go.
 fn finish(payload: &[u8], found: Sifted, out: &mut [u8]) -> SalvageAnswer
-    requires { found ≡ sifted payload.now }
+    requires { Ok found ≡ sifted payload.now }
     ensures { (record { answer = result; out = out.new }) ≡ salvaging payload.now out.old }
 {
-    if found.refusal != 0 {
-        return answer::refused(found.refusal, found.place, found.missing);
-    }
     let whole = left::left_width(payload, found);
     let length = whole.bytes();
     let bytes = length.raw();
     if out.len() < bytes as usize {
-        return answer::refused(bits::number(Refusal::NoFit), bytes as u64, 0);
+        return answer::refused(Refusal::NoFit.number(), bytes as u64, 0);
     }
     let n = bytes as usize;
     left::fill(&mut out[..n], payload, found);
@@ -60,6 +57,8 @@ fn finish(payload: &[u8], found: Sifted, out: &mut [u8]) -> SalvageAnswer
 pub fn salvage(payload: &[u8], out: &mut [u8]) -> SalvageAnswer
     ensures { (record { answer = result; out = out.new }) ≡ salvaging payload.now out.old }
 {
-    let found = reader::sift(payload);
-    finish(payload, found, out)
+    match reader::sift(payload) {
+        Ok(found) => finish(payload, found, out),
+        Err(e) => answer::refused(e.refusal, e.place, e.missing),
+    }
 }

@@ -1,4 +1,4 @@
-// The bits between the elements that go: how many they are, and laid one run behind the other.
+// The bits between the elements that go: how many they are, and laid one run behind the other. Two loops, since one function over what is done with a run would be longer than both.
 ghost use Rattle.std.specs.Prelude.{◌≡◌, ◌+◌, ◌*◌, ◌≤◌, length};
 ghost use Rattle.oamd.specs.Tables.{most_bytes};
 ghost use Rattle.laying.specs.Laying.{Laid, most_position, reach};
@@ -27,13 +27,10 @@ pub fn runs_width(payload: &[u8], found: Sifted) -> BitCount
     let end = end_of(payload);
     let mut from = found.body;
     let mut width = BitCount::new(0);
-    let mut i: usize = 0;
-    while i < found.drops {
+    for i in 0..found.drops {
         let g = gone[i];
-        let to = g.from;
-        width = width.plus(to.since(from));
+        width = width.plus(g.from.since(from));
         from = g.to;
-        i = i + 1;
     }
     width.plus(end.since(from))
 }
@@ -48,13 +45,10 @@ pub fn put_runs(out: &mut [u8], pen: Pen, payload: &[u8], found: Sifted) -> Pen
     let end = end_of(payload);
     let mut from = found.body;
     let mut next = pen;
-    let mut i: usize = 0;
-    while i < found.drops {
+    for i in 0..found.drops {
         let g = gone[i];
-        let to = g.from;
-        next = copy_run(payload, from, to.since(from), out, next);
+        next = copy_run(payload, from, g.from.since(from), out, next);
         from = g.to;
-        i = i + 1;
     }
     copy_run(payload, from, end.since(from), out, next)
 }

@@ -1,9 +1,9 @@
 -- A group that was looked at as if it were sent, and is taken only where it is: u is the definition's test, t the code's own.
-use mathlib.Core.Path.{◌≡◌, refl, sym, ◌∙◌}
-use mathlib.Core.Bool.{Bool, true, false, not, false≢true}
+use mathlib.Core.Path.{◌≡◌, refl}
+use mathlib.Core.Bool.{Bool, true, false, not, ◌&&◌, ◌||◌, false≢true}
 use Prim.Native.Nat.{ℕ, ◌+◌, ◌≤◌}
 use native.Mathlib.Omega.{arith}
-use Rattle.bits.specs.Language.{P, pick, both, bits, bits_if}
+use Rattle.bits.specs.Language.{P, pick, bits, bits_if}
 use Rattle.bits.specs.View.{Looks}
 use Rattle.bits.proofs.Free.{looks-give}
 use Rattle.syntax.specs.Looks.{Pair}
@@ -26,12 +26,12 @@ pair_where : (k : Bool → ℕ → P ℕ) {w n x o v z off : ℕ} (u : Bool) →
 pair_where k true s n = s
 pair_where k {o = o} false s n = record { mid = o; first = looks-give; second = n; near = omega arith }
 
--- both tests hold, where a call said so
-pub each-good : (a b : Bool) {t : Bool} → t ≡ both a b → t ≡ true → (a ≡ true) × (b ≡ true)
-each-good true b e g = (refl, sym e ∙ g)
-each-good false b e g = absurd (false≢true (sym e ∙ g))
+-- both tests hold
+pub each-good : (a b : Bool) → (a && b) ≡ true → (a ≡ true) × (b ≡ true)
+each-good true b e = (refl, e)
+each-good false b e = absurd (false≢true e)
 
-good_where : (u : Bool) {g : Bool} → pick (not u) true g ≡ true → u ≡ true → g ≡ true
+good_where : (u : Bool) {g : Bool} → (not u || g) ≡ true → u ≡ true → g ≡ true
 good_where true h e = h
 good_where false h e = absurd (false≢true e)
 
@@ -51,8 +51,8 @@ module _ {t u : Bool} (q : t ≡ u) where
   near_if o n e h = rw e (whichever t h (omega arith))
 
   -- no reserved code was met in what is sent
-  pub good_if : {g good : Bool} → good ≡ pick (not t) true g → good ≡ true → u ≡ true → g ≡ true
-  good_if e h = good_where u (rw (e, q) at h)
+  pub good_if : {g : Bool} → (not t || g) ≡ true → u ≡ true → g ≡ true
+  good_if h = good_where u (rw q at h)
 
   -- what is read, and where the next field begins
   pub taken : {A : Type 0} (p : Bool → P A) {x o off to : ℕ} {v none : A} → to ≡ pick t off o → (u ≡ true → Looks (p true) x o v off)

@@ -4,63 +4,60 @@ ghost use Rattle.oamd.specs.declared.Scene.{Scene};
 ghost use Rattle.oamd.specs.declared.Status.TheVariants.{Full, Mixed};
 ghost use Rattle.scenes.specs.Found.{LevelsFound};
 
-use crate::{Levels, LevelsLook};
+use crate::Levels;
+use bits::Sighted;
 use oamd::{Scene, Status};
 
-fn full_levels(x: u64, o: u32, gainbefore: u8) -> LevelsLook
+fn full_levels(x: u64, o: u32, gainbefore: u8) -> Sighted<Levels>
     requires { o ≤ 50 }
     ensures { (before : Scene) → LevelsFound Full before gainbefore x o result }
 {
     let g = syntax::look_gain(x, o);
-    let gain = g.gain;
     let p = syntax::look_priority(x, g.off);
-    let priority = p.priority;
-    LevelsLook {
-        levels: Levels {
-            gain: meaning::gain_of(gain, gainbefore),
-            priority: meaning::priority_of(priority),
+    Sighted {
+        value: Levels {
+            gain: meaning::gain_of(g.value, gainbefore),
+            priority: meaning::priority_of(p.value),
         },
         off: p.off,
     }
 }
 
 // Each is looked at as if it were sent, and taken only where it is.
-fn mixed_levels(x: u64, o: u32, before: Scene, gainbefore: u8) -> LevelsLook
+fn mixed_levels(x: u64, o: u32, before: Scene, gainbefore: u8) -> Sighted<Levels>
     requires { o ≤ 48 }
     ensures { LevelsFound Mixed before gainbefore x o result }
 {
     let parts = bits::look(x, o, 2);
-    let gained = oamd::has_gain(parts.v);
-    let ranked = oamd::has_priority(parts.v);
+    let gained = oamd::has_gain(parts.value);
+    let ranked = oamd::has_priority(parts.value);
     let g = syntax::look_gain(x, parts.off);
-    let gain = g.gain;
-    let priority_off = bits::chosen(gained, g.off, parts.off);
+    let priority_off = bits::pick(gained, g.off, parts.off);
     let p = syntax::look_priority(x, priority_off);
-    let priority = p.priority;
-    LevelsLook {
-        levels: Levels {
-            gain: bits::choice(gained, meaning::gain_of(gain, gainbefore), before.gain),
-            priority: bits::choice(ranked, meaning::priority_of(priority), before.priority),
+    Sighted {
+        value: Levels {
+            gain: bits::pick(gained, meaning::gain_of(g.value, gainbefore), before.gain),
+            priority: bits::pick(ranked, meaning::priority_of(p.value), before.priority),
         },
-        off: bits::chosen(ranked, p.off, priority_off),
+        off: bits::pick(ranked, p.off, priority_off),
     }
 }
 
-pub fn levels_in(x: u64, o: u32, status: Status, before: Scene, gainbefore: u8) -> LevelsLook
+pub fn levels_in(x: u64, o: u32, status: Status, before: Scene, gainbefore: u8) -> Sighted<Levels>
     requires { o ≤ 48 }
     ensures { LevelsFound status before gainbefore x o result }
 {
     match status {
-        Status::Default => LevelsLook {
-            levels: Levels {
+        Status::Default => Sighted {
+            value: Levels {
                 gain: 0,
                 priority: 0,
             },
             off: o,
         },
         Status::Full => full_levels(x, o, gainbefore),
-        Status::Reuse => LevelsLook {
-            levels: Levels {
+        Status::Reuse => Sighted {
+            value: Levels {
                 gain: before.gain,
                 priority: before.priority,
             },

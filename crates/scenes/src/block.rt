@@ -1,67 +1,65 @@
 // A block of an object (5.5.9), resolved.
-ghost use Rattle.std.specs.Prelude.{◌≡◌, true, ◌≤◌};
+ghost use Rattle.std.specs.Prelude.{◌≡◌, ◌≤◌};
 ghost use Rattle.bits.specs.Language.{bit};
-ghost use Rattle.bits.specs.View.{Gave, Freely};
-ghost use Rattle.oamd.specs.Block.{object_info_block};
-ghost use Rattle.oamd.specs.Meaning.{resolve};
-ghost use Rattle.scenes.specs.Found.{Made};
+ghost use Rattle.bits.specs.View.{Gave};
+ghost use Rattle.scenes.specs.Found.{SceneFound};
 ghost use Rattle.scenes.specs.Resolved.{active_scene, resolved_block};
 
+use crate::Levels;
 use crate::basic::levels_in;
 use crate::render::shown_in;
-use crate::{Levels, SceneLook, SceneStep};
-use bits::{Cur, Limit};
+use bits::{Cur, Limit, Step};
 use meaning::Shown;
 use oamd::Scene;
+use syntax::Checked;
 use units::BitPos;
 
 fn active_scene(class: u8, levels: Levels, shown: Shown) -> Scene
     ensures { result ≡ active_scene class levels shown }
 {
-    let location = shown.location;
-    let volume = shown.volume;
-    let zone = shown.zone;
-    let screen = shown.screen;
     Scene {
         active: 1,
         class,
         gain: levels.gain,
         priority: levels.priority,
-        location,
-        volume,
-        zone,
-        screen,
+        location: shown.location,
+        volume: shown.volume,
+        zone: shown.zone,
+        screen: shown.screen,
         snap: shown.snap,
     }
 }
 
 // A block, looked at as if nothing could end. An object that is not active is answered at once.
-fn look_scene(s: &[u8], at: BitPos, class: u8, blk: u32, before: Scene, gainbefore: u8) -> SceneLook
+fn look_scene(
+    s: &[u8],
+    at: BitPos,
+    class: u8,
+    blk: u32,
+    before: Scene,
+    gainbefore: u8,
+) -> Checked<Scene>
     requires { at.0 ≤ 4000000000 }
-    ensures { Made (resolve before gainbefore) result.scene (λ b. result.good ≡ true → Freely (object_info_block class blk) (bit s.now) at.0 b result.to) }
+    ensures { SceneFound class blk before gainbefore (bit s.now) at.0 result }
 {
     let p = at.raw();
     let x = bits::window(s, at);
     let idle = bits::look(x, p % 8, 1);
-    if idle.v == 1 {
-        return SceneLook {
-            scene: meaning::idle(class),
-            to: syntax::look_additional(s, p + 1),
+    if idle.value == 1 {
+        return Checked {
+            value: meaning::idle(class),
+            off: syntax::look_additional(s, p + 1),
             good: true,
         };
     }
     let first = blk == 0;
     let basic = syntax::look_status(x, idle.off, false, first);
-    let basic_status = basic.status;
-    let b = levels_in(x, basic.off, basic_status, before, gainbefore);
-    let levels = b.levels;
+    let b = levels_in(x, basic.off, basic.value, before, gainbefore);
     let render = syntax::look_status(x, b.off, class != 2, first);
-    let render_status = render.status;
-    let n = shown_in(s, p - p % 8, x, render.off, render_status, first, before);
-    let shown = n.shown;
-    SceneLook {
-        scene: active_scene(class, levels, shown),
-        to: syntax::look_additional(s, n.to),
+    let n = shown_in(s, p - p % 8, x, render.off, render.value, first, before);
+    Checked {
+        value: active_scene(class, b.value, n.value),
+        off: syntax::look_additional(s, n.off),
         good: n.good,
     }
 }
@@ -75,15 +73,13 @@ fn read_fields(
     blk: u32,
     before: Scene,
     gainbefore: u8,
-) -> SceneStep
-    ensures { Gave (resolved_block class blk before gainbefore) (bit s.now) c l result.scene result.cur }
+) -> Step<Scene>
+    ensures { Gave (resolved_block class blk before gainbefore) (bit s.now) c l result.value result.cur }
 {
     let step = syntax::read_block(s, l, c, class, blk);
-    let block = step.block;
-    let cur = step.cur;
-    SceneStep {
-        scene: meaning::resolved(before, gainbefore, block),
-        cur,
+    Step {
+        value: meaning::resolved(before, gainbefore, step.value),
+        cur: step.cur,
     }
 }
 
@@ -96,27 +92,21 @@ pub fn read_scene(
     blk: u32,
     blockbefore: Scene,
     gainbefore: u8,
-) -> SceneStep
-    ensures { Gave (resolved_block class blk blockbefore gainbefore) (bit s.now) c l result.scene result.cur }
+) -> Step<Scene>
+    ensures { Gave (resolved_block class blk blockbefore gainbefore) (bit s.now) c l result.value result.cur }
 {
-    let at = c.at;
-    if c.no == 0 {
-        if at.raw() <= 4000000000 {
-            let look = look_scene(s, at, class, blk, blockbefore, gainbefore);
-            if look.to <= l.end.raw() {
-                if look.good {
-                    let scene = look.scene;
-                    return SceneStep {
-                        scene,
-                        cur: Cur {
-                            missing: c.missing,
-                            v: 0,
-                            at: BitPos::new(look.to),
-                            no: 0,
-                        },
-                    };
-                }
-            }
+    if c.no == 0 && c.at.raw() <= 4000000000 {
+        let look = look_scene(s, c.at, class, blk, blockbefore, gainbefore);
+        if look.off <= l.end.raw() && look.good {
+            return Step {
+                value: look.value,
+                cur: Cur {
+                    missing: c.missing,
+                    v: 0,
+                    at: BitPos::new(look.off),
+                    no: 0,
+                },
+            };
         }
     }
     read_fields(s, l, c, class, blk, blockbefore, gainbefore)

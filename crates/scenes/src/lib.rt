@@ -2,47 +2,15 @@
 // reserved code, is read field by field, and then resolved.
 #![tactic(auto)]
 
-use bits::Cur;
-use meaning::Shown;
-use oamd::Scene;
-
 mod basic; // basic.rt: object_basic_info, gain and priority
 mod render; // render.rt: object_render_info, position, size, zone, screen and snap
 mod block; // block.rt: the whole block
 
 pub use block::read_scene;
 
-// The scene of a block, and where reading stands behind it.
-#[derive(Clone, Copy)]
-pub struct SceneStep {
-    pub scene: Scene,
-    pub cur: Cur,
-}
-
 // What object_basic_info gives of a scene.
 #[derive(Clone, Copy)]
 pub struct Levels {
     pub gain: u8,
     pub priority: u8,
-}
-
-// Each look: what was found in the windows, and where in the window, or at which position, the next field begins; good, unless a reserved code was met.
-#[derive(Clone, Copy)]
-pub struct LevelsLook {
-    pub levels: Levels,
-    pub off: u32,
-}
-
-#[derive(Clone, Copy)]
-pub struct ShownLook {
-    pub shown: Shown,
-    pub to: u32,
-    pub good: bool,
-}
-
-#[derive(Clone, Copy)]
-pub struct SceneLook {
-    pub scene: Scene,
-    pub to: u32,
-    pub good: bool,
 }

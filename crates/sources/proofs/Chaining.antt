@@ -1,14 +1,13 @@
 -- The loop over a chain: the steps so far, and what is left of it. Assumes nothing.
-use mathlib.Core.Path.{◌≡◌, refl, sym, ap, ap₂, ◌∙◌}
-use mathlib.Core.Bool.{Bool, true, false}
+use mathlib.Core.Path.{◌≡◌, refl, sym, ap, ap₂, ◌∙◌, subst}
+use Rattle.std.specs.Prelude.{Option, None, Some}
 use mathlib.Core.List.{List, [], ◌∷◌, ◌++◌, append_assoc, append-nil, map}
-use Prim.Native.Nat.{ℕ, suc, ◌+◌, ◌-◌, ◌*◌, ◌≤◌, ◌<◌}
+use Prim.Native.Nat.{ℕ, zero, suc, ◌+◌, ◌-◌, ◌*◌, ◌≤◌, ◌<◌}
 use native.Mathlib.Omega.{arith}
+use borrow.Author.Tests.{ne_eqb}
 use native.Mathlib.Nat.{mul-le-mul}
-use lib.Dec.{eqb}
 use lib.ListN.{length, get_or, set, replicate, drop, length-append}
 use lib.Seq.{get_or-take, get_or-drop}
-use Rattle.bits.specs.Language.{pick}
 use Rattle.oamd.specs.Tables.{record_bytes, record_stride}
 use Rattle.oamd.specs.Programme.{filled}
 use Rattle.oamd.specs.Record.{record_bytes_of}
@@ -21,11 +20,10 @@ use Rattle.sources.specs.declared.WhyStep.{WhyStep}
 use Rattle.sources.specs.declared.WhyAnswer.{WhyAnswer}
 use Rattle.sources.specs.declared.Told.{Told}
 use Rattle.sources.specs.declared.Link.{Link}
-use Rattle.sources.specs.Sources.{source_number}
 use Rattle.sources.specs.Chain.{objects_in, blocks_in, no_record, record_at, source_at, Step, behind, chain}
 use Rattle.sources.specs.Explaining.{most_steps, no_step, value_at, told, answer_of, explained, steps_told}
 use Rattle.sources.specs.Lemmas.Records.{among}
-use Rattle.sources.specs.Asked.{payload_in, most_records, Asked, Recorded, told_at, step_of, link_of}
+use Rattle.sources.specs.Asked.{payload_in, most_records, Asked, Recorded, told_at, step_of, if_left, link_of}
 
 -- ---- the record of a block
 
@@ -80,18 +78,26 @@ module _ (s : List ℕ) (byte : ℕ) where
   abbrev tell : Step → WhyStep
   tell = told s (payload_in s) byte
 
-  -- behind a source the chain goes on where the link of its number says
-  linked : (x : Source) (fuel j b : ℕ) → behind x (chain from fuel j (b - 1)) (chain from fuel (j - 1) b)
-      ≡ (let k = link_of (source_number x) j b fuel in chain from k.left k.object k.block)
+  -- the steps from a link on
+  abbrev steps_at : Option Link → List Step
+  steps_at None = []
+  steps_at (Some k) = chain from (suc k.left) k.object k.block
+
+  left-at : (left j b : ℕ) → chain from left j b ≡ steps_at (if_left left (record { object = j; block = b; left = left - 1 }))
   unfolding chain
-  linked (ByField f) fuel j b = refl
-  linked ByProgramme fuel j b = refl
-  linked ByBasicDefault fuel j b = refl
-  linked ByRenderDefault fuel j b = refl
-  linked ByNothing fuel j b = refl
-  linked ByBlock fuel j b = refl
-  linked (ByMove f d) fuel j b = refl
-  linked ByObject fuel j b = refl
+  left-at zero j b = refl
+  left-at (suc n) j b = rw (ne_eqb (suc n) 0 (λ h. omega (arith, h))) (let e : n ≡ suc n - 1 = omega arith in ap (λ (m : ℕ). chain from (suc m) j b) e)
+
+  -- behind a source the chain goes on where its link says
+  linked : (x : Source) (left j b : ℕ) → behind x (chain from left j (b - 1)) (chain from left (j - 1) b) ≡ steps_at (link_of x j b left)
+  linked (ByField f) left j b = refl
+  linked ByProgramme left j b = refl
+  linked ByBasicDefault left j b = refl
+  linked ByRenderDefault left j b = refl
+  linked ByNothing left j b = refl
+  linked ByBlock left j b = left-at left j (b - 1)
+  linked (ByMove f d) left j b = left-at left j (b - 1)
+  linked ByObject left j b = left-at left (j - 1) b
 
   step_is : (n j b value : ℕ) → n ≡ blocks_in (payload_in s) → value ≡ value_at (payload_in s) byte j b
       → step_of (told_at s n byte j b) j b value ≡ tell (record { object = j; block = b; source = from j b })
@@ -100,85 +106,88 @@ module _ (s : List ℕ) (byte : ℕ) where
 
 -- ---- the loop
 
+-- how many steps the array still needs room for
+abbrev pub steps_left : Option Link → ℕ
+steps_left None = 0
+steps_left (Some k) = suc k.left
+
+-- a link leads to an object and a block up to these
+abbrev pub Within : ℕ → ℕ → Option Link → Type 0
+Within object block None = Unit {0}
+Within object block (Some k) = (k.object ≤ object) × (k.block ≤ block)
+
 -- the steps that stand in the array, and what is left: the chain from the link on
-pub record Chaining (s : List ℕ) (object block byte : ℕ) (steps : List WhyStep) (count : ℕ) (link : Link) : Type 0 where
+pub record Chaining (s : List ℕ) (object block byte : ℕ) (steps : List WhyStep) (count : ℕ) (next : Option Link) : Type 0 where
   pub done : List WhyStep
   pub many : length done ≡ count
   pub holds : steps ≡ filled most_steps no_step done
-  pub rest : done ++ map (tell s byte) (chain (from s byte) link.left link.object link.block) ≡ steps_told s (payload_in s) object block byte
-  pub fuel : count + link.left ≤ object + block + 1
-  pub objects : link.object ≤ object
-  pub blocks : link.block ≤ block
+  pub rest : done ++ map (tell s byte) (steps_at s byte next) ≡ steps_told s (payload_in s) object block byte
+  pub fuel : count + steps_left next ≤ object + block + 1
+  pub within : Within object block next
 
-pub chaining_start : (s : List ℕ) (object block byte : ℕ)
-    → Chaining s object block byte (replicate most_steps no_step) 0 (record { object = object; block = block; left = object + block + 1 })
+pub chaining_start : (s : List ℕ) (object block byte left : ℕ) → left ≡ object + block
+    → Chaining s object block byte (replicate most_steps no_step) 0 (Some (record { object = object; block = block; left = left }))
 unfolding steps_told
-chaining_start s object block byte = record {
+chaining_start s object block byte left h = record {
   done = [];
   many = refl;
   holds = refl;
-  rest = refl;
+  rest = let e : suc left ≡ object + block + 1 = omega arith in rw e refl;
   fuel = omega arith;
-  objects = omega arith;
-  blocks = omega arith;
+  within = (omega arith, omega arith);
 }
 
--- the link of a number leads back, or ends
-back : (number j b left : ℕ) → let k = link_of number j b left in (k.left ≤ left) × (k.object ≤ j) × (k.block ≤ b)
-back number j b left = go (eqb number 6) (eqb number 7)
-  where
-    go : (six seven : Bool)
-        → let k : Link = pick six (record { object = j; block = b - 1; left = left }) (pick seven (record { object = j - 1; block = b; left = left }) (record { object = j; block = b; left = 0 })) in
-        (k.left ≤ left) × (k.object ≤ j) × (k.block ≤ b)
-    go true seven = omega arith
-    go false true = omega arith
-    go false false = omega arith
+-- the link behind a source leads back, or there is none
+abbrev Back : ℕ → ℕ → ℕ → Option Link → Type 0
+Back left object block next = (steps_left next ≤ left) × Within object block next
 
-module _ {s : List ℕ} {object block byte : ℕ} {steps : List WhyStep} {count : ℕ} {link : Link} (x : Chaining s object block byte steps count link) where
-  pub chaining_step : {n value : ℕ} {step : WhyStep} {t : Told} {next : Link} → n ≡ blocks_in (payload_in s) → (link.left ≡ 0 → ⊥) → count < most_steps
+back-left : (left j b object block : ℕ) → j ≤ object → b ≤ block → Back left object block (if_left left (record { object = j; block = b; left = left - 1 }))
+back-left zero j b object block h l = (omega arith, tt)
+back-left (suc n) j b object block h l = rw (ne_eqb (suc n) 0 (λ h. omega (arith, h))) (omega arith, (h, l))
+
+back : (x : Source) (left j b object block : ℕ) → j ≤ object → b ≤ block → Back left object block (link_of x j b left)
+back (ByField f) left j b object block h l = (omega arith, tt)
+back ByProgramme left j b object block h l = (omega arith, tt)
+back ByBasicDefault left j b object block h l = (omega arith, tt)
+back ByRenderDefault left j b object block h l = (omega arith, tt)
+back ByNothing left j b object block h l = (omega arith, tt)
+back ByBlock left j b object block h l = back-left left j (b - 1) object block h (omega arith)
+back (ByMove f d) left j b object block h l = back-left left j (b - 1) object block h (omega arith)
+back ByObject left j b object block h l = back-left left (j - 1) b object block (omega arith) l
+
+module _ {s : List ℕ} {object block byte : ℕ} {steps : List WhyStep} {count : ℕ} {link : Link} (x : Chaining s object block byte steps count (Some link)) where
+  pub chaining_step : {n value : ℕ} {step : WhyStep} {t : Told} {next : Option Link} → n ≡ blocks_in (payload_in s) → count < most_steps
       → t ≡ told_at s n byte link.object link.block → value ≡ value_at (payload_in s) byte link.object link.block
-      → step ≡ step_of t link.object link.block value → next ≡ link_of step.source link.object link.block (link.left - 1)
+      → step ≡ step_of t link.object link.block value → next ≡ link_of t.source link.object link.block link.left
       → Chaining s object block byte (set steps count step) (count + 1) next
-  unfolding chain told
-  chaining_step {n} {value} {step} {t} {next} e some room told_is value_is step_of_lem link-is =
+  unfolding chain told told_at
+  chaining_step {n} {value} {step} {t} {next} e room told_is valued step_of_lem link-is =
       let j = link.object in
       let b = link.block in
-      let fuel : ℕ = link.left - 1 in
       let here : Step = record { object = j; block = b; source = from s byte j b } in
-      let k : Link = link_of (source_number (from s byte j b)) j b fuel in
-      let step-told : step ≡ tell s byte here = step_of_lem ∙ ap (λ (t : Told). step_of t j b value) told_is ∙ step_is s byte n j b value e value_is in
-      let next-is : next ≡ k = link-is ∙ ap (λ (w : WhyStep). link_of w.source j b fuel) step-told in
-      let more : link.left ≡ suc fuel = omega arith in
-      let tail : List WhyStep = map (tell s byte) (chain (from s byte) next.left next.object next.block) in
-      let split : step ∷ tail ≡ map (tell s byte) (chain (from s byte) link.left j b) =
-      ap₂ (λ (w : WhyStep) (i : Link). w ∷ map (tell s byte) (chain (from s byte) i.left i.object i.block)) step-told next-is
-      ∙ ap (λ (l : List Step). tell s byte here ∷ map (tell s byte) l) (sym (linked s byte (from s byte j b) fuel j b))
-      ∙ ap (λ (f : ℕ). map (tell s byte) (chain (from s byte) f j b)) (sym more) in
-      let before = back (source_number (from s byte j b)) j b fuel in
-      let left_is : next.left ≡ k.left = ap (λ (i : Link). i.left) next-is in
-      let object-is : next.object ≡ k.object = ap (λ (i : Link). i.object) next-is in
-      let block-is : next.block ≡ k.block = ap (λ (i : Link). i.block) next-is in
+      let step-told : step ≡ tell s byte here = step_of_lem ∙ ap (λ (t : Told). step_of t j b value) told_is ∙ step_is s byte n j b value e valued in
+      let next-is : next ≡ link_of (from s byte j b) j b link.left = link-is ∙ ap (λ (t : Told). link_of t.source j b link.left) told_is in
+      let tail : List WhyStep = map (tell s byte) (steps_at s byte next) in
+      let split : step ∷ tail ≡ map (tell s byte) (chain (from s byte) (suc link.left) j b) =
+      ap₂ (λ (w : WhyStep) (i : Option Link). w ∷ map (tell s byte) (steps_at s byte i)) step-told next-is
+      ∙ ap (λ (l : List Step). tell s byte here ∷ map (tell s byte) l) (sym (linked s byte (from s byte j b) link.left j b)) in
+      let behind = back (from s byte j b) link.left j b object block x.within.0 x.within.1 in
       record {
         done = x.done ++ (step ∷ []);
         many = length-append x.done (step ∷ []) ∙ omega (arith, x.many);
         holds = ap (λ (l : List WhyStep). set l count step) x.holds ∙ filled_next most_steps no_step x.done step count x.many room;
         rest = append_assoc x.done (step ∷ []) tail ∙ ap (λ (l : List WhyStep). x.done ++ l) split ∙ x.rest;
-        fuel = omega (arith, x.fuel);
-        objects = omega (arith, x.objects);
-        blocks = omega (arith, x.blocks);
+        fuel = omega (arith, x.fuel, ap steps_left next-is, behind.0);
+        within = subst (Within object block) (sym next-is) behind.1;
       }
 
-  -- fewer are left
-  pub chaining_less : (step : WhyStep) {next : Link} → (link.left ≡ 0 → ⊥) → next ≡ link_of step.source link.object link.block (link.left - 1)
-      → next.left < link.left
-  chaining_less step {next} some link-is =
-      let less = back step.source link.object link.block (link.left - 1) in
-      omega (arith, ap (λ (k : Link). k.left) link-is)
+-- fewer are left
+pub chaining_less : (x : Source) (k : Link) → steps_left (link_of x k.object k.block k.left) < suc k.left
+chaining_less x k = let less = back x k.left k.object k.block k.object k.block (omega arith) (omega arith) in omega (arith, less.0)
 
-  pub chaining-stop : link.left ≡ 0 → ◌≡◌ {A = WhyAnswer} (record { place = 0; missing = 0; refusal = 0; count = count; steps = steps })
-      (explained (steps_told s (payload_in s) object block byte))
-  unfolding chain
-  chaining-stop z =
-      let all : x.done ≡ steps_told s (payload_in s) object block byte = sym (append-nil x.done) ∙ (rw z at x.rest) in
-      ap₂ (λ (c : ℕ) (l : List WhyStep). record { place = 0; missing = 0; refusal = 0; count = c; steps = l }) (sym x.many) x.holds
-      ∙ ap (answer_of 0 0 0) all
+pub chaining-stop : {s : List ℕ} {object block byte : ℕ} {steps : List WhyStep} {count : ℕ} → Chaining s object block byte steps count None
+    → ◌≡◌ {A = WhyAnswer} (record { place = 0; missing = 0; refusal = 0; count = count; steps = steps }) (explained (steps_told s (payload_in s) object block byte))
+chaining-stop {s} {object} {block} {byte} x =
+    let all : x.done ≡ steps_told s (payload_in s) object block byte = sym (append-nil x.done) ∙ x.rest in
+    ap₂ (λ (c : ℕ) (l : List WhyStep). record { place = 0; missing = 0; refusal = 0; count = c; steps = l }) (sym x.many) x.holds
+    ∙ ap (answer_of 0 0 0) all

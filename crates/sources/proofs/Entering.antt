@@ -1,10 +1,11 @@
 -- The loop over elements, up to the one that is looked for. Assumes nothing.
 use mathlib.Core.Path.{◌≡◌, refl, sym, ap, ◌∙◌, subst₂}
-use mathlib.Core.Bool.{Bool, true, false, false≢true}
+use mathlib.Core.Bool.{Bool, true, false}
 use mathlib.Core.List.{List}
 use Prim.Native.Nat.{ℕ, ◌+◌, ◌*◌, ◌≤◌, ◌<◌}
 use native.Mathlib.Omega.{arith}
 use lib.ListN.{length}
+use Rattle.std.specs.Prelude.{Some, None}
 use Rattle.bits.specs.declared.Cur.{Cur}
 use Rattle.bits.specs.declared.Limit.{Limit}
 use Rattle.bits.specs.Language.{bit}
@@ -31,12 +32,12 @@ between_start b = record { within = omega arith; good = b.good; seeking = b.seek
 
 -- the element that faces is the one
 found_at : (extended : Bool) {s : List ℕ} {alternate n i at : ℕ} (x : Seeking extended s alternate n i at) (f : Facing x) → is_wanted extended f.frame.kind ≡ true → length s ≤ most_bytes
-    → {body end : ℕ} → body ≡ body_at at alternate f.frame.size → end ≡ end_at at f.frame.size → Sought extended s (inside_at body end)
+    → {body end : ℕ} → body ≡ body_at at alternate f.frame.size → end ≡ end_at at f.frame.size → Sought extended s (Some (inside_at body end))
 found_at false {s} {alternate} {at = at} x f match short b e =
     let y = seek-object x f match in
     record {
       told = sym (ap there y.is);
-      entered = λ t. record {
+      entered = record {
         good = refl;
         inner = refl;
         within = omega (arith, f.frame.room);
@@ -48,7 +49,7 @@ found_at true {s} {alternate} {at = at} x f match short b e =
     let y = seek-extended x f match in
     record {
       told = sym (ap there y.is);
-      entered = λ t. record {
+      entered = record {
         good = refl;
         inner = refl;
         within = omega (arith, f.frame.room);
@@ -58,8 +59,8 @@ found_at true {s} {alternate} {at = at} x f match short b e =
     }
 
 -- there is none
-pub not_found : {extended : Bool} {s : List ℕ} {alternate n : ℕ} {cur : Cur} {i : ℕ} → Between extended s alternate n cur i → n ≤ i → {r : Inside} → r.there ≡ false → Sought extended s r
-not_found x l {r} none = record { told = none ∙ sym (seek_none x.seeking l); entered = λ t. absurd (false≢true (sym none ∙ t)) }
+pub not_found : {extended : Bool} {s : List ℕ} {alternate n : ℕ} {cur : Cur} {i : ℕ} → Between extended s alternate n cur i → n ≤ i → Sought extended s None
+not_found x l = record { told = sym (seek_none x.seeking l); entered = tt }
 
 module _ {extended : Bool} {s : List ℕ} {alternate n : ℕ} {cur : Cur} {i : ℕ} (x : Between extended s alternate n cur i) (l : i < n) {limit : Limit} (whole : limit ≡ whole_of s)
     {f : Frame} {d : Cur} (read : Gave (frame alternate) (bit s) cur limit f d) where
@@ -87,7 +88,7 @@ module _ {extended : Bool} {s : List ℕ} {alternate n : ℕ} {cur : Cur} {i : �
 
   -- it is the one
   pub entered : length s ≤ most_bytes → wanted_by extended f.kind ≡ true → {at : ℕ} → at ≡ body_at cur.at.0 alternate f.size → {r : Inside}
-      → r ≡ inside_at at d.at.0 → Sought extended s r
+      → r ≡ inside_at at d.at.0 → Sought extended s (Some r)
   entered short match {at} at-is {r} r-is =
       let y = was_read in
       let kind-is : is_wanted extended here.frame.kind ≡ true =

@@ -1,6 +1,5 @@
 pub mod Rows
 pub mod Spots
-pub mod Naming
 pub mod Chaining
 pub mod Came
 pub mod Framing

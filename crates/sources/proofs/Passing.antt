@@ -1,19 +1,22 @@
 -- Loops that read on and keep nothing; and the way from the header to the elements. Assumes nothing.
 use mathlib.Core.Path.{◌≡◌, refl, sym, subst}
-use mathlib.Core.Bool.{Bool, true, false}
+use mathlib.Core.Bool.{Bool}
 use mathlib.Core.List.{List, [], ◌∷◌, ◌++◌}
 use Prim.Native.Nat.{ℕ, ◌+◌, ◌*◌, ◌≤◌, ◌<◌}
 use native.Mathlib.Omega.{arith}
 use lib.ListN.{length}
+use borrow.Author.Tests.{eq-eqb, ne_eqb}
 use Rattle.bits.specs.declared.Cur.{Cur}
 use Rattle.bits.specs.declared.Limit.{Limit}
+use Rattle.bits.specs.declared.Step.{Step}
 use Rattle.bits.specs.Language.{Bits, P, give, run, ok, bit, when, for, past_payload}
 use Rattle.bits.specs.Steps.{bind_ok}
 use Rattle.bits.specs.View.{Reads, Took}
 use Rattle.bits.proofs.Sticky.{Left, turns, for_step, for-stop, done, plain}
 use Rattle.oamd.specs.ObjectElement.{object_data}
 use Rattle.oamd.specs.Payload.{oa_element_count, object_audio_metadata_payload}
-use Rattle.reader.specs.declared.HeaderStep.{HeaderStep}
+use Rattle.oamd.specs.Programme.{set?}
+use Rattle.reader.specs.declared.Header.{Header}
 use Rattle.reader.specs.Steps.{whole_of, Headed}
 use Rattle.reader.proofs.ObjectLoop.{begun}
 use Rattle.sources.specs.Asked.{payload_in, Accepted}
@@ -40,11 +43,11 @@ module _ {A : Type 0} {n : ℕ} {f : ℕ → P A} {b : Bits} {c : Cur} {l : Limi
   passing-stop {i} x h = record { value = x.vs; reads = done (for-stop n f (λ vs. give vs) i x.vs h x.left) }
 
 -- what is read only if a flag says so
-pub passed_if : {A : Type 0} (on : Bool) (p : P A) (blank : A) {b : Bits} {c d : Cur} {l : Limit} → on ≡ true → Went p b c l d → Went (when on p blank) b c l d
-passed_if on p blank h w = rw h w
+pub passed_if : {A : Type 0} (v : ℕ) (p : P A) (blank : A) {b : Bits} {c d : Cur} {l : Limit} → v ≡ 1 → Went p b c l d → Went (when (set? v) p blank) b c l d
+passed_if v p blank h w = rw (eq-eqb v 1 h) w
 
-pub passed_not : {A : Type 0} (on : Bool) (p : P A) (blank : A) {b : Bits} {c : Cur} {l : Limit} → on ≡ false → Went (when on p blank) b c l c
-passed_not on p blank h = rw h (record { value = blank; reads = plain })
+pub passed_not : {A : Type 0} (v : ℕ) (p : P A) (blank : A) {b : Bits} {c : Cur} {l : Limit} → (v ≡ 1 → ⊥) → Went (when (set? v) p blank) b c l c
+passed_not v p blank h = rw (ne_eqb v 1 h) (record { value = blank; reads = plain })
 
 -- blocks of a class that a call found
 pub reclassed : (n : ℕ) {class class' : ℕ} {b : Bits} {c d : Cur} {l : Limit} → class ≡ class' → Went (object_data n class) b c l d → Went (object_data n class') b c l d
@@ -52,10 +55,10 @@ reclassed n {b = b} {c} {d} {l} h w = subst (λ (class : ℕ). Went (object_data
 
 -- ---- the header, and the count of elements
 
-module _ {s : List ℕ} (a : Accepted s) {h : HeaderStep} (headed : Headed s h) {l : Limit} (whole : l ≡ whole_of s) {count : Cur} (counted : Took oa_element_count 47 (bit s) h.cur l count) where
+module _ {s : List ℕ} (a : Accepted s) {h : Step Header} (headed : Headed s h) {l : Limit} (whole : l ≡ whole_of s) {count : Cur} (counted : Took oa_element_count 47 (bit s) h.cur l count) where
   pub record Opened (extended : Bool) : Type 0 where
-    pub programme : h.programme ≡ (payload_in s).programme
-    pub begun : Begun extended s h.alternate count.v count l
+    pub programme : h.value.programme ≡ (payload_in s).programme
+    pub begun : Begun extended s h.value.alternate count.v count l
 
   pub opened : (extended : Bool) → Opened extended
   unfolding object_audio_metadata_payload

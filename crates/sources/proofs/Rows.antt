@@ -1,10 +1,12 @@
 -- Widths in a row, and how far a line of them lies behind the first. Assumes nothing.
-use mathlib.Core.Path.{◌≡◌, refl, ap, ◌∙◌}
+use mathlib.Core.Path.{◌≡◌, refl, sym, ap, ◌∙◌}
 use mathlib.Core.Bool.{Bool, true, false}
-use mathlib.Core.List.{List, [], ◌∷◌, ◌++◌, map}
-use Prim.Native.Nat.{ℕ, zero, suc, ◌+◌, ◌-◌, ◌≤◌}
+use mathlib.Core.List.{List, [], ◌∷◌, map}
+use Prim.Native.Nat.{ℕ, zero, suc, ◌+◌, ◌≤◌}
 use native.Mathlib.Omega.{arith}
-use lib.ListN.{length, get_or, take, replicate}
+use lib.ListN.{length, get_or, take}
+use Rattle.std.specs.Prelude.{sum}
+use Rattle.std.proofs.lemmas.List.Sums.{sum_by-cons}
 use lib.Dec.{lit≤}
 use Rattle.oamd.specs.declared.Position.{Position}
 use Rattle.oamd.specs.declared.Position.TheVariants.{Absolute, Moved}
@@ -14,43 +16,16 @@ use Rattle.oamd.specs.Block.{has_position, has_zone, has_size, has_screen}
 use Rattle.sources.specs.Offsets.{Lines, no_more, span, offset_at, in_row, is_mixed, position_lines, distance_lines, zone_lines, extent_lines, screen_lines}
 use Rattle.sources.specs.Offsets.{render_lines, sum_to, span_to}
 
--- n is none of the numbers below k
-abbrev pub Off : ℕ → ℕ → Type 0
-Off n zero = Unit
-Off n (suc k) = Off n k × (n ≡ k → ⊥)
-
-pub past : (n k : ℕ) → Off n k → k ≤ n
-past n zero h = omega arith
-past n (suc k) h = let l = past n k h.0 in omega (arith, h.1)
-
 -- ---- sums
 
-pub nothing_more : (k n : ℕ) → sum_to n (replicate k 0) ≡ 0
+-- as the code has them: the first n of them
+pub sum-to : (n : ℕ) (ws : List ℕ) → sum_to n ws ≡ sum (take n ws)
 unfolding sum_to
-nothing_more zero zero = refl
-nothing_more zero (suc n) = refl
-nothing_more (suc k) zero = refl
-nothing_more (suc k) (suc n) = let e = nothing_more k n in omega arith
-
-pub padded : (k n : ℕ) (ws : List ℕ) → sum_to n (ws ++ replicate k 0) ≡ sum_to n ws
-unfolding sum_to
-padded k zero [] = nothing_more k 0
-padded k (suc n) [] = nothing_more k (suc n)
-padded k zero (w ∷ ws) = refl
-padded k (suc n) (w ∷ ws) = ap (λ (x : ℕ). w + x) (padded k n ws)
-
-pub all_of : (n : ℕ) (ws : List ℕ) → length ws ≤ n → sum_to n ws ≡ sum_to (length ws) ws
-unfolding sum_to
-all_of zero [] h = refl
-all_of (suc n) [] h = refl
-all_of zero (w ∷ ws) h = absurd (omega arith)
-all_of (suc n) (w ∷ ws) h = ap (λ (x : ℕ). w + x) (all_of n ws (omega arith))
+sum-to zero ws = refl
+sum-to (suc n) [] = refl
+sum-to (suc n) (w ∷ ws) = ap (λ (x : ℕ). w + x) (sum-to n ws) ∙ sym (sum_by-cons (λ x. x) w (take n ws))
 
 -- ---- lines
-
--- widths of lines, filled up with 0
-pub of-lines : {r : ℕ} (k n : ℕ) (ws : List ℕ) (ls : List Lines) → r ≡ sum_to n ws → ws ≡ map span ls ++ replicate k 0 → r ≡ span_to n ls
-of-lines k n ws ls h e = h ∙ ap (sum_to n) e ∙ padded k n (map span ls)
 
 pub row-offset : (n : ℕ) (ls : List Lines) → offset_at (n ∷ []) (in_row ls) ≡ span_to n ls
 unfolding offset_at sum_to
@@ -67,11 +42,6 @@ whole (suc n) [] h = refl
 whole zero (l ∷ ls) h = absurd (omega arith)
 whole (suc n) (l ∷ ls) h = ap (λ (x : ℕ). span l + x) (whole n ls (omega arith))
 
-pub behind-first : (n : ℕ) (l : Lines) (ls : List Lines) → 1 ≤ n → span_to n (l ∷ ls) ≡ span l + span_to (n - 1) ls
-unfolding sum_to
-behind-first zero l ls h = absurd (omega arith)
-behind-first (suc n) l ls h = let e : suc n - 1 ≡ n = omega arith in rw e
-
 -- ---- object_render_info
 
 position-length : (on begins : Bool) (p : Position) → length (position_lines on begins 0 p) ≤ 5
@@ -85,7 +55,7 @@ pub groups : (begins : Bool) (n : Render) → (parts position distance zone exte
     → position ≡ offset_at (5 ∷ []) (get_or (render_lines begins 0 n) 1 no_more) → distance ≡ offset_at (3 ∷ []) (get_or (render_lines begins 0 n) 2 no_more)
     → zone ≡ offset_at (2 ∷ []) (get_or (render_lines begins 0 n) 3 no_more) → extent ≡ offset_at (5 ∷ []) (get_or (render_lines begins 0 n) 4 no_more)
     → screen ≡ offset_at (3 ∷ []) (get_or (render_lines begins 0 n) 5 no_more)
-    → parts ∷ position ∷ distance ∷ zone ∷ extent ∷ screen ∷ [] ≡ map span (take 6 (render_lines begins 0 n)) ++ replicate 0 0
+    → parts ∷ position ∷ distance ∷ zone ∷ extent ∷ screen ∷ [] ≡ map span (take 6 (render_lines begins 0 n))
 unfolding span render_lines distance_lines zone_lines extent_lines screen_lines
 groups begins n parts position distance zone extent screen p q d z e s =
     let on = has_position n.parts in

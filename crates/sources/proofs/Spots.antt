@@ -1,13 +1,11 @@
 -- The offset of a field by its line in numbers. Assumes nothing.
-use mathlib.Core.Path.{◌≡◌, refl, ap, ◌∙◌}
-use mathlib.Core.Bool.{Bool, true, false, not}
+use mathlib.Core.Path.{◌≡◌, refl, sym, ap, ◌∙◌}
+use mathlib.Core.Bool.{Bool, true, false, ◌||◌}
+use Rattle.bits.specs.Language.{pick}
 use mathlib.Core.List.{◌∷◌, []}
 use Prim.Native.Nat.{ℕ, ◌+◌}
 use native.Mathlib.Omega.{arith}
-use lib.Dec.{eqb}
 use lib.ListN.{get_or, take}
-use borrow.Author.Tests.{eq-eqb, ne_eqb}
-use Rattle.bits.specs.Language.{pick, both}
 use Rattle.oamd.specs.declared.Block.{Block}
 use Rattle.oamd.specs.declared.Divergence.{Divergence}
 use Rattle.oamd.specs.declared.Precise.{Precise}
@@ -17,6 +15,7 @@ use Rattle.sources.specs.declared.Field.TheVariants.{DistanceSpecified, AtInfini
 use Rattle.sources.specs.declared.Field.TheVariants.{ScreenRef, ScreenFactor, DepthIdx, Snap, ObjectDivergence, DivMode, DivTable, DivCode, Presence}
 use Rattle.sources.specs.declared.Field.TheVariants.{PreciseX, PreciseY, PreciseZ}
 use Rattle.sources.specs.declared.Spot.{Spot}
+use Rattle.sources.specs.declared.Spot.TheVariants.{InBlock, InBasic, InRender, InDivergence, InPrecise}
 use Rattle.sources.specs.Offsets.{no_more, span, offset_at, status_lines, basic_idle, render_idle, basic_lines, distance_lines, zone_lines, extent_lines, screen_lines, render_lines}
 use Rattle.sources.specs.Offsets.{block_lines, divergence_lines, precise_lines, offset_in, offset_in_divergence, offset_in_precise, sum_to, span_to, spot_of}
 
@@ -28,11 +27,12 @@ abbrev pub render_at : Bool → Block → ℕ
 render_at begins b = basic_at begins b + span_to 5 (basic_lines b.basic) + span (status_lines (render_idle b) begins 0)
 
 abbrev pub in_block : Spot → Bool → Block → ℕ
-in_block s begins b =
-    pick (both (eqb s.0 0) (not (eqb s.1 0)))
-    (pick (eqb s.1 2) (basic_at begins b + span_to s.2 (basic_lines b.basic))
-    (render_at begins b + span_to s.2 (take 6 (render_lines begins 0 b.render)) + offset_at (s.3 ∷ []) (get_or (render_lines begins 0 b.render) s.2 no_more)))
-    0
+in_block InBlock begins b = 0
+in_block (InBasic line) begins b = basic_at begins b + span_to line (basic_lines b.basic)
+in_block (InRender group line) begins b =
+    render_at begins b + span_to group (take 6 (render_lines begins 0 b.render)) + offset_at (line ∷ []) (get_or (render_lines begins 0 b.render) group no_more)
+in_block (InDivergence line) begins b = 0
+in_block (InPrecise line) begins b = 0
 
 in-block : (f : Field) (begins : Bool) (b : Block) → in_block (spot_of f) begins b ≡ offset_in f begins b
 unfolding offset_in offset_at block_lines span sum_to basic_lines render_lines distance_lines zone_lines extent_lines screen_lines
@@ -70,24 +70,21 @@ in-block PreciseX begins b = refl
 in-block PreciseY begins b = refl
 in-block PreciseZ begins b = refl
 
--- by the tests and the sums of the code
-module _ (f : Field) (begins : Bool) (b : Block) (s : Spot) (t : Bool) (e : s ≡ spot_of f) (q : t ≡ both (eqb s.0 0) (not (eqb s.1 0))) where
-  found : {r : ℕ} → r ≡ in_block s begins b → r ≡ offset_in f begins b
-  found h = h ∙ ap (λ (x : Spot). in_block x begins b) e ∙ in-block f begins b
+abbrev pub in_div : Spot → Divergence → ℕ
+in_div InBlock d = 0
+in_div (InBasic line) d = 0
+in_div (InRender group line) d = 0
+in_div (InDivergence line) d = span_to line (divergence_lines d 0 0)
+in_div (InPrecise line) d = 0
 
-  pub of-basic : (w l : ℕ) → t ≡ true → s.1 ≡ 2 → w ≡ span (status_lines (basic_idle b) begins 0) → l ≡ span_to s.2 (basic_lines b.basic)
-      → 1 + w + l ≡ offset_in f begins b
-  of-basic w l h two x y = found (rw (x, y, ← q, h, two))
+abbrev pub in_prec : Spot → Precise → ℕ
+in_prec InBlock p = 0
+in_prec (InBasic line) p = 0
+in_prec (InRender group line) p = 0
+in_prec (InDivergence line) p = 0
+in_prec (InPrecise line) p = span_to line (precise_lines p)
 
-  pub of-render : (w l w' g k : ℕ) → t ≡ true → (s.1 ≡ 2 → ⊥) → w ≡ span (status_lines (basic_idle b) begins 0) → l ≡ span_to 5 (basic_lines b.basic)
-      → w' ≡ span (status_lines (render_idle b) begins 0) → g ≡ span_to s.2 (take 6 (render_lines begins 0 b.render))
-      → k ≡ offset_at (s.3 ∷ []) (get_or (render_lines begins 0 b.render) s.2 no_more) → 1 + w + l + w' + g + k ≡ offset_in f begins b
-  of-render w l w' g k h other x y z u v = found (rw (x, y, z, u, v, ← q, h, ne_eqb s.1 2 other))
-
-  pub of_others : t ≡ false → 0 ≡ offset_in f begins b
-  of_others h = found (rw (← q, h))
-
-pub in-divergence : (f : Field) (d : Divergence) → pick (eqb (spot_of f).0 1) (span_to (spot_of f).1 (divergence_lines d 0 0)) 0 ≡ offset_in_divergence f d
+in-divergence : (f : Field) (d : Divergence) → in_div (spot_of f) d ≡ offset_in_divergence f d
 unfolding offset_in_divergence offset_at span sum_to divergence_lines
 in-divergence NotActive d = refl
 in-divergence GainIdx d = refl
@@ -123,7 +120,7 @@ in-divergence PreciseX d = refl
 in-divergence PreciseY d = refl
 in-divergence PreciseZ d = refl
 
-pub in-precise : (f : Field) (p : Precise) → pick (eqb (spot_of f).0 2) (span_to (spot_of f).1 (precise_lines p)) 0 ≡ offset_in_precise f p
+in-precise : (f : Field) (p : Precise) → in_prec (spot_of f) p ≡ offset_in_precise f p
 unfolding offset_in_precise offset_at span sum_to precise_lines
 in-precise NotActive p = refl
 in-precise GainIdx p = refl
@@ -159,13 +156,39 @@ in-precise PreciseX p = refl
 in-precise PreciseY p = refl
 in-precise PreciseZ p = refl
 
--- by the clause, k, and what stands before a line of it
-module _ {s u : Spot} (e : s ≡ u) (k : ℕ) (before : ℕ → ℕ) {x : ℕ} (law : pick (eqb u.0 k) (before u.1) 0 ≡ x) where
-  retold : pick (eqb s.0 k) (before s.1) 0 ≡ x
-  retold = ap (λ (y : Spot). pick (eqb y.0 k) (before y.1) 0) e ∙ law
+-- as the code tells that nothing is sent in object_render_info
+pub either-is : (a b : Bool) → (a || b) ≡ pick a true b
+either-is true b = refl
+either-is false b = refl
 
-  pub of-clause : {r : ℕ} → s.0 ≡ k → r ≡ before s.1 → r ≡ x
-  of-clause h q = q ∙ (rw (eq-eqb s.0 k h) at retold)
+-- by what the code found the line to be, k, and by what stands before it there
+pub of-block : {s k : Spot} (f : Field) → s ≡ spot_of f → s ≡ k → (begins : Bool) (b : Block) → in_block k begins b ≡ offset_in f begins b
+of-block f e is begins b = ap (λ (x : Spot). in_block x begins b) (sym is ∙ e) ∙ in-block f begins b
 
-  pub of-another : (s.0 ≡ k → ⊥) → 0 ≡ x
-  of-another h = rw (ne_eqb s.0 k h) at retold
+pub of-divergence : {s k : Spot} (f : Field) → s ≡ spot_of f → s ≡ k → (d : Divergence) → in_div k d ≡ offset_in_divergence f d
+of-divergence f e is d = ap (λ (x : Spot). in_div x d) (sym is ∙ e) ∙ in-divergence f d
+
+pub of-precise : {s k : Spot} (f : Field) → s ≡ spot_of f → s ≡ k → (p : Precise) → in_prec k p ≡ offset_in_precise f p
+of-precise f e is p = ap (λ (x : Spot). in_prec x p) (sym is ∙ e) ∙ in-precise f p
+
+-- a line of another clause
+pub no-block : (s : Spot) (begins : Bool) (b : Block) → ((line : ℕ) → s ≡ InBasic line → ⊥) → ((group line : ℕ) → s ≡ InRender group line → ⊥) → 0 ≡ in_block s begins b
+no-block InBlock begins b x y = refl
+no-block (InBasic line) begins b x y = absurd (x line refl)
+no-block (InRender group line) begins b x y = absurd (y group line refl)
+no-block (InDivergence line) begins b x y = refl
+no-block (InPrecise line) begins b x y = refl
+
+pub no_divergence : (s : Spot) (d : Divergence) → ((line : ℕ) → s ≡ InDivergence line → ⊥) → 0 ≡ in_div s d
+no_divergence InBlock d x = refl
+no_divergence (InBasic line) d x = refl
+no_divergence (InRender group line) d x = refl
+no_divergence (InDivergence line) d x = absurd (x line refl)
+no_divergence (InPrecise line) d x = refl
+
+pub no-precise : (s : Spot) (p : Precise) → ((line : ℕ) → s ≡ InPrecise line → ⊥) → 0 ≡ in_prec s p
+no-precise InBlock p x = refl
+no-precise (InBasic line) p x = refl
+no-precise (InRender group line) p x = refl
+no-precise (InDivergence line) p x = refl
+no-precise (InPrecise line) p x = absurd (x line refl)

@@ -7,7 +7,9 @@ use native.Mathlib.Omega.{arith}
 use lib.Dec.{eqb}
 use lib.ListN.{get_or, get_or-append}
 use lib.Seq.{get_or-append-add}
-use Rattle.bits.specs.Language.{pick, both, Bits, P, bit}
+use Rattle.std.specs.Prelude.{Option}
+use Rattle.std.specs.Option.{option_map_or}
+use Rattle.bits.specs.Language.{both, Bits, P, bit}
 use Rattle.bits.specs.Bytes.{bit_lt}
 use Rattle.oamd.specs.declared.Status.{Status}
 use Rattle.oamd.specs.declared.Status.TheVariants.{Default, Full, Reuse, Mixed}
@@ -158,7 +160,7 @@ arrived s n j b clause {p} {at = at} {e} {o} m f c =
     ∙ subst (λ (path : List ℕ). bit_of s (path_of s n j b clause path) ≡ arrival path p (bit s) at e o) (sym x.2) (m.comes x.0 x.1)
 
 bit-named : (s : List ℕ) (n j b at : ℕ) (off : Field → ℕ) (x : Source) → Named (λ f. field_bit s n j b f ≡ at + off f) x
-    → pick (named_by x).there (at + off (named_by x).field) 0 ≡ source_bit s n j b x
+    → option_map_or (λ (y : declared-named.Named). at + off y.field) (named_by x) 0 ≡ source_bit s n j b x
 bit-named s n j b at off (ByField f) h = sym h
 bit-named s n j b at off ByProgramme h = refl
 bit-named s n j b at off ByBasicDefault h = refl
@@ -169,20 +171,20 @@ bit-named s n j b at off (ByMove f d) h = sym h
 bit-named s n j b at off ByObject h = refl
 
 -- both together
-told_as : (s : List ℕ) (n j b byte at : ℕ) {bit : ℕ} {source : Source} {named : declared-named.Named} (off : Field → ℕ) → source ≡ source_at s (payload_in s) byte j b → named ≡ named_by source
-    → bit ≡ pick named.there (at + off named.field) 0 → Named (λ f. field_bit s n j b f ≡ at + off f) source
+told_as : (s : List ℕ) (n j b byte at : ℕ) {bit : ℕ} {source : Source} {named : Option declared-named.Named} (off : Field → ℕ) → source ≡ source_at s (payload_in s) byte j b → named ≡ named_by source
+    → bit ≡ option_map_or (λ (y : declared-named.Named). at + off y.field) named 0 → Named (λ f. field_bit s n j b f ≡ at + off f) source
     → ◌≡◌ {A = Told} (record { source = source; bit = bit }) (told_at s n byte j b)
 unfolding told_at
 told_as s n j b byte at {bit} {source} off source_is named-is bit_is h =
     let here : bit ≡ source_bit s n j b source =
-    bit_is ∙ ap (λ (x : declared-named.Named). pick x.there (at + off x.field) 0) named-is ∙ bit-named s n j b at off source h in
+    bit_is ∙ ap (λ (o : Option declared-named.Named). option_map_or (λ (y : declared-named.Named). at + off y.field) o 0) named-is ∙ bit-named s n j b at off source h in
     ap₂ (λ (x : Source) (k : ℕ). record { source = x; bit = k }) source_is (here ∙ ap (source_bit s n j b) source_is)
 
 -- ---- of a block
 
 module _ {s : List ℕ} {n j b : ℕ} (a : Asked s n j b) where
-  pub scene-told : {byte : ℕ} {r : Placed} {source : Source} {named : declared-named.Named} {bit : ℕ} → named ≡ named_by source → byte < scene_count → BlockFound s n j b r → source ≡ get_or (scene_sources (eqb j 0) r.block) byte ByNothing
-      → bit ≡ pick named.there (r.at + offset_in named.field (eqb b 0) r.block) 0 → ◌≡◌ {A = Told} (record { source = source; bit = bit }) (told_at s n byte j b)
+  pub scene-told : {byte : ℕ} {r : Placed} {source : Source} {named : Option declared-named.Named} {bit : ℕ} → named ≡ named_by source → byte < scene_count → BlockFound s n j b r → source ≡ get_or (scene_sources (eqb j 0) r.block) byte ByNothing
+      → bit ≡ option_map_or (λ (y : declared-named.Named). r.at + offset_in y.field (eqb b 0) r.block) named 0 → ◌≡◌ {A = Told} (record { source = source; bit = bit }) (told_at s n byte j b)
   scene-told {byte} {r} named-is l found source_is bit_is =
       let R : Field → Type 0 = λ f. field_bit s n j b f ≡ r.at + offset_in f (eqb b 0) r.block in
       let m = found.here.meets in
@@ -231,8 +233,8 @@ module _ {s : List ℕ} {n j b : ℕ} (a : Asked s n j b) where
     precise-source k =
         get_or-append-add (divergence_sources (divergence_sent s (payload_in s) j b) noted.divergence) (precise_sources (presence_sent s (payload_in s) j b) noted.precise) k ByNothing
 
-    pub divergence-told : {k : ℕ} {d : Divergence} {x : Extra} {source : Source} {named : declared-named.Named} {bit : ℕ} → named ≡ named_by source → k < 3 → d ≡ Rattle.record.specs.Bytes.divergence_at records (record_stride * i) → DivergenceFound s n j b x
-        → source ≡ get_or (divergence_sources x.sent d) k ByNothing → bit ≡ pick named.there (x.at + offset_in_divergence named.field d) 0
+    pub divergence-told : {k : ℕ} {d : Divergence} {x : Extra} {source : Source} {named : Option declared-named.Named} {bit : ℕ} → named ≡ named_by source → k < 3 → d ≡ Rattle.record.specs.Bytes.divergence_at records (record_stride * i) → DivergenceFound s n j b x
+        → source ≡ get_or (divergence_sources x.sent d) k ByNothing → bit ≡ option_map_or (λ (y : declared-named.Named). x.at + offset_in_divergence y.field d) named 0
         → ◌≡◌ {A = Told} (record { source = source; bit = bit }) (told_at s n (divergence_byte + k) j b)
     divergence-told {k} {d} {x} {source} named-is l d-is found source_is bit_is =
         let own : d ≡ noted.divergence = d-is ∙ ap (λ (r : Record). r.divergence) record_is in
@@ -247,8 +249,8 @@ module _ {s : List ℕ} {n j b : ℕ} (a : Asked s n j b) where
         told_as s n j b (divergence_byte + k) x.at (λ f. offset_in_divergence f d) (listed-as ∙ sym (divergence-source k l) ∙ sym (extra-source k)) named-is bit_is
         (subst (Named R) (sym listed-as) (divergence-named R _ _ _ _ quiet_here field k l))
 
-    pub precise-told : {k : ℕ} {p : Precise} {x : Extra} {source : Source} {named : declared-named.Named} {bit : ℕ} → named ≡ named_by source → k < 4 → p ≡ Rattle.record.specs.Bytes.precise_at records (record_stride * i) → PreciseFound s n j b x
-        → source ≡ get_or (precise_sources x.sent p) k ByNothing → bit ≡ pick named.there (x.at + offset_in_precise named.field p) 0
+    pub precise-told : {k : ℕ} {p : Precise} {x : Extra} {source : Source} {named : Option declared-named.Named} {bit : ℕ} → named ≡ named_by source → k < 4 → p ≡ Rattle.record.specs.Bytes.precise_at records (record_stride * i) → PreciseFound s n j b x
+        → source ≡ get_or (precise_sources x.sent p) k ByNothing → bit ≡ option_map_or (λ (y : declared-named.Named). x.at + offset_in_precise y.field p) named 0
         → ◌≡◌ {A = Told} (record { source = source; bit = bit }) (told_at s n (precise_byte + k) j b)
     precise-told {k} {p} {x} {source} named-is l p-is found source_is bit_is =
         let own : p ≡ noted.precise = p-is ∙ ap (λ (r : Record). r.precise) record_is in

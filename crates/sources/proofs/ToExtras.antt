@@ -9,8 +9,11 @@ use native.Mathlib.Nat.{zero-mul}
 use borrow.Author.Tests.{eq-eqb, ne_eqb}
 use lib.Dec.{eqb}
 use lib.ListN.{length, get_or, replicate}
+use Rattle.std.specs.Prelude as prelude
+use Rattle.std.specs.Prelude.{Some, None, is_some}
 use Rattle.bits.specs.declared.Cur.{Cur}
 use Rattle.bits.specs.declared.Limit.{Limit}
+use Rattle.bits.specs.declared.Step.{Step}
 use Rattle.bits.specs.Language.{P, give, ◌>>=◌, both, bits, bits_if, bit, when, each, from, for, past_declared}
 use Rattle.bits.specs.Steps.{give_ok}
 use Rattle.bits.specs.View.{over_of, Reads}
@@ -23,7 +26,7 @@ use Rattle.oamd.specs.Meaning.{idle}
 use Rattle.oamd.specs.Record.{Record, carries, all_carry}
 use Rattle.oamd.specs.Element.{scenes}
 use Rattle.record.specs.Bytes.{scene_at}
-use Rattle.reader.specs.declared.HeaderStep.{HeaderStep}
+use Rattle.reader.specs.declared.Header.{Header}
 use Rattle.reader.specs.Steps.{Headed}
 use Rattle.demands.specs.Terms.{tables_of}
 use Rattle.sources.specs.declared.Inside.{Inside}
@@ -68,7 +71,7 @@ module _ {s records : List ℕ} {n j b : ℕ} (a : Asked s n j b) (r : Recorded 
   abbrev pub count : ℕ
   count = objects_in (payload_in s) * blocks_in (payload_in s)
 
-  pub counted : {h : HeaderStep} → Headed s h → h.programme.objects * n ≡ count
+  pub counted : {h : Step Header} → Headed s h → h.value.programme.objects * n ≡ count
   counted headed = ap₂ (λ (p : Programme) (m : ℕ). p.objects * m) (programme_is a.accepted headed) a.blocks
 
   carry_long : length carry ≡ count
@@ -205,37 +208,32 @@ module _ {s records : List ℕ} {n j b : ℕ} (a : Asked s n j b) (r : Recorded 
   pub room-up_to : {m : ℕ} → m ≤ count a r → Room records m
   room-up_to l = record { few = omega (arith, count-few); fits = omega (arith, r.room) }
 
-  pub all-passed : (t : Bool) {m : ℕ} {c d : Cur} {l : Limit} → m ≡ count a r
-      → Went (when t (for m (λ i. obj_div_block (carries_at records i))) (replicate m no_divergence)) (bit s) c l d
-      → Went (when t (for (count a r) (λ i. obj_div_block (carries_at records i))) (replicate (count a r) no_divergence)) (bit s) c l d
-  all-passed t {c = c} {d} {l} is w = subst (λ (m : ℕ). Went (when t (for m (λ i. obj_div_block (carries_at records i))) (replicate m no_divergence)) (bit s) c l d) is w
-
-module _ {s records : List ℕ} {n j b : ℕ} (a : Asked s n j b) (r : Recorded s records) {i : Inside} (sought : Sought true s i) where
+module _ {s records : List ℕ} {n j b : ℕ} (a : Asked s n j b) (r : Recorded s records) {o : prelude.Option Inside} (sought : Sought true s o) where
   abbrev extended : Option Extension
   extended = (payload_in s).known.extended
 
   -- there is no such element
-  absent-divergence : i.there ≡ false → divergence_sent s (payload_in s) j b ≡ false
+  absent-divergence : is_some o ≡ false → divergence_sent s (payload_in s) j b ≡ false
   unfolding divergence_sent
   absent-divergence h = rw (sym sought.told ∙ h)
 
-  pub divergence-absent : i.there ≡ false → {x : Extra} → x ≡ record { sent = false; at = 0 } → DivergenceFound s n j b x
+  pub divergence-absent : is_some o ≡ false → {x : Extra} → x ≡ record { sent = false; at = 0 } → DivergenceFound s n j b x
   divergence-absent h is = rw is (unsent-divergence (absent-divergence h))
 
-  absent-precise : i.there ≡ false → presence_sent s (payload_in s) j b ≡ false
+  absent-precise : is_some o ≡ false → presence_sent s (payload_in s) j b ≡ false
   unfolding presence_sent
   absent-precise h = rw (sym sought.told ∙ h)
 
-  pub precise-absent : i.there ≡ false → {x : Extra} → x ≡ record { sent = false; at = 0 } → PreciseFound s n j b x
+  pub precise-absent : is_some o ≡ false → {x : Extra} → x ≡ record { sent = false; at = 0 } → PreciseFound s n j b x
   precise-absent h is = rw is (unsent-precise (absent-precise h))
 
-  module _ (there : i.there ≡ true) where
+  module _ {i : Inside} (is : o ≡ Some i) where
     abbrev e : Entered true s i.cur i.held
-    e = sought.entered there
+    e = (rw is at sought).entered
 
     -- whether it can carry anything there is whether the record can
     may-carry : may_carry (payload_in s) j b ≡ carries_at records (k a r)
-    may-carry = rw (sym sought.told ∙ there) (sym (carries_here a r))
+    may-carry = rw (sym sought.told ∙ ap is_some is) (sym (carries_here a r))
 
     -- the entries of the record
     own-divergence : get_or e.found.value.divergence (k a r) no_divergence ≡ (record_at (payload_in s) j b).divergence

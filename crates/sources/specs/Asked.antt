@@ -1,5 +1,5 @@
 -- What the functions on the way to an answer ask, and what they promise. Each is called for a payload that was read.
-use Rattle.std.specs.Prelude.{◌≡◌, true, false, List, ℕ, ◌-◌, ◌*◌, ◌≤◌, ◌<◌, eqb, length, get_or}
+use Rattle.std.specs.Prelude.{◌≡◌, Option, None, Some, List, ℕ, ◌-◌, ◌*◌, ◌≤◌, ◌<◌, eqb, length, get_or}
 use Rattle.bits.specs.Language.{Res, ok, no, pick}
 use Rattle.oamd.specs.Tables.{most_bytes, most_objects, most_blocks, record_stride}
 use Rattle.oamd.specs.Element.{nothing}
@@ -8,7 +8,6 @@ use Rattle.oamd.specs.Answer.{no_programme}
 use Rattle.demands.specs.Terms.{parsed, tables_of}
 use Rattle.sources.specs.declared.Source.{Source}
 use Rattle.sources.specs.declared.Source.TheVariants.{ByField, ByProgramme, ByBasicDefault, ByRenderDefault, ByNothing, ByBlock, ByMove, ByObject}
-use Rattle.sources.specs.declared.Field.TheVariants.{NotActive}
 use Rattle.sources.specs.declared.WhyStep.{WhyStep}
 use Rattle.sources.specs.declared.Told.{Told}
 use Rattle.sources.specs.declared.Named.{Named}
@@ -55,18 +54,15 @@ pub record Recorded (s records : List ℕ) : Type 0 where
 -- ---- a step
 
 -- the field that a source names, with the difference in it, as carried
-abbrev pub unnamed : Named
-unnamed = record { there = false; field = NotActive; difference = 0 }
-
-abbrev pub named_by : Source → Named
-named_by (ByField f) = record { there = true; field = f; difference = 0 }
-named_by ByProgramme = unnamed
-named_by ByBasicDefault = unnamed
-named_by ByRenderDefault = unnamed
-named_by ByNothing = unnamed
-named_by ByBlock = unnamed
-named_by (ByMove f d) = record { there = true; field = f; difference = d }
-named_by ByObject = unnamed
+abbrev pub named_by : Source → Option Named
+named_by (ByField f) = Some (record { field = f; difference = 0 })
+named_by ByProgramme = None
+named_by ByBasicDefault = None
+named_by ByRenderDefault = None
+named_by ByNothing = None
+named_by ByBlock = None
+named_by (ByMove f d) = Some (record { field = f; difference = d })
+named_by ByObject = None
 
 -- where a byte of a record comes from, and the first bit of the field that this names
 unfoldable pub told_at : List ℕ → ℕ → ℕ → ℕ → ℕ → Told
@@ -85,9 +81,17 @@ step_of told j b value = record {
   difference = source_difference told.source;
 }
 
--- where a chain goes on behind a step at block b of object j whose source has a number, with so many steps left
-abbrev pub link_of : ℕ → ℕ → ℕ → ℕ → Link
-link_of number j b left =
-    pick (eqb number 6) (record { object = j; block = b - 1; left = left })
-    (pick (eqb number 7) (record { object = j - 1; block = b; left = left })
-    (record { object = j; block = b; left = 0 }))
+-- if any step is left
+abbrev pub if_left : ℕ → Link → Option Link
+if_left left next = pick (eqb left 0) None (Some next)
+
+-- where a chain goes on behind a step whose source is x, at block b of object j, with so many steps left behind it
+abbrev pub link_of : Source → ℕ → ℕ → ℕ → Option Link
+link_of (ByField f) j b left = None
+link_of ByProgramme j b left = None
+link_of ByBasicDefault j b left = None
+link_of ByRenderDefault j b left = None
+link_of ByNothing j b left = None
+link_of ByBlock j b left = if_left left (record { object = j; block = b - 1; left = left - 1 })
+link_of (ByMove f d) j b left = if_left left (record { object = j; block = b - 1; left = left - 1 })
+link_of ByObject j b left = if_left left (record { object = j - 1; block = b; left = left - 1 })

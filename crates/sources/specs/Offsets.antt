@@ -19,6 +19,7 @@ use Rattle.oamd.specs.Block.{has_gain, has_priority, has_position, has_zone, has
 use Rattle.oamd.specs.Extended.{has_x, has_y, has_z}
 use Rattle.sources.specs.declared.Field.{Field}
 use Rattle.sources.specs.declared.Spot.{Spot}
+use Rattle.sources.specs.declared.Spot.TheVariants.{InBlock, InBasic, InRender, InDivergence, InPrecise}
 use Rattle.sources.specs.Sources.{Clause, info_block, div_block, prec_block, line_of}
 
 -- ---- what the lines of a clause carry
@@ -194,9 +195,16 @@ sum_to (suc n) (w ∷ ws) = w + sum_to n ws
 abbrev pub span_to : ℕ → List Lines → ℕ
 span_to n ls = sum_to n (map span ls)
 
--- the line of a field in numbers: the clause, and its path, filled up with 0
+-- the line of a field, by its clause and path; what the path does not go into is 0
+abbrev pub spot_in : Clause → List ℕ → Spot
+spot_in info_block path =
+    pick (eqb (get_or path 0 0) 2) (InBasic (get_or path 1 0))
+    (pick (eqb (get_or path 0 0) 4) (InRender (get_or path 1 0) (get_or path 2 0)) InBlock)
+spot_in div_block path = InDivergence (get_or path 0 0)
+spot_in prec_block path = InPrecise (get_or path 0 0)
+
 abbrev pub spot_of : Field → Spot
-spot_of f = record { 0 = by_clause (line_of f).clause 0 1 2; 1 = get_or (line_of f).path 0 0; 2 = get_or (line_of f).path 1 0; 3 = get_or (line_of f).path 2 0 }
+spot_of f = spot_in (line_of f).clause (line_of f).path
 
 -- r is the offset x, and small
 pub record Offset (most x r : ℕ) : Type 0 where

@@ -1,5 +1,5 @@
 -- What the functions promise that read a payload again from its first bit on: where they come to.
-use Rattle.std.specs.Prelude.{◌≡◌, Bool, true, false, not, List, ℕ, ◌*◌, ◌≤◌, length}
+use Rattle.std.specs.Prelude.{◌≡◌, Bool, true, false, not, List, ℕ, ◌*◌, ◌≤◌, length, Option, is_some, IfSome}
 use Rattle.bits.specs.declared.Cur.{Cur}
 use Rattle.bits.specs.declared.Limit.{Limit}
 use Rattle.bits.specs.Language.{P, Bits, bit, past_declared}
@@ -49,7 +49,6 @@ abbrev pub inside_at : ℕ → ℕ → Inside
 inside_at at end = record {
   cur = record { missing = 0; v = 0; at = record { 0 = at }; no = 0 };
   held = record { end = record { 0 = end }; inner = true };
-  there = true;
 }
 
 -- the cursor c stands before the fields of the element, held to its declared end
@@ -60,9 +59,9 @@ pub record Entered (extended : Bool) (s : List ℕ) (c : Cur) (l : Limit) : Type
   pub near : l.end.0 ≤ 8 * most_bytes
   pub found : FoundOf extended s c.at.0 l.end.0
 
-pub record Sought (extended : Bool) (s : List ℕ) (r : Inside) : Type 0 where
-  pub told : r.there ≡ seen_of extended (payload_in s).known
-  pub entered : r.there ≡ true → Entered extended s r.cur r.held
+pub record Sought (extended : Bool) (s : List ℕ) (r : Option Inside) : Type 0 where
+  pub told : is_some r ≡ seen_of extended (payload_in s).known
+  pub entered : IfSome r (λ i. Entered extended s i.cur i.held)
 
 -- ---- to a block
 

@@ -2,8 +2,7 @@
 // The definitions are in specs/.
 #![tactic(auto)]
 
-ghost use Rattle.std.specs.Prelude.{◌≡◌, length, replicate};
-ghost use Rattle.oamd.specs.Tables.{room_bytes, most_trim};
+ghost use Rattle.std.specs.Prelude.{◌≡◌};
 ghost use Rattle.sources.specs.Explaining.{explaining};
 
 use bits::{Cur, Limit};
@@ -22,7 +21,7 @@ pub const MOST_STEPS: usize = 166;
 // The fields that a byte of a record can come from (5.5.9 to 5.5.11, 5.5.14, 5.5.15). Their numbers, from 1 on in this order, and their lines are in specs/Sources.antt.
 #[derive(Clone, Copy)]
 pub enum Field {
-    NotActive,
+    NotActive = 1,
     GainIdx,
     GainBits,
     DefaultPriority,
@@ -71,9 +70,16 @@ pub enum Source {
     ByObject,
 }
 
-// The line of a field in numbers: its clause, 0 to 2, and the path there, filled up with 0 (specs/Sources.antt).
+// The line of a field, by its clause (specs/Sources.antt): the first of object_info_block; a line of object_basic_info in it; a group of object_render_info in it, and a line of
+// that group, 0 for the group itself; a line of obj_div_block; a line of ext_prec_pos_block.
 #[derive(Clone, Copy)]
-pub struct Spot(pub u8, pub u8, pub u8, pub u8);
+pub enum Spot {
+    InBlock,
+    InBasic(u32),
+    InRender(u32, u32),
+    InDivergence(u32),
+    InPrecise(u32),
+}
 
 // A step: the byte's value in a block of an object, the numbers of its source and of the field, that field's first bit, and the difference as carried; what there is not is 0.
 #[repr(C)]
@@ -102,6 +108,14 @@ pub struct WhyAnswer {
 
 // ---- what the functions on the way to an answer hand on
 
+// A payload that was read, with its records, and how many blocks each of its objects has.
+#[derive(Clone, Copy)]
+pub struct Known<'a> {
+    pub payload: &'a [u8],
+    pub records: &'a [u8],
+    pub blocks: u32,
+}
+
 // Where a byte comes from, and the first bit of the field that its source names, else 0.
 #[derive(Clone, Copy)]
 pub struct Told {
@@ -109,15 +123,14 @@ pub struct Told {
     pub bit: u32,
 }
 
-// The field that a source names, if it names one, and the difference in it, as carried.
+// The field that a source names, and the difference in it, as carried.
 #[derive(Clone, Copy)]
 pub struct Named {
-    pub there: bool,
     pub field: Field,
     pub difference: u8,
 }
 
-// Which object and block a chain has come to, and how many steps it may have from there on.
+// Which object and block a chain has come to, and how many steps it may have behind that one.
 #[derive(Clone, Copy)]
 pub struct Link {
     pub object: u32,
@@ -125,12 +138,11 @@ pub struct Link {
     pub left: u32,
 }
 
-// The fields of an element, if it is there: where they begin, and the end that they are held to.
+// The fields of an element: where they begin, and the end that they are held to.
 #[derive(Clone, Copy)]
 pub struct Inside {
     pub cur: Cur,
     pub held: Limit,
-    pub there: bool,
 }
 
 // A block, as coded, and its first bit.
@@ -149,33 +161,19 @@ pub struct Extra {
 
 // ---- the question
 
-fn no_records() -> [u8; ROOM_BYTES]
-    ensures { (result ≡ replicate room_bytes 0) × (length result ≡ room_bytes) }
-{
-    [0u8; ROOM_BYTES]
-}
-
-fn no_trim() -> [u8; MOST_TRIM]
-    ensures { (result ≡ replicate most_trim 0) × (length result ≡ most_trim) }
-{
-    [0u8; MOST_TRIM]
-}
-
 // Why a byte of the record of a block of an object is what it is. Refused as `read` refuses the payload; then with 14: at place 1 if there is no such object, 2 if there is
 // no such block, 3 if there is no such byte.
 pub fn why(payload: &[u8], object: u32, block: u32, byte: u32) -> WhyAnswer
     ensures { result ≡ explaining payload.now object block byte }
 {
-    let mut records = no_records();
-    let mut trim = no_trim();
+    let mut records = [0u8; ROOM_BYTES];
+    let mut trim = [0u8; MOST_TRIM];
     let a = reader::read(payload, 0, &mut records, &mut trim);
     if a.refusal != 0 {
         return answer::refused(a.refusal, a.place, a.missing);
     }
-    let programme = a.programme;
-    let timing = a.timing;
-    let blocks = timing.blocks as u32;
-    if programme.objects as u32 <= object {
+    let blocks = a.timing.blocks as u32;
+    if a.programme.objects as u32 <= object {
         return answer::no_such(1);
     }
     if blocks <= block {
@@ -184,5 +182,10 @@ pub fn why(payload: &[u8], object: u32, block: u32, byte: u32) -> WhyAnswer
     if RECORD_BYTES as u32 <= byte {
         return answer::no_such(3);
     }
-    answer::explain(payload, &records, blocks, object, block, byte)
+    let known = Known {
+        payload,
+        records: &records,
+        blocks,
+    };
+    answer::explain(known, object, block, byte)
 }

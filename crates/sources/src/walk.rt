@@ -1,10 +1,10 @@
 // From the first bit of a payload to a block of an object, and to what the extended element has for a record. The payload has been read, and nothing of it was refused.
-ghost use Rattle.std.specs.Prelude.{◌≡◌, false, replicate};
-ghost use Rattle.bits.specs.Language.{bit, when, for};
+ghost use Rattle.std.specs.Prelude.{◌≡◌, false};
+ghost use Rattle.bits.specs.Language.{bit, for};
 ghost use Rattle.oamd.specs.Element.{head_length};
 ghost use Rattle.oamd.specs.Programme.{class_of};
 ghost use Rattle.oamd.specs.ObjectElement.{object_data};
-ghost use Rattle.oamd.specs.Extended.{obj_div_block, ext_prec_pos_block, no_divergence};
+ghost use Rattle.oamd.specs.Extended.{obj_div_block, ext_prec_pos_block};
 ghost use Rattle.reader.specs.Steps.{Headed};
 ghost use Rattle.sources.specs.Asked.{Accepted, Asked, Recorded};
 ghost use Rattle.sources.specs.Walks.{Went, wanted_by, inside_at, Begun, Sought, BlockFound, carries_at, Room, DivergenceFound, PreciseFound};
@@ -12,9 +12,9 @@ ghost use Rattle.sources.specs.Walks.{Went, wanted_by, inside_at, Begun, Sought,
 use crate::again::{read_divergence, read_precise};
 use crate::telling::index_of;
 use crate::{Extra, Inside, Placed};
-use bits::{Cur, Limit};
+use bits::{Cur, Limit, Step};
 use oamd::{Kind, RECORD_STRIDE, Shares};
-use reader::HeaderStep;
+use reader::Header;
 use units::BitPos;
 
 // ---- to an element
@@ -50,58 +50,42 @@ fn inside(at: u32, end: BitPos) -> Inside
             no: 0,
         },
         held: Limit { end, inner: true },
-        there: true,
-    }
-}
-
-// No element.
-fn nowhere() -> Inside
-    ensures { result.there ≡ false }
-{
-    let end = BitPos::new(0);
-    let at = BitPos::new(0);
-    Inside {
-        cur: Cur {
-            missing: 0,
-            v: 0,
-            at,
-            no: 0,
-        },
-        held: Limit { end, inner: true },
-        there: false,
     }
 }
 
 // The fields of the extended element, or else of the object element, among n that follow.
-fn find_element(s: &[u8], l: Limit, c: Cur, alternate: u32, n: u32, extended: bool) -> Inside
+fn find_element(
+    s: &[u8],
+    l: Limit,
+    c: Cur,
+    alternate: u32,
+    n: u32,
+    extended: bool,
+) -> Option<Inside>
     requires { Begun extended s.now alternate n c l }
     ensures { Sought extended s.now result }
 {
     let mut cur = c;
-    let mut i: u32 = 0;
-    while i < n {
+    for i in 0..n {
         let step = syntax::read_frame(s, l, cur, alternate);
-        let frame = step.frame;
-        let behind = step.cur;
-        let kind = frame.kind;
-        if is_wanted(extended, kind) {
+        let frame = step.value;
+        if is_wanted(extended, frame.kind) {
             let head = 4 + 5 * frame.size.groups + head_bits(alternate);
-            return inside(cur.at.raw() + head, behind.at);
+            return Some(inside(cur.at.raw() + head, step.cur.at));
         }
-        cur = behind;
-        i = i + 1;
+        cur = step.cur;
     }
-    nowhere()
+    None
 }
 
 // The same among all elements, behind the header.
-fn find_fields(s: &[u8], head: HeaderStep, extended: bool) -> Inside
+fn find_fields(s: &[u8], head: Step<Header>, extended: bool) -> Option<Inside>
     requires { Accepted s.now × Headed s.now head }
     ensures { Sought extended s.now result }
 {
     let l = reader::limit_of(s);
     let count = syntax::read_element_count(s, l, head.cur);
-    find_element(s, l, count, head.alternate, count.v, extended)
+    find_element(s, l, count, head.value.alternate, count.v, extended)
 }
 
 // ---- to a block
@@ -111,11 +95,8 @@ fn pass_blocks(s: &[u8], l: Limit, c: Cur, class: u8, n: u32) -> Cur
     ensures { Went (object_data n class) (bit s.now) c l result }
 {
     let mut cur = c;
-    let mut i: u32 = 0;
-    while i < n {
-        let step = syntax::read_block(s, l, cur, class, i);
-        cur = step.cur;
-        i = i + 1;
+    for i in 0..n {
+        cur = syntax::read_block(s, l, cur, class, i).cur;
     }
     cur
 }
@@ -125,11 +106,9 @@ fn pass_objects(s: &[u8], l: Limit, c: Cur, shares: Shares, blocks: u32, n: u32)
     ensures { Went (for n (λ j. object_data blocks (class_of shares j))) (bit s.now) c l result }
 {
     let mut cur = c;
-    let mut j: u32 = 0;
-    while j < n {
+    for j in 0..n {
         let class = meaning::class_of(shares, j);
         cur = pass_blocks(s, l, cur, class, blocks);
-        j = j + 1;
     }
     cur
 }
@@ -140,51 +119,35 @@ pub fn find_block(s: &[u8], blocks: u32, object: u32, block: u32) -> Placed
     ensures { BlockFound s.now blocks object block result }
 {
     let head = reader::read_head(s);
-    let inside = find_fields(s, head, false);
+    let inside = find_fields(s, head, false).unwrap();
     let held = inside.held;
     let timed = reader::read_timing(s, held, inside.cur);
     let absent = bits::take(s, held, timed.cur, 1);
     let reserved = bits::take_if(absent.v == 0, s, held, absent, 5);
-    let programme = head.programme;
-    let shares = meaning::shares(programme);
+    let shares = meaning::shares(head.value.programme);
     let before = pass_objects(s, held, reserved, shares, blocks, object);
     let class = meaning::class_of(shares, object);
     let begun = pass_blocks(s, held, before, class, block);
     let step = syntax::read_block(s, held, begun, class, block);
-    let coded = step.block;
     Placed {
-        block: coded,
+        block: step.value,
         at: begun.at.raw(),
     }
 }
 
 // ---- to what the extended element has for a record
 
-// obj_div_block of the first n records.
+// obj_div_block of the first n records. Apart from what is behind it for precise positions: one loop over both would need a trait, and that is longer.
 fn pass_divergences(s: &[u8], l: Limit, c: Cur, records: &[u8], n: usize) -> Cur
     requires { Room records.now n }
     ensures { Went (for n (λ i. obj_div_block (carries_at records.now i))) (bit s.now) c l result }
 {
     let mut cur = c;
-    let mut i: usize = 0;
-    while i < n {
+    for i in 0..n {
         let carries = record::carries_at(records, RECORD_STRIDE * i);
-        let step = read_divergence(s, l, cur, carries);
-        cur = step.cur;
-        i = i + 1;
+        cur = read_divergence(s, l, cur, carries).cur;
     }
     cur
-}
-
-// The same, where a flag says that there is anything to read.
-fn pass_divergences_if(on: bool, s: &[u8], l: Limit, c: Cur, records: &[u8], n: usize) -> Cur
-    requires { Room records.now n }
-    ensures { Went (when on (for n (λ i. obj_div_block (carries_at records.now i))) (replicate n no_divergence)) (bit s.now) c l result }
-{
-    if on {
-        return pass_divergences(s, l, c, records, n);
-    }
-    c
 }
 
 // ext_prec_pos_block of the first n records.
@@ -193,12 +156,9 @@ fn pass_precises(s: &[u8], l: Limit, c: Cur, records: &[u8], n: usize) -> Cur
     ensures { Went (for n (λ i. ext_prec_pos_block (carries_at records.now i))) (bit s.now) c l result }
 {
     let mut cur = c;
-    let mut i: usize = 0;
-    while i < n {
+    for i in 0..n {
         let carries = record::carries_at(records, RECORD_STRIDE * i);
-        let step = read_precise(s, l, cur, carries);
-        cur = step.cur;
-        i = i + 1;
+        cur = read_precise(s, l, cur, carries).cur;
     }
     cur
 }
@@ -215,10 +175,9 @@ pub fn find_divergence(s: &[u8], records: &[u8], blocks: u32, object: u32, block
     ensures { DivergenceFound s.now blocks object block result }
 {
     let head = reader::read_head(s);
-    let inside = find_fields(s, head, true);
-    if !inside.there {
+    let Some(inside) = find_fields(s, head, true) else {
         return unsent();
-    }
+    };
     let held = inside.held;
     let present = bits::take(s, held, inside.cur, 1);
     if present.v != 1 {
@@ -238,15 +197,17 @@ pub fn find_precise(s: &[u8], records: &[u8], blocks: u32, object: u32, block: u
     ensures { PreciseFound s.now blocks object block result }
 {
     let head = reader::read_head(s);
-    let inside = find_fields(s, head, true);
-    if !inside.there {
+    let Some(inside) = find_fields(s, head, true) else {
         return unsent();
-    }
+    };
     let held = inside.held;
-    let programme = head.programme;
-    let count = programme.objects as usize * blocks as usize;
+    let count = head.value.programme.objects as usize * blocks as usize;
     let diverging = bits::take(s, held, inside.cur, 1);
-    let behind = pass_divergences_if(diverging.v == 1, s, held, diverging, records, count);
+    let behind = if diverging.v == 1 {
+        pass_divergences(s, held, diverging, records, count)
+    } else {
+        diverging
+    };
     let present = bits::take(s, held, behind, 1);
     if present.v != 1 {
         return unsent();

@@ -1,8 +1,9 @@
 // A byte of each record, counted by its value.
 ghost use Rattle.std.specs.Prelude.{◌≡◌, ◌*◌, ◌≤◌, ◌<◌, length};
 ghost use Rattle.oamd.specs.Tables.{record_stride, room_bytes};
-ghost use Rattle.summary.specs.Counting.{Low, bumped, Counted};
+ghost use Rattle.summary.specs.Counting.{Low, bumped, Counted, columns_counted};
 
+use crate::Summary;
 use oamd::{RECORD_STRIDE, ROOM_BYTES};
 
 // The bytes of a record that are counted.
@@ -21,7 +22,7 @@ pub fn count_one(counts: &mut [u32], v: u8)
 {
     let at = v as usize;
     if at < counts.len() {
-        counts[at] = counts[at] + 1;
+        counts[at] += 1;
     }
 }
 
@@ -31,33 +32,19 @@ pub fn count_column(room: &[u8; ROOM_BYTES], n: usize, k: usize, counts: &mut [u
     requires low { Low n counts.old }
     ensures { Counted k n room.now counts.old counts.new }
 {
-    let mut at = k;
-    let mut i: usize = 0;
-    while i < n {
-        count_one(counts, room[at]);
-        at = at + RECORD_STRIDE;
-        i = i + 1;
+    for i in 0..n {
+        count_one(counts, room[RECORD_STRIDE * i + k]);
     }
 }
 
-// All that is counted of n records.
-pub fn count_records(
-    room: &[u8; ROOM_BYTES],
-    n: usize,
-    gains: &mut [u32],
-    zones: &mut [u32],
-    classes: &mut [u32],
-    activity: &mut [u32],
-)
+// Each byte that is counted, of each of n records.
+pub fn count_records(s: &mut Summary, room: &[u8; ROOM_BYTES], n: usize)
     requires n_bound { (record_stride * n ≤ room_bytes) × (length room.now ≡ room_bytes) }
-    requires low { Low n gains.old × Low n zones.old × Low n classes.old × Low n activity.old }
-    ensures counted { Counted 2 n room.now gains.old gains.new }
-    ensures counted_2 { Counted 11 n room.now zones.old zones.new }
-    ensures counted_3 { Counted 1 n room.now classes.old classes.new }
-    ensures counted_4 { Counted 0 n room.now activity.old activity.new }
+    requires low { Low n s.old.gains × Low n s.old.zones × Low n s.old.classes × Low n s.old.activity }
+    ensures { s.new ≡ columns_counted n room.now s.old }
 {
-    count_column(room, n, GAIN, gains);
-    count_column(room, n, ZONE, zones);
-    count_column(room, n, CLASS, classes);
-    count_column(room, n, ACTIVE, activity);
+    count_column(room, n, GAIN, &mut s.gains);
+    count_column(room, n, ZONE, &mut s.zones);
+    count_column(room, n, CLASS, &mut s.classes);
+    count_column(room, n, ACTIVE, &mut s.activity);
 }

@@ -3,10 +3,11 @@
 
 ghost use Rattle.std.specs.Prelude.{◌≡◌, ◌≤◌, length};
 ghost use Rattle.bits.specs.Refusals.{number_of};
+ghost use Rattle.summary.specs.Counting.{Fits, counted};
 ghost use Rattle.summary.specs.Summary.{most_entries, outcomes, summary_of, refused_summary, summing};
 
 use bits::Refusal;
-use oamd::{MOST_TRIM, ROOM_BYTES};
+use oamd::{MOST_TRIM, ROOM_BYTES, ReadAnswer};
 
 mod columns; // columns.rt: a byte of each record, counted by its value
 mod updates; // updates.rt: the blocks of a payload that start late, and the sum of their ramps
@@ -41,12 +42,12 @@ pub struct Summary {
     pub payloads: [u32; REFUSALS],
 }
 
-fn refused(refusal: Refusal, place: u64) -> Summary
-    ensures { result ≡ refused_summary (number_of refusal) place }
+fn nothing() -> Summary
+    ensures { result ≡ refused_summary 0 0 }
 {
     Summary {
-        place,
-        refusal: bits::number(refusal),
+        place: 0,
+        refusal: 0,
         records: 0,
         gains: [0; GAINS],
         zones: [0; ZONES],
@@ -58,6 +59,30 @@ fn refused(refusal: Refusal, place: u64) -> Summary
     }
 }
 
+fn refused(refusal: Refusal, place: u64) -> Summary
+    ensures { result ≡ refused_summary (number_of refusal) place }
+{
+    Summary {
+        place,
+        refusal: refusal.number(),
+        ..nothing()
+    }
+}
+
+// What is counted of an entry, whose records stand in the room.
+fn count_entry(s: &mut Summary, a: ReadAnswer, room: &[u8; ROOM_BYTES])
+    requires { Fits s.old a room.now }
+    ensures { s.new ≡ counted s.old a room.now }
+{
+    let n = a.programme.objects as usize * a.timing.blocks as usize;
+    let updates = &a.timing.updates[..a.timing.blocks as usize];
+    columns::count_one(&mut s.payloads, a.refusal);
+    columns::count_records(s, room, n);
+    s.records += n as u32;
+    s.late += updates::late_blocks(updates);
+    s.ramps += updates::all_ramps(updates);
+}
+
 // Each entry is read into the same room. A refused one has no objects and no blocks, so that nothing of it is counted but its refusal.
 fn count_entries(store: &[u8], starts: &[u64], lengths: &[u64]) -> Summary
     requires { (length lengths.now ≡ length starts.now) × (length starts.now ≤ most_entries) }
@@ -65,46 +90,12 @@ fn count_entries(store: &[u8], starts: &[u64], lengths: &[u64]) -> Summary
 {
     let mut room = [0u8; ROOM_BYTES];
     let mut trim = [0u8; MOST_TRIM];
-    let mut gains = [0u32; GAINS];
-    let mut zones = [0u32; ZONES];
-    let mut classes = [0u32; CLASSES];
-    let mut activity = [0u32; ACTIVITIES];
-    let mut payloads = [0u32; REFUSALS];
-    let mut records: u32 = 0;
-    let mut late: u32 = 0;
-    let mut ramps: u32 = 0;
-    let mut i: usize = 0;
-    while i < starts.len() {
+    let mut s = nothing();
+    for i in 0..starts.len() {
         let a = batch::read_entry(store, starts[i], lengths[i], 0, &mut room, &mut trim);
-        let programme = a.programme;
-        let timing = a.timing;
-        let n = programme.objects as usize * timing.blocks as usize;
-        columns::count_one(&mut payloads, a.refusal);
-        columns::count_records(
-            &room,
-            n,
-            &mut gains,
-            &mut zones,
-            &mut classes,
-            &mut activity,
-        );
-        records = records + n as u32;
-        late = late + updates::late_blocks(timing);
-        ramps = ramps + updates::all_ramps(timing);
-        i = i + 1;
+        count_entry(&mut s, a, &room);
     }
-    Summary {
-        place: 0,
-        refusal: 0,
-        records,
-        gains,
-        zones,
-        classes,
-        activity,
-        late,
-        ramps,
-        payloads,
-    }
+    s
 }
 
 // Sums up a shelf of payloads, each a part of the store. Refused with 13 where the lists are of unequal length, then with 16 where there are more than 65,536 entries: all

@@ -112,25 +112,25 @@ part x o a n m h =
     ∙ ap (λ (k : ℕ). x * 2 ^ (o + a) % 2 ^ k / 2 ^ (64 - n)) (sym e₃)
 
 -- behind a of them and before m; `last` where none follows
-module _ {x : ℕ} {q : Sighted} (o : ℕ) where
+module _ {x : ℕ} {q : Sighted ℕ} (o : ℕ) where
   pub slot : (a n m at to : ℕ) → q ≡ sight_of x o (a + n + m) → o + (a + n + m) ≤ 64 → at ≡ o + a → to ≡ o + (a + n)
-      → Looks (bits n) x at (q.v / 2 ^ m % 2 ^ n) to
+      → Looks (bits n) x at (q.value / 2 ^ m % 2 ^ n) to
   slot a n m at to e h p r =
-      let v : q.v / 2 ^ m % 2 ^ n ≡ looked x (o + a) n = ap (λ (s : Sighted). s.v / 2 ^ m % 2 ^ n) e ∙ part x o a n m h in
+      let v : q.value / 2 ^ m % 2 ^ n ≡ looked x (o + a) n = ap (λ (s : Sighted ℕ). s.value / 2 ^ m % 2 ^ n) e ∙ part x o a n m h in
       let g : o + a + n ≡ to = omega arith in
-      subst₂ (λ (i j : ℕ). Looks (bits n) x i (q.v / 2 ^ m % 2 ^ n) j) (sym p) g (looks-bits v (omega arith))
+      subst₂ (λ (i j : ℕ). Looks (bits n) x i (q.value / 2 ^ m % 2 ^ n) j) (sym p) g (looks-bits v (omega arith))
 
   -- the first of them, in full
-  pub lead : (n m : ℕ) → q ≡ sight_of x o (n + m) → o + (n + m) ≤ 64 → Looks (bits n) x o (q.v / 2 ^ m) (o + n)
+  pub lead : (n m : ℕ) → q ≡ sight_of x o (n + m) → o + (n + m) ≤ 64 → Looks (bits n) x o (q.value / 2 ^ m) (o + n)
   lead n m e h =
       let g : 64 - (n + m) + m ≡ 64 - n = omega arith in
-      let v : q.v / 2 ^ m ≡ looked x o n =
-      ap (λ (s : Sighted). s.v / 2 ^ m) e ∙ shr-shr (x * 2 ^ o % 2 ^ 64) (64 - (n + m)) m ∙ ap (λ (k : ℕ). x * 2 ^ o % 2 ^ 64 / 2 ^ k) g in
+      let v : q.value / 2 ^ m ≡ looked x o n =
+      ap (λ (s : Sighted ℕ). s.value / 2 ^ m) e ∙ shr-shr (x * 2 ^ o % 2 ^ 64) (64 - (n + m)) m ∙ ap (λ (k : ℕ). x * 2 ^ o % 2 ^ 64 / 2 ^ k) g in
       looks-bits v (omega arith)
 
-  pub last : (a n at : ℕ) → q ≡ sight_of x o (a + n) → o + (a + n) ≤ 64 → at ≡ o + a → Looks (bits n) x at (q.v % 2 ^ n) q.off
+  pub last : (a n at : ℕ) → q ≡ sight_of x o (a + n) → o + (a + n) ≤ 64 → at ≡ o + a → Looks (bits n) x at (q.value % 2 ^ n) q.off
   last a n at e h p =
       let z : a + n + 0 ≡ a + n = omega arith in
-      let one : q.v / 1 ≡ q.v = omega arith in
+      let one : q.value / 1 ≡ q.value = omega arith in
       subst (λ (y : ℕ). Looks (bits n) x at (y % 2 ^ n) q.off) one
-      (slot a n 0 at q.off (e ∙ ap (sight_of x o) (sym z)) (omega arith) p (ap (λ (s : Sighted). s.off) e))
+      (slot a n 0 at q.off (e ∙ ap (sight_of x o) (sym z)) (omega arith) p (ap (λ (s : Sighted ℕ). s.off) e))

@@ -1,6 +1,6 @@
 -- Calls in a line: what each of them read, put one behind the other.
-use mathlib.Core.Path.{◌≡◌}
-use mathlib.Core.Bool.{Bool}
+use mathlib.Core.Path.{◌≡◌, refl}
+use mathlib.Core.Bool.{Bool, true, false, ◌||◌}
 use Prim.Native.Nat.{ℕ}
 use Rattle.bits.specs.declared.Cur.{Cur}
 use Rattle.bits.specs.declared.Limit.{Limit}
@@ -21,6 +21,11 @@ worth h r = rw h r
 -- no reader looks at the value that the cursor held before
 pub revalued : {A : Type 0} {p : P A} {b : Bits} {c d : Cur} {l : Limit} {x : ℕ} {v : A} → Reads p b (valued c x) l v d → Reads p b c l v d
 revalued r = record { same = r.same; handed = r.handed }
+
+-- of two tests one holds
+pub either-of : (a b : Bool) → (a || b) ≡ pick a true b
+either-of true b = refl
+either-of false b = refl
 
 -- a rule for `search`: a reader that runs only if a test holds, where a call made the test
 pub then_if : (A B : Type 0) (p q : P A) (k : A → P B) (b : Bits) (c d f : Cur) (l : Limit) (v : A) (w : B) (on t : Bool)

@@ -2,17 +2,19 @@
 use Rattle.std.specs.Prelude.{◌≡◌, ℕ}
 use Rattle.bits.specs.declared.Cur.{Cur}
 use Rattle.bits.specs.declared.Limit.{Limit}
+use Rattle.bits.specs.declared.Step.{Step}
 use Rattle.bits.specs.Language.{Bits}
 use Rattle.bits.specs.View.{Reads}
 use Rattle.oamd.specs.Tables.{most_beds}
-use Rattle.oamd.specs.Programme.{Beds, bed_instances, instance_count, filled, no_bed}
-use Rattle.syntax.specs.declared.BedsStep.{BedsStep}
+use Rattle.oamd.specs.Programme as programme
+use Rattle.oamd.specs.Programme.{bed_instances, instance_count, filled, no_bed}
+use Rattle.syntax.specs.declared.Beds.{Beds}
 
-pub record BedsRead (content : ℕ) (b : Bits) (c : Cur) (l : Limit) (r : BedsStep) : Type 0 where
-  pub value : Beds
+pub record BedsRead (content : ℕ) (b : Bits) (c : Cur) (l : Limit) (r : Step Beds) : Type 0 where
+  pub value : programme.Beds
   pub reads : Reads (bed_instances content) b c l value r.cur
-  pub distributes : r.distribute ≡ value.distribute
-  pub multiplies : r.multiple ≡ value.multiple
-  pub numbers : r.instances ≡ value.instances
-  pub counts : r.count ≡ instance_count content value.multiple value.instances
-  pub holds : r.beds ≡ filled most_beds no_bed value.beds
+  pub distributes : r.value.distribute ≡ value.distribute
+  pub multiplies : r.value.multiple ≡ value.multiple
+  pub numbers : r.value.instances ≡ value.instances
+  pub counts : r.value.count ≡ instance_count content value.multiple value.instances
+  pub holds : r.value.beds ≡ filled most_beds no_bed value.beds

@@ -5,10 +5,9 @@ ghost use Rattle.bits.specs.View.{Gave};
 ghost use Rattle.oamd.specs.Block.{additional_table_data, object_info_block};
 ghost use Rattle.syntax.specs.Looks.{Passed};
 
-use crate::BlockStep;
 use crate::levels::{read_basic, read_status};
 use crate::render::read_render;
-use bits::{Cur, Limit};
+use bits::{Cur, Limit, Step};
 use oamd::Block;
 use units::{BitPos, ByteCount};
 
@@ -28,38 +27,33 @@ pub fn look_additional(s: &[u8], at: u32) -> u32
 {
     let x = bits::window(s, BitPos::new(at));
     let exists = bits::look(x, at % 8, 1);
-    let size = bits::look_if(exists.v == 1, x, exists.off, 4);
+    let size = bits::look_if(exists.value == 1, x, exists.off, 4);
     let behind = at - at % 8 + size.off;
-    if exists.v == 1 {
-        behind + 8 * (size.v + 1)
+    if exists.value == 1 {
+        behind + 8 * (size.value + 1)
     } else {
         behind
     }
 }
 
 // Block blk of an object of a class, field by field, each held to the end.
-pub fn read_block(s: &[u8], l: Limit, c: Cur, class: u8, blk: u32) -> BlockStep
-    ensures { Gave (object_info_block class blk) (bit s.now) c l result.block result.cur }
+pub fn read_block(s: &[u8], l: Limit, c: Cur, class: u8, blk: u32) -> Step<Block>
+    ensures { Gave (object_info_block class blk) (bit s.now) c l result.value result.cur }
 {
     let first = blk == 0;
     let idle = bits::take(s, l, c, 1);
     let level = read_status(s, l, idle, idle.v == 1, first);
-    let basic_status = level.status;
-    let b = read_basic(s, l, level.cur, basic_status);
-    let basic = b.basic;
-    let anchored = if idle.v == 1 { true } else { class != 2 };
-    let shown = read_status(s, l, b.cur, anchored, first);
-    let render_status = shown.status;
-    let n = read_render(s, l, shown.cur, render_status, first);
-    let render = n.render;
-    let cur = pass_additional(s, l, n.cur);
-    BlockStep {
-        block: Block {
+    let basic = read_basic(s, l, level.cur, level.value);
+    let anchored = (idle.v == 1) | (class != 2);
+    let shown = read_status(s, l, basic.cur, anchored, first);
+    let render = read_render(s, l, shown.cur, shown.value, first);
+    Step {
+        value: Block {
             class,
             active: (1 - idle.v) as u8,
-            basic,
-            render,
+            basic: basic.value,
+            render: render.value,
         },
-        cur,
+        cur: pass_additional(s, l, render.cur),
     }
 }

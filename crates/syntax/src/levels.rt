@@ -4,10 +4,10 @@ ghost use Rattle.bits.specs.Language.{bit, widest_field};
 ghost use Rattle.bits.specs.View.{Reads, Took};
 ghost use Rattle.oamd.specs.Block.{status_of, status_idx, parts_of, object_basic_info};
 
-use crate::{BasicStep, StatusStep};
-use bits::{Cur, Limit};
+use bits::{Cur, Limit, Step};
 use oamd::{Basic, Gain, Priority, Status};
 
+// No `From`: only numbers of 2 bits are codes.
 pub fn status_of(code: u32) -> Status
     ensures { result ≡ status_of code }
 {
@@ -20,24 +20,26 @@ pub fn status_of(code: u32) -> Status
 }
 
 // Default where nothing can be sent, full in the first block, else 2 bits.
-pub fn read_status(s: &[u8], l: Limit, c: Cur, none: bool, first: bool) -> StatusStep
-    ensures { Reads (status_idx none first) (bit s.now) c l result.status result.cur }
+pub fn read_status(s: &[u8], l: Limit, c: Cur, none: bool, first: bool) -> Step<Status>
+    ensures { Reads (status_idx none first) (bit s.now) c l result.value result.cur }
 {
     if none {
-        return StatusStep {
-            status: Status::Default,
+        return Step {
+            value: Status::Default,
             cur: c,
         };
     }
     if first {
-        return StatusStep {
-            status: Status::Full,
+        return Step {
+            value: Status::Full,
             cur: c,
         };
     }
     let code = bits::take(s, l, c, 2);
-    let status = status_of(code.v);
-    StatusStep { status, cur: code }
+    Step {
+        value: status_of(code.v),
+        cur: code,
+    }
 }
 
 // Which parts of a group are sent: all of them, as w bits say, or none.
@@ -48,22 +50,21 @@ pub fn read_parts(s: &[u8], l: Limit, c: Cur, status: Status, all: u32, w: u32) 
     match status {
         Status::Full => bits::with_value(c, all),
         Status::Mixed => bits::take(s, l, c, w),
-        Status::Default => bits::with_value(c, 0),
-        Status::Reuse => bits::with_value(c, 0),
+        Status::Default | Status::Reuse => bits::with_value(c, 0),
     }
 }
 
-pub fn read_basic(s: &[u8], l: Limit, c: Cur, status: Status) -> BasicStep
-    ensures { Reads (object_basic_info status) (bit s.now) c l result.basic result.cur }
+pub fn read_basic(s: &[u8], l: Limit, c: Cur, status: Status) -> Step<Basic>
+    ensures { Reads (object_basic_info status) (bit s.now) c l result.value result.cur }
 {
     let parts = read_parts(s, l, c, status, 3, 2);
     let index = bits::take_if(oamd::has_gain(parts.v), s, l, parts, 2);
     let level = bits::take_if(index.v == 2, s, l, index, 6);
     let ranked = oamd::has_priority(parts.v);
     let bydefault = bits::take_if(ranked, s, l, level, 1);
-    let rank = bits::take_if(bits::both(ranked, bydefault.v == 0), s, l, bydefault, 5);
-    BasicStep {
-        basic: Basic {
+    let rank = bits::take_if(ranked & (bydefault.v == 0), s, l, bydefault, 5);
+    Step {
+        value: Basic {
             status,
             parts: parts.v as u8,
             gain: Gain {

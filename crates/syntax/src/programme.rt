@@ -6,20 +6,20 @@ ghost use Rattle.oamd.specs.Tables.{most_beds};
 ghost use Rattle.oamd.specs.Programme.{instance_count, bed_assignment, intermediate_spatial_format, num_dynamic_objects, reserved_data, program_assignment};
 ghost use Rattle.syntax.specs.Beds.{BedsRead};
 
-use crate::{BedStep, BedsStep, ProgrammeStep};
-use bits::{Cur, Limit};
+use crate::Beds;
+use bits::{Cur, Limit, Step};
 use oamd::{Bed, MOST_BEDS, Programme};
 use units::ByteCount;
 
-fn read_bed(s: &[u8], l: Limit, c: Cur) -> BedStep
-    ensures { Reads bed_assignment (bit s.now) c l result.bed result.cur }
+fn read_bed(s: &[u8], l: Limit, c: Cur) -> Step<Bed>
+    ensures { Reads bed_assignment (bit s.now) c l result.value result.cur }
 {
     let lfe = bits::take(s, l, c, 1);
     let standard = bits::take_if(lfe.v == 0, s, l, lfe, 1);
     let usual = bits::take_if(standard.v == 1, s, l, standard, 10);
-    let other = bits::take_if(bits::both(lfe.v == 0, standard.v == 0), s, l, usual, 17);
-    BedStep {
-        bed: Bed {
+    let other = bits::take_if((lfe.v == 0) & (standard.v == 0), s, l, usual, 17);
+    Step {
+        value: Bed {
             assignment: usual.v + other.v,
             lfeonly: lfe.v as u8,
             standard: standard.v as u8,
@@ -44,7 +44,7 @@ fn instances_of(content: u32, multiple: u32, instances: u32) -> u8
     }
 }
 
-fn read_beds(s: &[u8], l: Limit, c: Cur, content: u32) -> BedsStep
+fn read_beds(s: &[u8], l: Limit, c: Cur, content: u32) -> Step<Beds>
     ensures { BedsRead content (bit s.now) c l result }
 {
     let has = oamd::has_beds(content);
@@ -59,21 +59,19 @@ fn read_beds(s: &[u8], l: Limit, c: Cur, content: u32) -> BedsStep
     };
     let mut beds = [none; MOST_BEDS];
     let mut cur = instances;
-    let mut i: usize = 0;
-    let n = count as usize;
-    while i < n {
+    for i in 0..count as usize {
         let step = read_bed(s, l, cur);
-        let bed = step.bed;
-        beds[i] = bed;
+        beds[i] = step.value;
         cur = step.cur;
-        i = i + 1;
     }
-    BedsStep {
-        distribute: distribute.v as u8,
-        multiple: multiple.v as u8,
-        instances: instances.v as u8,
-        count,
-        beds,
+    Step {
+        value: Beds {
+            distribute: distribute.v as u8,
+            multiple: multiple.v as u8,
+            instances: instances.v as u8,
+            count,
+            beds,
+        },
         cur,
     }
 }
@@ -101,32 +99,30 @@ fn pass_reserved(s: &[u8], l: Limit, c: Cur, content: u32) -> Cur
     bits::skip_if(has, s, l, size, ByteCount::new(size.v + 1))
 }
 
-pub fn read_assignment(s: &[u8], l: Limit, c: Cur, objects: u8) -> ProgrammeStep
-    ensures { (result.programme.objects ≡ objects) × Gave (program_assignment objects) (bit s.now) c l result.programme result.cur }
+pub fn read_assignment(s: &[u8], l: Limit, c: Cur, objects: u8) -> Step<Programme>
+    ensures { (result.value.objects ≡ objects) × Gave (program_assignment objects) (bit s.now) c l result.value result.cur }
 {
     let dynonly = bits::take(s, l, c, 1);
     let lfe = bits::take_if(dynonly.v == 1, s, l, dynonly, 1);
     let content = bits::take_if(dynonly.v == 0, s, l, lfe, 4);
     let b = read_beds(s, l, content, content.v);
-    let behind = b.cur;
-    let beds = b.beds;
-    let isf = read_isf(s, l, behind, content.v);
+    let beds = b.value.beds;
+    let isf = read_isf(s, l, b.cur, content.v);
     let dynamics = read_dynamics(s, l, isf, content.v);
-    let cur = pass_reserved(s, l, dynamics, content.v);
-    ProgrammeStep {
-        programme: Programme {
+    Step {
+        value: Programme {
             objects,
             dynonly: dynonly.v as u8,
             lfe: lfe.v as u8,
             content: content.v as u8,
-            distribute: b.distribute,
-            multiple: b.multiple,
-            instances: b.instances,
-            bedcount: b.count,
+            distribute: b.value.distribute,
+            multiple: b.value.multiple,
+            instances: b.value.instances,
+            bedcount: b.value.count,
             isf: isf.v as u8,
             dynamics: dynamics.v as u8,
             beds,
         },
-        cur,
+        cur: pass_reserved(s, l, dynamics, content.v),
     }
 }

@@ -3,70 +3,75 @@ ghost use Rattle.std.specs.Prelude.{true, ◌≤◌};
 ghost use Rattle.oamd.specs.Block.{differences, coordinates, position, distance, zone, extent, screen};
 ghost use Rattle.syntax.specs.Looks.{Seen, SeenIf};
 
+use crate::Checked;
 use crate::glance::only;
-use crate::{DistanceLook, ExtentLook, PositionLook, ScreenLook, ZoneLook};
+use bits::Sighted;
 use oamd::{Distance, Extent, Position, Screen, Zone};
 
-fn look_differences(x: u64, o: u32) -> PositionLook
+fn look_differences(x: u64, o: u32) -> Sighted<Position>
     requires { o ≤ 55 }
-    ensures { Seen differences 9 x o result.position result.off }
+    ensures { Seen differences 9 x o result.value result.off }
 {
     let q = bits::look(x, o, 9);
-    PositionLook {
-        position: Position::Moved((q.v / 64 % 8) as u8, (q.v / 8 % 8) as u8, (q.v % 8) as u8),
+    Sighted {
+        value: Position::Moved(
+            (q.value / 64 % 8) as u8,
+            (q.value / 8 % 8) as u8,
+            (q.value % 8) as u8,
+        ),
         off: q.off,
     }
 }
 
-fn look_coordinates(x: u64, o: u32) -> PositionLook
+fn look_coordinates(x: u64, o: u32) -> Sighted<Position>
     requires { o ≤ 47 }
-    ensures { Seen coordinates 17 x o result.position result.off }
+    ensures { Seen coordinates 17 x o result.value result.off }
 {
     let q = bits::look(x, o, 17);
-    PositionLook {
-        position: Position::Absolute(
-            (q.v / 2048 % 64) as u8,
-            (q.v / 32 % 64) as u8,
-            (q.v / 16 % 2) as u8,
-            (q.v % 16) as u8,
+    Sighted {
+        value: Position::Absolute(
+            (q.value / 2048 % 64) as u8,
+            (q.value / 32 % 64) as u8,
+            (q.value / 16 % 2) as u8,
+            (q.value % 16) as u8,
         ),
         off: q.off,
     }
 }
 
 // In the first block as coordinates, else as a flag says.
-pub fn look_position(x: u64, o: u32, first: bool) -> PositionLook
+pub fn look_position(x: u64, o: u32, first: bool) -> Sighted<Position>
     requires { o ≤ 46 }
-    ensures { Seen (position true first) 18 x o result.position result.off }
+    ensures { Seen (position true first) 18 x o result.value result.off }
 {
     let moved = bits::look_if(!first, x, o, 1);
-    if moved.v == 1 {
+    if moved.value == 1 {
         look_differences(x, moved.off)
     } else {
         look_coordinates(x, moved.off)
     }
 }
 
-pub fn look_distance(x: u64, o: u32) -> DistanceLook
+pub fn look_distance(x: u64, o: u32) -> Sighted<Distance>
     requires { o ≤ 58 }
-    ensures { Seen (distance true) 6 x o result.distance result.off }
+    ensures { Seen (distance true) 6 x o result.value result.off }
 {
     let q = bits::look(x, o, 6);
-    let given = q.v / 32 % 2;
-    let infinite = q.v / 16 % 2;
+    let given = q.value / 32 % 2;
+    let infinite = q.value / 16 % 2;
     if given == 1 {
         if infinite == 0 {
-            DistanceLook {
-                distance: Distance {
+            Sighted {
+                value: Distance {
                     given: given as u8,
                     infinite: infinite as u8,
-                    index: (q.v % 16) as u8,
+                    index: (q.value % 16) as u8,
                 },
                 off: q.off,
             }
         } else {
-            DistanceLook {
-                distance: Distance {
+            Sighted {
+                value: Distance {
                     given: given as u8,
                     infinite: infinite as u8,
                     index: 0,
@@ -75,8 +80,8 @@ pub fn look_distance(x: u64, o: u32) -> DistanceLook
             }
         }
     } else {
-        DistanceLook {
-            distance: Distance {
+        Sighted {
+            value: Distance {
                 given: given as u8,
                 infinite: 0,
                 index: 0,
@@ -86,61 +91,62 @@ pub fn look_distance(x: u64, o: u32) -> DistanceLook
     }
 }
 
-pub fn look_zone(x: u64, o: u32) -> ZoneLook
+pub fn look_zone(x: u64, o: u32) -> Checked<Zone>
     requires { o ≤ 60 }
-    ensures { SeenIf result.good (zone true) 4 x o result.zone result.off }
+    ensures { SeenIf result.good (zone true) 4 x o result.value result.off }
 {
     let q = bits::look(x, o, 4);
-    ZoneLook {
-        zone: Zone {
-            index: (q.v / 2 % 8) as u8,
-            elevation: (q.v % 2) as u8,
+    let index = q.value / 2 % 8;
+    Checked {
+        value: Zone {
+            index: index as u8,
+            elevation: (q.value % 2) as u8,
         },
         off: q.off,
-        good: q.v / 2 % 8 < 6,
+        good: index < 6,
     }
 }
 
 // One size for all, one for each, or none.
-pub fn look_extent(x: u64, o: u32) -> ExtentLook
+pub fn look_extent(x: u64, o: u32) -> Checked<Extent>
     requires { o ≤ 47 }
-    ensures { SeenIf result.good (extent true) 17 x o result.extent result.off }
+    ensures { SeenIf result.good (extent true) 17 x o result.value result.off }
 {
     let q = bits::look(x, o, 17);
-    let index = q.v / 32768 % 4;
+    let index = q.value / 32768 % 4;
     let even = index == 1;
     let each = index == 2;
-    ExtentLook {
-        extent: Extent {
+    Checked {
+        value: Extent {
             index: index as u8,
-            all: only(even, q.v / 1024 % 32),
-            width: only(each, q.v / 1024 % 32),
-            depth: only(each, q.v / 32 % 32),
-            height: only(each, q.v % 32),
+            all: only(even, q.value / 1024 % 32),
+            width: only(each, q.value / 1024 % 32),
+            depth: only(each, q.value / 32 % 32),
+            height: only(each, q.value % 32),
         },
-        off: bits::chosen(each, q.off, bits::chosen(even, o + 7, o + 2)),
+        off: bits::pick(each, q.off, bits::pick(even, o + 7, o + 2)),
         good: index < 3,
     }
 }
 
-pub fn look_screen(x: u64, o: u32) -> ScreenLook
+pub fn look_screen(x: u64, o: u32) -> Sighted<Screen>
     requires { o ≤ 58 }
-    ensures { Seen (screen true) 6 x o result.screen result.off }
+    ensures { Seen (screen true) 6 x o result.value result.off }
 {
     let q = bits::look(x, o, 6);
-    let used = q.v / 32 % 2;
+    let used = q.value / 32 % 2;
     if used == 1 {
-        return ScreenLook {
-            screen: Screen {
+        return Sighted {
+            value: Screen {
                 used: used as u8,
-                factor: (q.v / 4 % 8) as u8,
-                depth: (q.v % 4) as u8,
+                factor: (q.value / 4 % 8) as u8,
+                depth: (q.value % 4) as u8,
             },
             off: q.off,
         };
     }
-    ScreenLook {
-        screen: Screen {
+    Sighted {
+        value: Screen {
             used: used as u8,
             factor: 0,
             depth: 0,

@@ -1,44 +1,28 @@
 // Text laid from a position on. What falls behind the end of the buffer is not stored, so that the same functions over a short buffer give a text's length;
-// the last position that there is stays, so that no caller owes a bound.
+// the last position that there is stays, so that no caller owes a bound. Buffer and position are two parameters and not one struct, since the position is a value that is
+// handed on, as the laws of laying say it.
 ghost use Rattle.std.specs.Prelude.{◌≡◌, ◌∷◌, [], ◌++◌, ◌+◌};
 ghost use Rattle.text.specs.Numerals.{decimal, hex_byte};
 ghost use Rattle.text.specs.Lines.{hex, number_line};
-ghost use Rattle.text.specs.Laying.{Laid, capped};
-
-const LAST: usize = 18446744073709551615;
-
-const TEN: u64 = 10;
+ghost use Rattle.text.specs.Laying.{Laid};
 
 const HEX: [u8; 16] = *b"0123456789abcdef";
-
-// The position behind another.
-fn behind(at: usize) -> usize
-    ensures { result ≡ capped (at + 1) }
-{
-    if at == LAST {
-        return at;
-    }
-    at + 1
-}
 
 pub fn lay_byte(text: &mut [u8], at: usize, b: u8) -> usize
     ensures { Laid text.old text.new at result (b ∷ []) }
 {
     if at < text.len() {
         text[at] = b;
-        return at + 1;
     }
-    behind(at)
+    at.saturating_add(1)
 }
 
 pub fn lay_bytes(text: &mut [u8], at: usize, bytes: &[u8]) -> usize
     ensures { Laid text.old text.new at result bytes.now }
 {
     let mut to = at;
-    let mut i: usize = 0;
-    while i < bytes.len() {
-        to = lay_byte(text, to, bytes[i]);
-        i = i + 1;
+    for b in bytes {
+        to = lay_byte(text, to, *b);
     }
     to
 }
@@ -47,32 +31,27 @@ pub fn lay_bytes(text: &mut [u8], at: usize, bytes: &[u8]) -> usize
 pub fn lay_decimal(text: &mut [u8], at: usize, n: u64) -> usize
     ensures { Laid text.old text.new at result (decimal n) }
 {
-    if n < TEN {
+    if n < 10 {
         return lay_byte(text, at, b'0' + n as u8);
     }
-    let to = lay_decimal(text, at, n / TEN);
-    lay_byte(text, to, b'0' + (n % TEN) as u8)
+    let to = lay_decimal(text, at, n / 10);
+    lay_byte(text, to, b'0' + (n % 10) as u8)
 }
 
 fn lay_hex_byte(text: &mut [u8], at: usize, b: u8) -> usize
     ensures { Laid text.old text.new at result (hex_byte b) }
 {
-    let digits = HEX;
-    let high = (b / 16) as usize;
-    let low = (b % 16) as usize;
-    let to = lay_byte(text, at, digits[high]);
-    lay_byte(text, to, digits[low])
+    let to = lay_byte(text, at, HEX[(b / 16) as usize]);
+    lay_byte(text, to, HEX[(b % 16) as usize])
 }
 
-// Bytes as hex digits.
+// Bytes as hex digits. A loop of its own: one function for this and lay_bytes, over the step, would be longer than the two.
 pub fn lay_hex(text: &mut [u8], at: usize, bytes: &[u8]) -> usize
     ensures { Laid text.old text.new at result (hex bytes.now) }
 {
     let mut to = at;
-    let mut i: usize = 0;
-    while i < bytes.len() {
-        to = lay_hex_byte(text, to, bytes[i]);
-        i = i + 1;
+    for b in bytes {
+        to = lay_hex_byte(text, to, *b);
     }
     to
 }

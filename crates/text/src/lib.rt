@@ -2,8 +2,7 @@
 #![tactic(auto)]
 
 ghost use Rattle.std.specs.Prelude.{◌≡◌, ◌≤◌, length};
-ghost use Rattle.oamd.specs.Tables.{room_bytes, most_trim};
-ghost use Rattle.text.specs.Listing.{listing_of, zeros, listing};
+ghost use Rattle.text.specs.Listing.{listing_of, listing};
 ghost use Rattle.text.specs.Answer.{text_answer, texted};
 ghost use Rattle.text.specs.Most.{most_text};
 ghost use Rattle.text.specs.Laying.{Holds};
@@ -26,18 +25,6 @@ pub struct TextAnswer {
     pub refusal: u8,
 }
 
-fn no_records() -> [u8; ROOM_BYTES]
-    ensures { (result ≡ zeros room_bytes) × (length result ≡ room_bytes) }
-{
-    [0u8; ROOM_BYTES]
-}
-
-fn no_trim() -> [u8; MOST_TRIM]
-    ensures { (result ≡ zeros most_trim) × (length result ≡ most_trim) }
-{
-    [0u8; MOST_TRIM]
-}
-
 fn answered(refusal: u8, place: u64, bytes: u32) -> TextAnswer
     ensures { result ≡ text_answer refusal place bytes }
 {
@@ -57,7 +44,7 @@ fn list_answer(a: ReadAnswer, records: &[u8], text: &mut [u8]) -> TextAnswer
     let mut none = [0u8; 1];
     let needed = listing::lay_listing(&mut none, 0, a, records);
     if text.len() < needed {
-        return answered(bits::number(Refusal::ShortText), needed as u64, 0);
+        return answered(Refusal::ShortText.number(), needed as u64, 0);
     }
     listing::lay_listing(text, 0, a, records);
     answered(0, 0, needed as u32)
@@ -67,8 +54,8 @@ fn list_answer(a: ReadAnswer, records: &[u8], text: &mut [u8]) -> TextAnswer
 pub fn list_text(payload: &[u8], text: &mut [u8]) -> TextAnswer
     ensures { (record { answer = result; buffer = text.new }) ≡ texted (listing payload.now) text.old }
 {
-    let mut records = no_records();
-    let mut trim = no_trim();
+    let mut records = [0u8; ROOM_BYTES];
+    let mut trim = [0u8; MOST_TRIM];
     let a = reader::read(payload, 0, &mut records, &mut trim);
     list_answer(a, &records, text)
 }

@@ -13,26 +13,20 @@ use oamd::{Programme, RECORD_STRIDE, ReadAnswer, Timing, Update};
 fn lay_update(text: &mut [u8], at: usize, blk: usize, u: Update) -> usize
     ensures { Laid text.old text.new at result (block_line blk u) }
 {
-    let start = u.start.raw();
-    let ramp = u.ramp.raw();
     let to = lay_bytes(text, at, &keys::BLOCK);
     let to = lay_number(text, to, blk as u64, b',');
-    let to = lay_number(text, to, start as u64, b',');
-    lay_number(text, to, ramp as u64, b'\n')
+    let to = lay_number(text, to, u.start.raw() as u64, b',');
+    lay_number(text, to, u.ramp.raw() as u64, b'\n')
 }
 
 fn lay_updates(text: &mut [u8], at: usize, t: Timing) -> usize
     requires { t.blocks ≤ most_blocks }
     ensures { Laid text.old text.new at result (block_lines t) }
 {
-    let updates = t.updates;
-    let blocks = t.blocks as usize;
     let mut to = at;
-    let mut blk: usize = 0;
-    while blk < blocks {
-        let u = updates[blk];
-        to = lay_update(text, to, blk, u);
-        blk = blk + 1;
+    let used = &t.updates[..t.blocks as usize];
+    for (blk, u) in used.iter().enumerate() {
+        to = lay_update(text, to, blk, *u);
     }
     to
 }
@@ -71,12 +65,9 @@ fn lay_object(
     ensures { Laid text.old text.new at result (object_lines blocks records.now object) }
 {
     let mut to = at;
-    let mut place = from;
-    let mut blk: usize = 0;
-    while blk < blocks {
+    for blk in 0..blocks {
+        let place = from + RECORD_STRIDE * blk;
         to = lay_record(text, to, object, blk, records, place);
-        place = place + RECORD_STRIDE;
-        blk = blk + 1;
     }
     to
 }
@@ -86,14 +77,10 @@ fn lay_objects(text: &mut [u8], at: usize, objects: usize, blocks: usize, record
     requires blocks_in_bounds { record_stride * (objects * blocks) ≤ length records.now }
     ensures { Laid text.old text.new at result (record_lines objects blocks records.now) }
 {
-    let step = RECORD_STRIDE * blocks;
     let mut to = at;
-    let mut place: usize = 0;
-    let mut object: usize = 0;
-    while object < objects {
+    for object in 0..objects {
+        let place = RECORD_STRIDE * (object * blocks);
         to = lay_object(text, to, object, blocks, records, place);
-        place = place + step;
-        object = object + 1;
     }
     to
 }
@@ -114,14 +101,12 @@ fn lay_tables(text: &mut [u8], at: usize, a: ReadAnswer, records: &[u8]) -> usiz
     requires { Holds a records.now }
     ensures { Laid text.old text.new at result (table_lines a records.now) }
 {
-    let programme = a.programme;
-    let timing = a.timing;
-    let objects = programme.objects as usize;
-    let blocks = timing.blocks as usize;
-    let to = lay_shares(text, at, programme);
+    let objects = a.programme.objects as usize;
+    let blocks = a.timing.blocks as usize;
+    let to = lay_shares(text, at, a.programme);
     let to = lay_line(text, to, &keys::BLOCKS, blocks as u64);
     let to = lay_line(text, to, &keys::UNKNOWN, a.unknown as u64);
-    let to = lay_updates(text, to, timing);
+    let to = lay_updates(text, to, a.timing);
     lay_objects(text, to, objects, blocks, records)
 }
 
@@ -129,7 +114,7 @@ fn lay_tables(text: &mut [u8], at: usize, a: ReadAnswer, records: &[u8]) -> usiz
 fn ended_early(refusal: u8) -> bool
     ensures { result ≡ eqb refusal (number_of EndsEarly) }
 {
-    refusal == bits::number(Refusal::EndsEarly)
+    refusal == Refusal::EndsEarly.number()
 }
 
 // The whole listing.

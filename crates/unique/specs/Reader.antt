@@ -54,7 +54,7 @@ module _ {A B I : Type 0} (p : P A) (f : A → B) (bytes : I → List ℕ) (limi
       t.3 ∙ ap₂ (λ (d : Cur) (x : Res B). (d, x)) (one-reads t.2 t'.2).0 (made_of f t.0 t.1 ∙ ap (mapped f) value ∙ sym (made_of f t'.0 t'.1)) ∙ sym t'.3
 
 pub one-read_timing : OneAnswer read-timing.ended (λ M 𝓤 𝓛. read-timing.clauses 𝓛) (λ M 𝓤 𝓛. read-timing.spec 𝓛)
-    (λ κs a. a.0.now beside a.1) (λ κs a r z. read_as r.timing r.cur)
+    (λ κs a. a.0.now beside a.1) (λ κs a r z. read_as r.value r.cur)
 one-read_timing =
     by_relation (λ κs. reading-set (timing.the_row).coded) (λ w. refl) (ReadBy md_update_info timing_of (λ i. i.0) (λ i. i.1.0) (λ i. i.1.1.0))
     (read-once md_update_info timing_of (λ i. i.0) (λ i. i.1.0) (λ i. i.1.1.0))
@@ -68,8 +68,8 @@ abbrev parts : Header → Programme × ℕ
 parts h = both_parts h.programme h.alternate
 
 pub one-read_head : OneAnswer read_head.ended (λ M 𝓤 𝓛. read_head.clauses 𝓛) (λ M 𝓤 𝓛. read_head.spec 𝓛)
-    (λ κs a. a.0.now) (λ κs a r z. read_as (both_parts r.programme r.alternate) r.cur)
+    (λ κs a. a.0.now) (λ κs a r z. read_as (both_parts r.value.programme r.value.alternate) r.cur)
 one-read_head =
     by_relation (λ κs. reading-set (coded× (programme.the_row).coded coded_ℕ)) (λ w. refl) (ReadBy header parts (λ i. i) whole_of (λ i. start_cur))
     (read-once header parts (λ i. i) whole_of (λ i. start_cur))
-    (λ w κs a r z p. said (λ h. (record { programme = r.programme; alternate = r.alternate }, r.cur, h.head.reads, refl)) p.holds)
+    (λ w κs a r z p. said (λ h. (record { programme = r.value.programme; alternate = r.value.alternate }, r.cur, h.head.reads, refl)) p.holds)

@@ -64,94 +64,94 @@ one-read_element_count =
     (λ w κs a r z p. said (λ h. (r, h, refl)) p.holds)
 
 pub one-read_frame : OneAnswer read-frame.ended (λ M 𝓤 𝓛. read-frame.clauses 𝓛) (λ M 𝓤 𝓛. read-frame.spec 𝓛)
-    (λ κs a. a.0.now beside a.1) (λ κs a r z. giving r.frame r.cur)
+    (λ κs a. a.0.now beside a.1) (λ κs a r z. giving r.value r.cur)
 one-read_frame =
     by_relation (λ κs. reading-set (frames.the_row).coded) (λ w. refl) (GaveBy _) (gave-once (λ i. frame i.1.1.1.0))
-    (λ w κs a r z p. said (λ h. (r.frame, r.cur, h, refl)) p.holds)
+    (λ w κs a r z p. said (λ h. (r.value, r.cur, h, refl)) p.holds)
 
 pub one-read_assignment : OneAnswer read-assignment.ended (λ M 𝓤 𝓛. read-assignment.clauses 𝓛) (λ M 𝓤 𝓛. read-assignment.spec 𝓛)
-    (λ κs a. a.0.now beside a.1) (λ κs a r z. giving r.programme r.cur)
+    (λ κs a. a.0.now beside a.1) (λ κs a r z. giving r.value r.cur)
 one-read_assignment =
     by_relation (λ κs. reading-set (programme.the_row).coded) (λ w. refl) (GaveBy _) (gave-once (λ i. program_assignment i.1.1.1.0))
-    (λ w κs a r z p. said (λ h. (r.programme, r.cur, h.1, refl)) p.holds)
+    (λ w κs a r z p. said (λ h. (r.value, r.cur, h.1, refl)) p.holds)
 
 pub one-read_offset : OneAnswer read-offset.ended (λ M 𝓤 𝓛. read-offset.clauses 𝓛) (λ M 𝓤 𝓛. read-offset.spec 𝓛)
-    (λ κs a. a.0.now beside a.1) (λ κs a r z. giving r.offset r.cur)
+    (λ κs a. a.0.now beside a.1) (λ κs a r z. giving r.value r.cur)
 one-read_offset =
     by_relation (λ κs. reading-set (offset.the_row).coded) (λ w. refl) (GaveBy _) (gave-once (λ i. sample_offset))
-    (λ w κs a r z p. said (λ h. (r.offset, r.cur, h, refl)) p.holds)
+    (λ w κs a r z p. said (λ h. (r.value, r.cur, h, refl)) p.holds)
 
 pub one-read_update : OneAnswer read-update.ended (λ M 𝓤 𝓛. read-update.clauses 𝓛) (λ M 𝓤 𝓛. read-update.spec 𝓛)
-    (λ κs a. a.0.now beside a.1) (λ κs a r z. giving r.update r.cur)
+    (λ κs a. a.0.now beside a.1) (λ κs a r z. giving r.value r.cur)
 one-read_update =
     by_relation (λ κs. reading-set (block-update.the_row).coded) (λ w. refl) (GaveBy _) (gave-once (λ i. block_update_info))
-    (λ w κs a r z p. said (λ h. (r.update, r.cur, h, refl)) p.holds)
+    (λ w κs a r z p. said (λ h. (r.value, r.cur, h, refl)) p.holds)
 
 pub one-read_block : OneAnswer read-block.ended (λ M 𝓤 𝓛. read-block.clauses 𝓛) (λ M 𝓤 𝓛. read-block.spec 𝓛)
-    (λ κs a. a.0.now beside a.1) (λ κs a r z. giving r.block r.cur)
+    (λ κs a. a.0.now beside a.1) (λ κs a r z. giving r.value r.cur)
 one-read_block =
     by_relation (λ κs. reading-set (block.the_row).coded) (λ w. refl) (GaveBy _) (gave-once (λ i. object_info_block i.1.1.1.0 i.1.1.1.1.0))
-    (λ w κs a r z p. said (λ h. (r.block, r.cur, h, refl)) p.holds)
+    (λ w κs a r z p. said (λ h. (r.value, r.cur, h, refl)) p.holds)
 
 pub one-read_divergence : OneAnswer read-divergence.ended (λ M 𝓤 𝓛. read-divergence.clauses 𝓛) (λ M 𝓤 𝓛. read-divergence.spec 𝓛)
-    (λ κs a. a.0.now beside a.1) (λ κs a r z. giving r.divergence r.cur)
+    (λ κs a. a.0.now beside a.1) (λ κs a r z. giving r.value r.cur)
 one-read_divergence =
     by_relation (λ κs. reading-set (divergence.the_row).coded) (λ w. refl) (GaveBy _) (gave-once (λ i. obj_div_block i.1.1.1.0))
-    (λ w κs a r z p. said (λ h. (r.divergence, r.cur, h, refl)) p.holds)
+    (λ w κs a r z p. said (λ h. (r.value, r.cur, h, refl)) p.holds)
 
 pub one-read_precise : OneAnswer read-precise.ended (λ M 𝓤 𝓛. read-precise.clauses 𝓛) (λ M 𝓤 𝓛. read-precise.spec 𝓛)
-    (λ κs a. a.0.now beside a.1) (λ κs a r z. giving r.precise r.cur)
+    (λ κs a. a.0.now beside a.1) (λ κs a r z. giving r.value r.cur)
 one-read_precise =
     by_relation (λ κs. reading-set (precise.the_row).coded) (λ w. refl) (GaveBy _) (gave-once (λ i. ext_prec_pos_block i.1.1.1.0))
-    (λ w κs a r z p. said (λ h. (r.precise, r.cur, h, refl)) p.holds)
+    (λ w κs a r z p. said (λ h. (r.value, r.cur, h, refl)) p.holds)
 
 pub one-read_trim_config : OneAnswer read-trim-config.ended (λ M 𝓤 𝓛. read-trim-config.clauses 𝓛) (λ M 𝓤 𝓛. read-trim-config.spec 𝓛)
-    (λ κs a. a.0.now beside a.1) (λ κs a r z. giving r.config r.cur)
+    (λ κs a. a.0.now beside a.1) (λ κs a r z. giving r.value r.cur)
 one-read_trim_config =
     by_relation (λ κs. reading-set (config.the_row).coded) (λ w. refl) (GaveBy _) (gave-once (λ i. trim_config))
-    (λ w κs a r z p. said (λ h. (r.config, r.cur, h, refl)) p.holds)
+    (λ w κs a r z p. said (λ h. (r.value, r.cur, h, refl)) p.holds)
 
 pub one-look_status : OneAnswer look-status.ended (λ M 𝓤 𝓛. look-status.clauses 𝓛) (λ M 𝓤 𝓛. look-status.spec 𝓛) (λ κs a. a) (λ κs a r z. r)
 one-look_status =
-    by_relation (result-set look-status.ended) (λ w. refl) (λ i r. Seen (status_idx i.1.1.0 i.1.1.1.0) 2 i.0 i.1.0 r.status r.off)
-    (λ i r r' g g'. let q = seen-once g g' in λ j. record { status = (q j).0; off = (q j).1 }) (λ w κs a r z p. said (λ h. h) p.holds)
+    by_relation (result-set look-status.ended) (λ w. refl) (λ i r. Seen (status_idx i.1.1.0 i.1.1.1.0) 2 i.0 i.1.0 r.value r.off)
+    (λ i r r' g g'. let q = seen-once g g' in λ j. record { value = (q j).0; off = (q j).1 }) (λ w κs a r z p. said (λ h. h) p.holds)
 
 pub one-look_gain : OneAnswer look-gain.ended (λ M 𝓤 𝓛. look-gain.clauses 𝓛) (λ M 𝓤 𝓛. look-gain.spec 𝓛) (λ κs a. a) (λ κs a r z. r)
 one-look_gain =
-    by_relation (result-set look-gain.ended) (λ w. refl) (λ i r. Pair (bits 2) (λ v. bits_if (eqb v 2) 6) 8 i.0 i.1.0 r.gain.index r.gain.bits r.off)
-    (λ i r r' g g'. let q = pair-once g g' in λ j. record { gain = record { index = (q j).0.0; bits = (q j).0.1 }; off = (q j).1 })
+    by_relation (result-set look-gain.ended) (λ w. refl) (λ i r. Pair (bits 2) (λ v. bits_if (eqb v 2) 6) 8 i.0 i.1.0 r.value.index r.value.bits r.off)
+    (λ i r r' g g'. let q = pair-once g g' in λ j. record { value = record { index = (q j).0.0; bits = (q j).0.1 }; off = (q j).1 })
     (λ w κs a r z p. said (λ h. h) p.holds)
 
 pub one-look_priority : OneAnswer look-priority.ended (λ M 𝓤 𝓛. look-priority.clauses 𝓛) (λ M 𝓤 𝓛. look-priority.spec 𝓛) (λ κs a. a) (λ κs a r z. r)
 one-look_priority =
-    by_relation (result-set look-priority.ended) (λ w. refl) (λ i r. Pair (bits 1) (λ v. bits_if (clear? v) 5) 6 i.0 i.1.0 r.priority.bydefault r.priority.bits r.off)
-    (λ i r r' g g'. let q = pair-once g g' in λ j. record { priority = record { bydefault = (q j).0.0; bits = (q j).0.1 }; off = (q j).1 })
+    by_relation (result-set look-priority.ended) (λ w. refl) (λ i r. Pair (bits 1) (λ v. bits_if (clear? v) 5) 6 i.0 i.1.0 r.value.bydefault r.value.bits r.off)
+    (λ i r r' g g'. let q = pair-once g g' in λ j. record { value = record { bydefault = (q j).0.0; bits = (q j).0.1 }; off = (q j).1 })
     (λ w κs a r z p. said (λ h. h) p.holds)
 
 pub one-look_position : OneAnswer look-position.ended (λ M 𝓤 𝓛. look-position.clauses 𝓛) (λ M 𝓤 𝓛. look-position.spec 𝓛) (λ κs a. a) (λ κs a r z. r)
 one-look_position =
-    by_relation (result-set look-position.ended) (λ w. refl) (λ i r. Seen (position true i.1.1.0) 18 i.0 i.1.0 r.position r.off)
-    (λ i r r' g g'. let q = seen-once g g' in λ j. record { position = (q j).0; off = (q j).1 }) (λ w κs a r z p. said (λ h. h) p.holds)
+    by_relation (result-set look-position.ended) (λ w. refl) (λ i r. Seen (position true i.1.1.0) 18 i.0 i.1.0 r.value r.off)
+    (λ i r r' g g'. let q = seen-once g g' in λ j. record { value = (q j).0; off = (q j).1 }) (λ w κs a r z p. said (λ h. h) p.holds)
 
 pub one-look_distance : OneAnswer look-distance.ended (λ M 𝓤 𝓛. look-distance.clauses 𝓛) (λ M 𝓤 𝓛. look-distance.spec 𝓛) (λ κs a. a) (λ κs a r z. r)
 one-look_distance =
-    by_relation (result-set look-distance.ended) (λ w. refl) (λ i r. Seen (distance true) 6 i.0 i.1.0 r.distance r.off)
-    (λ i r r' g g'. let q = seen-once g g' in λ j. record { distance = (q j).0; off = (q j).1 }) (λ w κs a r z p. said (λ h. h) p.holds)
+    by_relation (result-set look-distance.ended) (λ w. refl) (λ i r. Seen (distance true) 6 i.0 i.1.0 r.value r.off)
+    (λ i r r' g g'. let q = seen-once g g' in λ j. record { value = (q j).0; off = (q j).1 }) (λ w κs a r z p. said (λ h. h) p.holds)
 
-pub one-look_zone : OneAnswer look-zone.ended (λ M 𝓤 𝓛. look-zone.clauses 𝓛) (λ M 𝓤 𝓛. look-zone.spec 𝓛) (λ κs a. a) (λ κs a r z. seen_if r.good r.zone r.off)
+pub one-look_zone : OneAnswer look-zone.ended (λ M 𝓤 𝓛. look-zone.clauses 𝓛) (λ M 𝓤 𝓛. look-zone.spec 𝓛) (λ κs a. a) (λ κs a r z. seen_if r.good r.value r.off)
 one-look_zone =
     by_relation (λ κs. seen-set (zones.the_row).coded) (λ w. refl) (SeenBy (zone true) 4) (seen_by-once (zone true) 4)
-    (λ w κs a r z p. said (λ h. (r.good, r.zone, r.off, h, refl)) p.holds)
+    (λ w κs a r z p. said (λ h. (r.good, r.value, r.off, h, refl)) p.holds)
 
-pub one-look_extent : OneAnswer look-extent.ended (λ M 𝓤 𝓛. look-extent.clauses 𝓛) (λ M 𝓤 𝓛. look-extent.spec 𝓛) (λ κs a. a) (λ κs a r z. seen_if r.good r.extent r.off)
+pub one-look_extent : OneAnswer look-extent.ended (λ M 𝓤 𝓛. look-extent.clauses 𝓛) (λ M 𝓤 𝓛. look-extent.spec 𝓛) (λ κs a. a) (λ κs a r z. seen_if r.good r.value r.off)
 one-look_extent =
     by_relation (λ κs. seen-set (extents.the_row).coded) (λ w. refl) (SeenBy (extent true) 17) (seen_by-once (extent true) 17)
-    (λ w κs a r z p. said (λ h. (r.good, r.extent, r.off, h, refl)) p.holds)
+    (λ w κs a r z p. said (λ h. (r.good, r.value, r.off, h, refl)) p.holds)
 
 pub one-look_screen : OneAnswer look-screen.ended (λ M 𝓤 𝓛. look-screen.clauses 𝓛) (λ M 𝓤 𝓛. look-screen.spec 𝓛) (λ κs a. a) (λ κs a r z. r)
 one-look_screen =
-    by_relation (result-set look-screen.ended) (λ w. refl) (λ i r. Seen (screen true) 6 i.0 i.1.0 r.screen r.off)
-    (λ i r r' g g'. let q = seen-once g g' in λ j. record { screen = (q j).0; off = (q j).1 }) (λ w κs a r z p. said (λ h. h) p.holds)
+    by_relation (result-set look-screen.ended) (λ w. refl) (λ i r. Seen (screen true) 6 i.0 i.1.0 r.value r.off)
+    (λ i r r' g g'. let q = seen-once g g' in λ j. record { value = (q j).0; off = (q j).1 }) (λ w κs a r z p. said (λ h. h) p.holds)
 
 pub one-look_additional : OneAnswer look-additional.ended (λ M 𝓤 𝓛. look-additional.clauses 𝓛) (λ M 𝓤 𝓛. look-additional.spec 𝓛)
     (λ κs a. a.0.now beside a.1) (λ κs a r z. r)

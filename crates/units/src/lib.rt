@@ -6,25 +6,25 @@ ghost use Rattle.std.specs.Prelude.{◌≡◌, ◌+◌, ◌-◌, ◌*◌, ◌/�
 
 // A position in bits, counted from the top bit of a payload's first byte.
 #[repr(C)]
-#[derive(Clone, Copy)]
+#[derive(Clone, Copy, PartialEq, Eq)]
 pub struct BitPos(u32);
 
 // A number of bits.
-#[derive(Clone, Copy)]
+#[derive(Clone, Copy, PartialEq, Eq)]
 pub struct BitCount(u32);
 
 // A number of whole bytes; in a payload they may begin at any bit.
 #[repr(C)]
-#[derive(Clone, Copy)]
+#[derive(Clone, Copy, PartialEq, Eq)]
 pub struct ByteCount(u32);
 
 // A number of audio samples.
 #[repr(C)]
-#[derive(Clone, Copy)]
+#[derive(Clone, Copy, PartialEq, Eq)]
 pub struct SampleCount(u16);
 
 // A time, in audio samples from the first sample of frame 0.
-#[derive(Clone, Copy)]
+#[derive(Clone, Copy, PartialEq, Eq)]
 pub struct SampleTime(u64);
 
 impl BitPos {
@@ -44,14 +44,14 @@ impl BitPos {
     pub fn after(self, n: BitCount) -> BitPos
         ensures { result.0 ≡ (self.0 + n.0) % 4294967296 }
     {
-        BitPos(wrapped(self.0 as u64 + n.0 as u64))
+        BitPos(self.0.wrapping_add(n.0))
     }
 
     // The bits from an earlier position up to this one.
     pub fn since(self, from: BitPos) -> BitCount
         ensures { result.0 ≡ self.0 - from.0 }
     {
-        BitCount(above(self.0, from.0))
+        BitCount(self.0.saturating_sub(from.0))
     }
 }
 
@@ -71,14 +71,14 @@ impl BitCount {
     pub fn plus(self, n: BitCount) -> BitCount
         ensures { result.0 ≡ (self.0 + n.0) % 4294967296 }
     {
-        BitCount(wrapped(self.0 as u64 + n.0 as u64))
+        BitCount(self.0.wrapping_add(n.0))
     }
 
     // What these bits have more than n; 0 where they are fewer.
     pub fn minus(self, n: BitCount) -> BitCount
         ensures { result.0 ≡ self.0 - n.0 }
     {
-        BitCount(above(self.0, n.0))
+        BitCount(self.0.saturating_sub(n.0))
     }
 
     // The fewest bytes that hold these bits.
@@ -113,7 +113,7 @@ impl ByteCount {
     pub fn bit_count(self) -> BitCount
         ensures { result.0 ≡ (8 * self.0) % 4294967296 }
     {
-        BitCount(wrapped(self.bits()))
+        BitCount(self.0.wrapping_mul(8))
     }
 }
 
@@ -133,7 +133,7 @@ impl SampleCount {
     pub fn plus(self, n: SampleCount) -> SampleCount
         ensures { result.0 ≡ (self.0 + n.0) % 65536 }
     {
-        SampleCount(((self.0 as u32 + n.0 as u32) % 65536) as u16)
+        SampleCount(self.0.wrapping_add(n.0))
     }
 }
 
@@ -150,17 +150,4 @@ impl SampleTime {
     {
         self.0
     }
-}
-
-fn wrapped(n: u64) -> u32
-    ensures { result ≡ n % 4294967296 }
-{
-    (n % 4294967296) as u32
-}
-
-// a - b, or 0.
-fn above(a: u32, b: u32) -> u32
-    ensures { result ≡ a - b }
-{
-    if a < b { 0 } else { a - b }
 }

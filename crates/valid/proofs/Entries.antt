@@ -1,8 +1,8 @@
 -- Whether the entries of an array are valid, as a loop tests it: the test so far and what is left are together the whole. Assumes nothing.
 use mathlib.Core.Path.{◌≡◌, refl, sym, ◌∙◌}
-use mathlib.Core.Bool.{Bool, true, false}
+use mathlib.Core.Bool.{Bool, true, false, ◌&&◌}
 use mathlib.Core.List.{List}
-use Prim.Native.Nat.{ℕ, suc, ◌+◌, ◌-◌, ◌<◌, ◌≤◌}
+use Prim.Native.Nat.{ℕ, zero, suc, ◌+◌, ◌-◌, ◌<◌, ◌≤◌}
 use native.Mathlib.Nat.{sub-zero}
 use native.Mathlib.Numerals.{add-one}
 use native.Mathlib.Omega.{arith}
@@ -13,10 +13,15 @@ use borrow.Author.Tests.{eq-eqb, lt-ltb, le-ltb, le-leb, lt-leb}
 use Rattle.bits.specs.Language.{both}
 use Rattle.bits.specs.Steps.{by_order}
 use Rattle.form.specs.Valid.{entries_valid}
+use Rattle.valid.specs.Parts.{all_below}
 
 pub both-assoc : (a b c : Bool) → both (both a b) c ≡ both a (both b c)
 both-assoc true b c = refl
 both-assoc false b c = refl
+
+pub and-assoc : (a b c : Bool) → (a && b) && c ≡ a && (b && c)
+and-assoc true b c = refl
+and-assoc false b c = refl
 
 pub both_true : (a : Bool) → both a true ≡ a
 both_true true = refl
@@ -50,6 +55,20 @@ module _ {A : Type 0} {f : Bool → A → Bool} {n : ℕ} {xs : List A} where
   unfolding entries_valid
   whole {valid} {i} before h = sym (both_true valid) ∙ rw (drop_of_length-le xs h) at before.all
 
-  -- of an array of m entries
-  pub whole-array : {valid : Bool} {i m : ℕ} → length xs ≡ m → SoFar f n xs valid i → m ≤ i → valid ≡ both (eqb (length xs) m) (entries_valid f n xs)
-  whole-array {m = m} l before h = rw (eq-eqb (length xs) m l) (whole before (omega arith))
+-- a test of each entry, by its number
+module _ {A : Type 0} (f : Bool → A → Bool) (n : ℕ) (xs : List A) (d : A) where
+  abbrev pub tested : ℕ → Bool
+  tested i = f (ltb i n) (get_or xs i d)
+
+  all_before : (i : ℕ) → i ≤ length xs → SoFar f n xs (all_below tested i) i
+  unfolding all_below
+  all_before zero h = none
+  all_before (suc i) h = rw add-one at (turn d (all_before i (omega arith)) (omega arith) refl refl)
+
+  -- of m entries
+  pub all_of : (m : ℕ) → length xs ≡ m → all_below tested m ≡ entries_valid f n xs
+  all_of m l = rw (← l) (whole (all_before (length xs) (omega arith)) (omega arith))
+
+  -- of an array of m
+  pub all_of_array : (m : ℕ) → length xs ≡ m → all_below tested m ≡ both (eqb (length xs) m) (entries_valid f n xs)
+  all_of_array m l = rw (eq-eqb (length xs) m l) (all_of m l)

@@ -1,6 +1,6 @@
 -- A record whose render info is sent: the limits of its bytes, held all at once, and what they do not tell are together the whole test. Assumes nothing.
 use mathlib.Core.Path.{◌≡◌, refl, sym, ◌∙◌}
-use mathlib.Core.Bool.{Bool, true, false, true≢false}
+use mathlib.Core.Bool.{Bool, true, false, true≢false, ◌&&◌, ◌||◌}
 use Prim.Native.Nat.{ℕ, ◌-◌, ◌<◌}
 use native.Mathlib.Omega.{arith}
 use lib.Bits.{bit_or, or_zero_l, or_add_and, and_le_r}
@@ -111,14 +111,14 @@ used-limited d = record { same = rw (leb-zero d.used) (twice (leb d.used 1) _) }
     twice true b = refl
     twice false b = refl
 
-pub sent_is : (class : ℕ) (r : Record) → carries r.scene ≡ true
+limits_is : (class : ℕ) (r : Record) → carries r.scene ≡ true
     → both (within_limits r)
     (both (both (eqb dynamic_class class) (both (leb 49 r.scene.location.z)
     (pick (set? r.scene.screen.used) true (eqb (bit_or r.scene.screen.factor r.scene.screen.depth) 0))))
     (both (divergence_valid true r.divergence) (precise_valid true r.precise)))
     ≡ record_valid class r
 unfolding record_valid scene_valid within_limits location_valid volume_valid zone_valid screen_valid between_if
-sent_is class r e =
+limits_is class r e =
     let s = r.scene in
     let l = s.location in
     let v = s.volume in
@@ -138,3 +138,23 @@ sent_is class r e =
     ⊗ free (precise_valid true r.precise) in
     let screened : Bool = pick (set? n.used) true (eqb (bit_or n.factor n.depth) 0) in
     rw (active, dynamic) (sym (split.same ∙ rw (both_true (leb r.divergence.used 1), both_true (leb 49 l.z), both-hung (set? n.used) n.factor n.depth, both_true screened)))
+
+-- as code joins them
+pub sent_is : (class : ℕ) (r : Record) → carries r.scene ≡ true
+    → (within_limits r
+    && (eqb dynamic_class class && leb 49 r.scene.location.z && (set? r.scene.screen.used || eqb (bit_or r.scene.screen.factor r.scene.screen.depth) 0))
+    && divergence_valid true r.divergence
+    && precise_valid true r.precise)
+    ≡ record_valid class r
+sent_is class r e =
+    gathered (within_limits r) (eqb dynamic_class class) (leb 49 r.scene.location.z) (set? r.scene.screen.used)
+    (eqb (bit_or r.scene.screen.factor r.scene.screen.depth) 0) (divergence_valid true r.divergence) (precise_valid true r.precise)
+    ∙ limits_is class r e
+  where
+    gathered : (a b c d e f g : Bool) → (a && (b && c && (d || e)) && f && g) ≡ both a (both (both b (both c (pick d true e))) (both f g))
+    gathered false b c d e f g = refl
+    gathered true false c d e f g = refl
+    gathered true true false d e f g = refl
+    gathered true true true true e f g = refl
+    gathered true true true false false f g = refl
+    gathered true true true false true f g = refl

@@ -27,14 +27,13 @@ pub record Search (good : ℕ → ℕ → Bool) (first : ℕ → ℕ → ℕ →
   pub end : (i from : ℕ) → first i 0 from ≡ i
   pub step : (i n from : ℕ) → first i (suc n) from ≡ pick (good i from) (first (suc i) n (from + record_stride)) i
 
--- before record i of n, which begins at a byte and is a block of an object
-pub record SoFar (first : ℕ → ℕ → ℕ → ℕ) (blocks n object block from i : ℕ) : Type 0 where
+-- before record i of n, which is a block of an object
+pub record SoFar (first : ℕ → ℕ → ℕ → ℕ) (blocks n object block i : ℕ) : Type 0 where
   pub within : i ≤ n
-  pub place : from ≡ record_stride * i
   pub objects : object ≤ i
   pub turn : object * blocks + block ≡ i
   pub below : block ≤ blocks - 1
-  pub rest : first i (n - i) from ≡ first 0 n 0
+  pub rest : first i (n - i) (record_stride * i) ≡ first 0 n 0
 
 -- the object and block of the record behind that of another object and block
 pub record NextTurn (blocks object block object' block' : ℕ) : Type 0 where
@@ -53,24 +52,25 @@ next-turn blocks t {r} h g = go (ltb (t.block + 1) blocks) refl
         rw (g, e) (record { counts = omega arith; below = omega arith; step = omega arith })
 
 module _ {first : ℕ → ℕ → ℕ → ℕ} {blocks n : ℕ} where
-  pub none : SoFar first blocks n 0 0 0 0
+  pub none : SoFar first blocks n 0 0 0
   none = search (sub-zero, rules)
 
-  module _ {good : ℕ → ℕ → Bool} (search_is : Search good first) {object block from i : ℕ} (before : SoFar first blocks n object block from i) where
-    module _ (h : i < n) {valid : Bool} (e : valid ≡ good i from) where
-      next : first i (n - i) from ≡ pick valid (first (i + 1) (n - (i + 1)) (from + record_stride)) i
+  module _ {good : ℕ → ℕ → Bool} (search_is : Search good first) {object block i : ℕ} (before : SoFar first blocks n object block i) where
+    module _ (h : i < n) {valid : Bool} (e : valid ≡ good i (record_stride * i)) where
+      next : first i (n - i) (record_stride * i) ≡ pick valid (first (i + 1) (n - (i + 1)) (record_stride * (i + 1))) i
       next =
           let m : n - i ≡ suc (n - (i + 1)) = omega arith in
-          rw (m, search_is.step i (n - (i + 1)) from, e, add-one i)
+          let from : record_stride * i + record_stride ≡ record_stride * (i + 1) = omega arith in
+          rw m (search_is.step i (n - (i + 1)) (record_stride * i) ∙ rw (e, from, add-one i))
 
-      pub more : {o b : ℕ} → valid ≡ true → NextTurn blocks object block o b → SoFar first blocks n o b (from + record_stride) (i + 1)
-      more {o} {b} v t = let left : first (i + 1) (n - (i + 1)) (from + record_stride) ≡ first 0 n 0 = sym (next ∙ rw v) ∙ before.rest in search rules
+      pub more : {o b : ℕ} → valid ≡ true → NextTurn blocks object block o b → SoFar first blocks n o b (i + 1)
+      more {o} {b} v t = let left : first (i + 1) (n - (i + 1)) (record_stride * (i + 1)) ≡ first 0 n 0 = sym (next ∙ rw v) ∙ before.rest in search rules
 
       pub stop : valid ≡ false → i ≡ first 0 n 0
       stop v = sym (next ∙ rw v) ∙ before.rest
 
     pub whole : n ≤ i → i ≡ first 0 n 0
-    whole h = let m : n - i ≡ 0 = omega arith in sym (search_is.end i from) ∙ rw m at before.rest
+    whole h = let m : n - i ≡ 0 = omega arith in sym (search_is.end i (record_stride * i)) ∙ rw m at before.rest
 
 -- ---- by two tests at once
 
@@ -112,9 +112,9 @@ object_of_lem object block blocks i e h =
     let p : 0 < blocks = omega arith in
     rw (← e, mul-add-div_right p object block, div-eq_of_lt h) (omega arith)
 
-module _ (s : Shares) (blocks : ℕ) (bytes : List ℕ) {n object block from i : ℕ} where
-  pub its-class : {first : ℕ → ℕ → ℕ → ℕ} → SoFar first blocks n object block from i → i < n → n ≤ 255 * blocks → {valid : Bool}
-      → valid ≡ record_valid (class_of s object) (record_at bytes from) → valid ≡ record_valid (class_of s (i / blocks)) (record_at bytes from)
+module _ (s : Shares) (blocks : ℕ) (bytes : List ℕ) {n object block i : ℕ} where
+  pub its-class : {first : ℕ → ℕ → ℕ → ℕ} → SoFar first blocks n object block i → i < n → n ≤ 255 * blocks → {valid : Bool}
+      → valid ≡ record_valid (class_of s object) (record_at bytes (record_stride * i)) → valid ≡ record_valid (class_of s (i / blocks)) (record_at bytes (record_stride * i))
   its-class before h few e = rw (object_of_lem object block blocks i before.turn (omega arith)) e
 
 -- ---- by its time
@@ -131,9 +131,9 @@ mistimed-search frame t bytes = record { end = λ i from. refl; step = λ i n fr
 pub block_of : (object block blocks i : ℕ) → object * blocks + block ≡ i → block < blocks → i % blocks ≡ block
 block_of object block blocks i e h = rw (← e, mul-add-mod_self_right object blocks block) (mod-eq_of_lt h)
 
-module _ (frame : ℕ) (t : Timing) (bytes : List ℕ) {n object block from i : ℕ} where
-  pub its-time : {first : ℕ → ℕ → ℕ → ℕ} → SoFar first t.blocks n object block from i → i < n → n ≤ 255 * t.blocks → {valid : Bool} {time : ℕ}
-      → time ≡ frame * frame_samples + (get_or t.updates block no_update).start.0 → valid ≡ same_bytes (time_at bytes from) (time_bytes_of time)
-      → valid ≡ same_bytes (time_at bytes from) (time_bytes_of (time_of frame t i))
+module _ (frame : ℕ) (t : Timing) (bytes : List ℕ) {n object block i : ℕ} where
+  pub its-time : {first : ℕ → ℕ → ℕ → ℕ} → SoFar first t.blocks n object block i → i < n → n ≤ 255 * t.blocks → {valid : Bool} {time : ℕ}
+      → time ≡ frame * frame_samples + (get_or t.updates block no_update).start.0 → valid ≡ same_bytes (time_at bytes (record_stride * i)) (time_bytes_of time)
+      → valid ≡ same_bytes (time_at bytes (record_stride * i)) (time_bytes_of (time_of frame t i))
   unfolding block_time
   its-time before h few e f = rw (block_of object block t.blocks i before.turn (omega arith), ← e) f

@@ -7,13 +7,12 @@ use native.Mathlib.Omega.{arith}
 use lib.Dec.{ltb}
 use lib.ListN.{length, get_or}
 use borrow.Author.Tests.{lt-ltb, le-ltb}
-use Rattle.bits.specs.Language.{pick, both}
+use Rattle.bits.specs.Language.{pick}
 use Rattle.oamd.specs.declared.TrimConfig.{TrimConfig}
 use Rattle.oamd.specs.Tables.{config_bytes}
 use Rattle.record.specs.Entries.{count, entry}
 use Rattle.record.specs.Bytes.{bytes_at}
 use Rattle.form.specs.Answer.{config_at, configs_at}
-use Rattle.valid.proofs.Entries.{SoFar, turn}
 
 pub configs-length : (s : List ℕ) (n at : ℕ) → length (configs_at s n at) ≡ n
 unfolding configs_at
@@ -34,11 +33,6 @@ byte-entry s n at i h =
     ∙ ap (λ (k : ℕ). get_or s k 0) (let e : at + 1 * i ≡ at + i = omega arith in e)
 
 -- entry i of n
-sent : (on : Bool) (i n : ℕ) → i < n → ltb i (pick on n 0) ≡ on
+pub sent : (on : Bool) (i n : ℕ) → i < n → ltb i (pick on n 0) ≡ on
 sent true i n h = lt-ltb i n h
 sent false i n h = le-ltb i 0 (omega arith)
-
--- one entry more of n, sent or not
-pub one_more : {A : Type 0} {f : Bool → A → Bool} {on : Bool} {n : ℕ} {xs : List A} {valid next t : Bool} {i : ℕ} (d x : A) → length xs ≡ n
-    → SoFar f (pick on n 0) xs valid i → i < n → get_or xs i d ≡ x → t ≡ f on x → next ≡ both valid t → SoFar f (pick on n 0) xs next (i + 1)
-one_more {on = on} {n} {i = i} d x l before h g q e = turn d before (omega arith) (rw (sent on i n h, g) q) e

@@ -2,8 +2,8 @@
 use mathlib.Core.Path.{◌≡◌, refl, sym, ap, ◌∙◌}
 use mathlib.Core.Bool.{Bool, false}
 use mathlib.Core.List.{List}
-use Prim.Native.Nat.{ℕ, zero, suc, ◌+◌, ◌-◌, ◌*◌, ◌/◌, ◌%◌, ◌≤◌, ◌<◌}
-use native.Mathlib.Nat.{sub-zero, zero-add, add-zero, add_assoc}
+use Prim.Native.Nat.{ℕ, zero, suc, ◌+◌, ◌*◌, ◌/◌, ◌%◌, ◌≤◌, ◌<◌}
+use native.Mathlib.Nat.{zero-add, add-zero, add_assoc}
 use native.Mathlib.Numerals.{add-one}
 use native.Mathlib.Omega.{arith}
 use lib.Bits.{bit_or}
@@ -21,7 +21,7 @@ use Rattle.record.specs.Bytes.{bytes_at}
 use Rattle.record.specs.Numbers.{Number}
 use Rattle.form.specs.Valid.{between_if, entries_valid, bed_valid, update_valid, config_valid, trim_valid}
 use Rattle.form.specs.Answer.{config_at, configs_at, trim_at}
-use Rattle.valid.specs.Parts.{total}
+use Rattle.valid.specs.Parts.{all_below, total}
 use Rattle.valid.proofs.Entries.{both-assoc}
 use Rattle.valid.proofs.Joined.{trim-parts}
 use Rattle.valid.proofs.Limits.{by_zero, or-zero, at_zero, both_false}
@@ -39,31 +39,7 @@ pub update-unused : (offset : ℕ) (u : Update) → eqb (u.start.0 + u.ramp.0) 0
 unfolding update_valid between_if
 update-unused offset u = both_zero u.start.0 u.ramp.0 ∙ sym (at_zero (λ start. both (eqb (start % 32) 0) (eqb u.ramp.0 0)) u.start.0)
 
--- ---- the sum of bytes, in a loop
-
-pub record Summed (s : List ℕ) (n from sum i : ℕ) : Type 0 where
-  pub within : i ≤ n
-  pub small : sum ≤ 255 * i
-  pub rest : sum + total s (n - i) (from + i) ≡ total s n from
-
-module _ {s : List ℕ} {n from : ℕ} where
-  pub unsummed : Summed s n from 0 0
-  unsummed = record { within = omega arith; small = omega arith; rest = rw (sub-zero n) (let e : from + 0 ≡ from = omega arith in rw e (omega arith)) }
-
-  pub summed : {sum i : ℕ} → Summed s n from sum i → i < n → get_or s (from + i) 0 < 256 → Summed s n from (sum + get_or s (from + i) 0) (i + 1)
-  unfolding total
-  summed {sum} {i} h l b =
-      let m : n - i ≡ suc (n - (i + 1)) = omega arith in
-      let e : from + i + 1 ≡ from + (i + 1) = omega arith in
-      let step : total s (n - i) (from + i) ≡ get_or s (from + i) 0 + total s (n - (i + 1)) (from + (i + 1)) = rw (m, e) in
-      record { within = omega arith; small = omega arith; rest = omega (arith, step, h.rest) }
-
-  pub all-summed : {sum i : ℕ} → Summed s n from sum i → n ≤ i → sum ≡ total s n from
-  unfolding total
-  all-summed {sum} {i} h l =
-      let m : n - i ≡ 0 = omega arith in
-      let none : total s (n - i) (from + i) ≡ 0 = rw m in
-      omega (arith, none, h.rest)
+-- ---- the sum of bytes
 
 total-add : (s : List ℕ) (m n at : ℕ) → total s (m + n) at ≡ total s m at + total s n (at + m)
 unfolding total
@@ -76,6 +52,15 @@ total-add s (suc m) n at =
 -- m bytes and the n behind them are 0
 both-totals : (s : List ℕ) (m n at : ℕ) → eqb (total s (m + n) at) 0 ≡ both (eqb (total s m at) 0) (eqb (total s n (at + m)) 0)
 both-totals s m n at = rw (total-add s m n at) (both_zero (total s m at) (total s n (at + m)))
+
+-- each of n bytes is 0
+pub each_zero : (s : List ℕ) (n from : ℕ) → all_below (λ i. eqb (get_or s (from + i) 0) 0) n ≡ eqb (total s n from) 0
+unfolding all_below total
+each_zero s zero from = refl
+each_zero s (suc n) from =
+    let m : suc n ≡ n + 1 = omega arith in
+    let one : total s 1 (from + n) ≡ get_or s (from + n) 0 = omega arith in
+    rw (each_zero s n from) (sym (ap (λ (k : ℕ). eqb (total s k from) 0) m ∙ both-totals s n 1 from ∙ rw one))
 
 -- those of the whole words among n bytes, and those behind them
 pub by-words : (s : List ℕ) (n from : ℕ) → both (eqb (total s (8 * (n / 8)) from) 0) (eqb (total s (n % 8) (from + 8 * (n / 8))) 0) ≡ eqb (total s n from) 0
@@ -93,28 +78,26 @@ number-zero s (suc n) at =
     scaled : (k : ℕ) → eqb (256 * k) 0 ≡ eqb k 0
     scaled k = by_zero k (λ e. rw e) (λ h e. rw (e, ne_eqb (256 * k) 0 (λ z. omega arith)))
 
--- the words before word i, which begins at `at`, have the bits of `seen`
-pub record Seen (s : List ℕ) (n from seen at i : ℕ) : Type 0 where
+-- the words before word i have the bits of `seen`
+pub record Seen (s : List ℕ) (n from seen i : ℕ) : Type 0 where
   pub within : i ≤ n
-  pub place : at ≡ from + 8 * i
   pub same : eqb seen 0 ≡ eqb (total s (8 * i) from) 0
 
 module _ {s : List ℕ} {n from : ℕ} where
-  pub unseen : Seen s n from 0 from 0
+  pub unseen : Seen s n from 0 0
   unfolding total
-  unseen = record { within = omega arith; place = omega arith; same = refl }
+  unseen = record { within = omega arith; same = refl }
 
-  pub one_seen : {seen at i word : ℕ} → Seen s n from seen at i → i < n → Number 8 s at word → Seen s n from (bit_or seen word) (at + 8) (i + 1)
-  one_seen {seen} {at} {i} {word} h l w =
+  pub one_seen : {seen i word : ℕ} → Seen s n from seen i → i < n → Number 8 s (from + 8 * i) word → Seen s n from (bit_or seen word) (i + 1)
+  one_seen {seen} {i} {word} h l w =
       let m : 8 * (i + 1) ≡ 8 * i + 8 = omega arith in
       record {
         within = omega arith;
-        place = omega (arith, h.place);
-        same = rw (or-zero seen word, m, both-totals s (8 * i) 8 from, h.same, w.is, number-zero s 8 at, h.place);
+        same = rw (or-zero seen word, m, both-totals s (8 * i) 8 from, h.same, w.is, number-zero s 8 (from + 8 * i));
       }
 
-  pub all_seen : {seen at i : ℕ} → Seen s n from seen at i → n ≤ i → eqb seen 0 ≡ eqb (total s (8 * n) from) 0
-  all_seen {seen} {at} {i} h l = let e : i ≡ n = omega (arith, h.within) in rw (← e) h.same
+  pub all_seen : {seen i : ℕ} → Seen s n from seen i → n ≤ i → eqb seen 0 ≡ eqb (total s (8 * n) from) 0
+  all_seen {seen} {i} h l = let e : i ≡ n = omega (arith, h.within) in rw (← e) h.same
 
 -- ---- what is not sent
 

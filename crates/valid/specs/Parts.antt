@@ -1,5 +1,5 @@
 -- Parts of the long tests of form, under names, so that code can make them one by one; proofs/Joined.antt shows that the parts make the whole.
-use Rattle.std.specs.Prelude.{Bool, List, ℕ, zero, suc, ◌+◌, leb, eqb, length, get_or}
+use Rattle.std.specs.Prelude.{Bool, true, List, ℕ, zero, suc, ◌+◌, leb, eqb, length, get_or}
 use Rattle.oamd.specs.declared.Bed.{Bed}
 use Rattle.oamd.specs.declared.Programme.{Programme}
 use Rattle.oamd.specs.declared.Scene.{Scene}
@@ -73,6 +73,11 @@ trims_valid c =
     and between_if (has_surround c.presence) 4 15 c.surround
     and between_if (has_height c.presence) 4 15 c.height
     and balances_valid c
+
+-- a test holds of each of the numbers below n
+unfoldable pub all_below : (ℕ → Bool) → ℕ → Bool
+all_below good zero = true
+all_below good (suc n) = all_below good n and good n
 
 -- the sum of n bytes from a place on: 0 where all of them are
 unfoldable pub total : List ℕ → ℕ → ℕ → ℕ

@@ -3,6 +3,7 @@
 #![tactic(auto)]
 
 mod ranges; // ranges.rt: one value, by whether it is carried
+mod table; // table.rt: all entries of a table
 mod programme; // programme.rt: the program assignment
 mod timing; // timing.rt: starts and ramps
 mod scenes; // scenes.rt: one record

@@ -6,16 +6,18 @@ ghost use Rattle.form.specs.Valid.{between_if};
 pub fn between(low: u8, high: u8, v: u8) -> bool
     ensures { result ≡ between low high v }
 {
-    bits::both(low <= v, v <= high)
+    (low <= v) & (v <= high)
 }
 
+#[tactic(auto, unfolding(form::specs::Valid::between_if))]
 pub fn wide_between_if(carried: bool, low: u32, high: u32, v: u32) -> bool
     ensures { result ≡ between_if carried low high v }
 {
     if carried {
-        return bits::both(low <= v, v <= high);
+        (low <= v) & (v <= high)
+    } else {
+        v == 0
     }
-    v == 0
 }
 
 pub fn between_if(carried: bool, low: u8, high: u8, v: u8) -> bool

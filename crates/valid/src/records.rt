@@ -13,16 +13,16 @@ pub fn next_turn(t: Turn, blocks: u32) -> Turn
     requires { (t.object ≤ 65025) × (t.block < blocks) }
     ensures { result ≡ turn_behind blocks t }
 {
-    let block = t.block + 1;
-    if block < blocks {
-        return Turn {
-            object: t.object,
-            block,
-        };
-    }
-    Turn {
-        object: t.object + 1,
-        block: 0,
+    if t.block + 1 < blocks {
+        Turn {
+            block: t.block + 1,
+            ..t
+        }
+    } else {
+        Turn {
+            object: t.object + 1,
+            block: 0,
+        }
     }
 }
 
@@ -34,10 +34,12 @@ pub fn valid_at(class: u8, records: &[u8], at: usize) -> bool
     if record::carries_at(records, at) {
         return sent_valid(class, records, at);
     }
-    let scene = record::scene_at(records, at);
-    let divergence = record::divergence_at(records, at);
-    let precise = record::precise_at(records, at);
-    unsent_valid(class, scene, divergence, precise)
+    unsent_valid(
+        class,
+        record::scene_at(records, at),
+        record::divergence_at(records, at),
+        record::precise_at(records, at),
+    )
 }
 
 // How many records a programme and a timing ask for.

@@ -7,11 +7,8 @@ ghost use Rattle.form.specs.Valid.{scene_valid, least_divergence, most_divergenc
 ghost use Rattle.valid.specs.Parts.{within4, within_limits, rendered_valid};
 
 use crate::ranges::{between, between_if};
-use bits::{both, either, less};
 use oamd::{Divergence, Precise, Scene};
-
-// The class of a dynamic object, the only one whose render info is sent.
-const DYNAMIC: u8 = 2;
+use record::DYNAMIC;
 
 // x and y in 62nds: at the most, and the default.
 const MOST_XY: u8 = 62;
@@ -58,10 +55,10 @@ fn over(records: &[u8], at: usize, a: u8, b: u8, c: u8, d: u8) -> u8
     requires { at + 4 ≤ length records.now }
     ensures { eqb result 0 ≡ within4 records.now at a b c d }
 {
-    less(records[at], a)
-        | less(records[at + 1], b)
-        | less(records[at + 2], c)
-        | less(records[at + 3], d)
+    records[at].saturating_sub(a)
+        | records[at + 1].saturating_sub(b)
+        | records[at + 2].saturating_sub(c)
+        | records[at + 3].saturating_sub(d)
 }
 
 // Whether bytes 2 to 17 are at most what they may be where render info is sent. They are 16, one behind the other, joined with no test between: so the machine
@@ -85,20 +82,15 @@ fn default_valid(s: Scene) -> bool
     let v = s.volume;
     let z = s.zone;
     let n = s.screen;
-    let located = both(
-        l.x == MIDDLE,
-        both(l.y == MIDDLE, both(l.z == LEVEL, l.distance == 0)),
-    );
+    let located = (l.x == MIDDLE) & (l.y == MIDDLE) & (l.z == LEVEL) & (l.distance == 0);
     let sized = v.width | v.depth | v.height == 0;
-    let zoned = both(z.index == 0, z.elevation == 1);
+    let zoned = (z.index == 0) & (z.elevation == 1);
     let screened = n.used | n.factor | n.depth == 0;
-    both(
-        located,
-        both(sized, both(zoned, both(screened, s.snap == 0))),
-    )
+    located & sized & zoned & screened & (s.snap == 0)
 }
 
 // Bytes 0 to 16, of an object of a class, where render info is not sent.
+#[tactic(auto, unfolding(form::specs::Valid::scene_valid, crate::specs::Parts::rendered_valid))]
 fn scene_valid(class: u8, s: Scene) -> bool
     requires { carries s ≡ false }
     ensures { result ≡ scene_valid class s }
@@ -106,9 +98,7 @@ fn scene_valid(class: u8, s: Scene) -> bool
     let active = between(0, 1, s.active);
     let gain = between_if(s.active == 1, 0, MOST_GAIN, s.gain);
     let priority = between_if(s.active == 1, 0, MOST_PRIORITY, s.priority);
-    let rendered = default_valid(s);
-    let rest = both(gain, both(priority, rendered));
-    both(active, both(s.class == class, rest))
+    active & (s.class == class) & gain & priority & default_valid(s)
 }
 
 // The least value by object_div_mode: code 0 of mode 2 is reserved (5.5.14).
@@ -130,6 +120,7 @@ fn most_divergence(mode: u8) -> u8
 }
 
 // Bytes 17 to 19.
+#[tactic(auto, unfolding(form::specs::Valid::divergence_valid))]
 fn divergence_valid(sent: bool, d: Divergence) -> bool
     ensures { result ≡ divergence_valid sent d }
 {
@@ -138,10 +129,11 @@ fn divergence_valid(sent: bool, d: Divergence) -> bool
     let used = between_if(sent, 0, 1, d.used);
     let mode = between_if(d.used == 1, 0, MOST_MODE, d.mode);
     let value = between_if(d.used == 1, least, most, d.value);
-    both(used, both(mode, value))
+    used & mode & value
 }
 
 // Bytes 20 to 23: a code for each axis that the presence names (Table 43).
+#[tactic(auto, unfolding(form::specs::Valid::precise_valid))]
 fn precise_valid(sent: bool, p: Precise) -> bool
     ensures { result ≡ precise_valid sent p }
 {
@@ -152,7 +144,7 @@ fn precise_valid(sent: bool, p: Precise) -> bool
     let x = between_if(has_x, 0, MOST_PRECISE, p.x);
     let y = between_if(has_y, 0, MOST_PRECISE, p.y);
     let z = between_if(has_z, 0, MOST_PRECISE, p.z);
-    both(presence, both(x, both(y, z)))
+    presence & x & y & z
 }
 
 // The same where it is sent; most are not used, and their zeros are looked at together.
@@ -183,23 +175,18 @@ pub fn sent_valid(class: u8, records: &[u8], at: usize) -> bool
 {
     let limits = within_limits(records, at);
     let high = LEAST_Z <= records[at + 6];
-    let screen = either(
-        records[at + 13] == 1,
-        records[at + 14] | records[at + 15] == 0,
-    );
-    let hanging = both(DYNAMIC == class, both(high, screen));
+    let screen = (records[at + 13] == 1) | (records[at + 14] | records[at + 15] == 0);
+    let hanging = (DYNAMIC == class) & high & screen;
     let divergence = diverging_valid(record::divergence_at(records, at));
     let precise = refining_valid(record::precise_at(records, at));
-    both(limits, both(hanging, both(divergence, precise)))
+    limits & hanging & divergence & precise
 }
 
 // A record whose render info is not sent.
+#[tactic(auto, unfolding(form::specs::Valid::record_valid))]
 pub fn unsent_valid(class: u8, s: Scene, d: Divergence, p: Precise) -> bool
     requires { carries s ≡ false }
     ensures { result ≡ record_valid class (record_of s d p) }
 {
-    let scene = scene_valid(class, s);
-    let divergence = divergence_valid(false, d);
-    let precise = precise_valid(false, p);
-    both(scene, both(divergence, precise))
+    scene_valid(class, s) & divergence_valid(false, d) & precise_valid(false, p)
 }

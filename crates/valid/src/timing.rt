@@ -4,8 +4,8 @@ ghost use Rattle.bits.specs.Language.{pick};
 ghost use Rattle.form.specs.Valid.{first_start, update_valid, timing_valid};
 ghost use Rattle.valid.specs.Parts.{updates_valid};
 
-use crate::ranges::{between, wide_between_if};
-use bits::both;
+use crate::ranges::between;
+use crate::table::all_below;
 use oamd::{MOST_BLOCKS, Timing, Update};
 use units::SampleCount;
 
@@ -13,9 +13,9 @@ use units::SampleCount;
 const STEP: u16 = 32;
 
 // The last start of 6 bits with the last offset, and the longest ramp.
-const MOST_START: u32 = 2047;
+const MOST_START: u16 = 2047;
 
-const MOST_RAMP: u32 = 2048;
+const MOST_RAMP: u16 = 2048;
 
 // The sample offset of a start.
 fn offset_of(start: SampleCount) -> SampleCount
@@ -24,29 +24,18 @@ fn offset_of(start: SampleCount) -> SampleCount
     SampleCount::new(start.raw() % STEP)
 }
 
-fn offset_if(used: bool, offset: SampleCount) -> SampleCount
-    ensures { result.0 ≡ pick used offset.0 0 }
-{
-    if used {
-        return offset;
-    }
-    SampleCount::new(0)
-}
-
 // An entry of the updates: what its start leaves by 32 is the offset.
+#[tactic(auto, unfolding(form::specs::Valid::update_valid, form::specs::Valid::between_if))]
 fn update_valid(offset: SampleCount, used: bool, u: Update) -> bool
     ensures { result ≡ update_valid offset.0 used u }
 {
-    let start = u.start;
-    let ramp = u.ramp;
+    let start = u.start.raw();
+    let ramp = u.ramp.raw();
     if !used {
-        return start.raw() as u32 + ramp.raw() as u32 == 0;
+        return start as u32 + ramp as u32 == 0;
     }
-    let found = offset_of(start);
-    let left = offset_if(used, offset);
-    let started = wide_between_if(used, 0, MOST_START, start.raw() as u32);
-    let ramped = wide_between_if(used, 0, MOST_RAMP, ramp.raw() as u32);
-    both(started, both(found.raw() == left.raw(), ramped))
+    let left = offset_of(u.start).raw();
+    (start <= MOST_START) & (left == offset.raw()) & (ramp <= MOST_RAMP)
 }
 
 // The first `blocks` of the updates are used.
@@ -54,32 +43,21 @@ fn updates_valid(offset: SampleCount, updates: [Update; MOST_BLOCKS], blocks: u8
     ensures { result ≡ updates_valid offset.0 blocks updates }
 {
     let used = blocks as usize;
-    let mut valid = true;
-    let mut i: usize = 0;
-    while i < MOST_BLOCKS {
-        let u = updates[i];
-        valid = both(valid, update_valid(offset, i < used, u));
-        i = i + 1;
-    }
-    valid
+    all_below(MOST_BLOCKS, |i| update_valid(offset, i < used, updates[i]))
 }
 
 // The sample offset of all blocks: that of the first one.
 pub fn sample_offset(updates: [Update; MOST_BLOCKS]) -> SampleCount
     ensures { result.0 ≡ first_start updates % 32 }
 {
-    let first = updates[0];
-    let start = first.start;
-    offset_of(start)
+    offset_of(updates[0].start)
 }
 
 // A timing such as some accepted payload gives.
+#[tactic(auto, unfolding(form::specs::Valid::timing_valid, form::specs::Valid::offset_in_samples, crate::specs::Parts::updates_valid))]
 pub fn timing_valid(t: Timing) -> bool
     ensures { result ≡ timing_valid t }
 {
-    let updates = t.updates;
-    let offset = sample_offset(updates);
     let blocks = between(0, MOST_BLOCKS as u8, t.blocks);
-    let entries = updates_valid(offset, updates, t.blocks);
-    both(blocks, entries)
+    blocks & updates_valid(sample_offset(t.updates), t.updates, t.blocks)
 }

@@ -9,7 +9,7 @@ ghost use Rattle.form.specs.Answer.{config_at, configs_at, trim_at};
 ghost use Rattle.valid.specs.Parts.{balances_valid, trims_valid, total};
 
 use crate::ranges::{between, between_if};
-use bits::both;
+use crate::table::all_below;
 use oamd::{CONFIG_BYTES, PER_OBJECT_BYTE, TRIM_CONFIGS, TRIM_FIXED, TRIM_HEAD, TrimConfig};
 
 // The least code of trim_surround and trim_height that is not reserved, and the greatest of any trim or balance.
@@ -30,10 +30,26 @@ const MODE: usize = 2;
 // global_trim_mode 2, the last: the configurations are sent.
 const SENT: u8 = 2;
 
-fn config_of(trim: &[u8], at: usize) -> TrimConfig
-    requires { at + config_bytes ≤ length trim.now }
-    ensures { result ≡ config_at trim.now at }
+// The configuration that begins at `at`; where there is no whole one, one of zeros.
+#[tactic(auto, unfolding(form::specs::Answer::config_at))]
+pub fn config_at(trim: &[u8], at: usize) -> TrimConfig
+    ensures there { at + config_bytes ≤ length trim.now → result ≡ config_at trim.now at }
+    ensures absent { length trim.now < at + config_bytes → result ≡ no_config }
 {
+    if !record::has_bytes(trim, at, CONFIG_BYTES) {
+        return TrimConfig {
+            bydefault: 0,
+            disabled: 0,
+            presence: 0,
+            centre: 0,
+            surround: 0,
+            height: 0,
+            tbsign: 0,
+            tbamount: 0,
+            lissign: 0,
+            lisamount: 0,
+        };
+    }
     TrimConfig {
         bydefault: trim[at],
         disabled: trim[at + 1],
@@ -48,29 +64,8 @@ fn config_of(trim: &[u8], at: usize) -> TrimConfig
     }
 }
 
-// The configuration that begins at `at`; where there is no whole one, one of zeros.
-pub fn config_at(trim: &[u8], at: usize) -> TrimConfig
-    ensures there { at + config_bytes ≤ length trim.now → result ≡ config_at trim.now at }
-    ensures absent { length trim.now < at + config_bytes → result ≡ no_config }
-{
-    if record::has_bytes(trim, at, CONFIG_BYTES) {
-        return config_of(trim, at);
-    }
-    TrimConfig {
-        bydefault: 0,
-        disabled: 0,
-        presence: 0,
-        centre: 0,
-        surround: 0,
-        height: 0,
-        tbsign: 0,
-        tbamount: 0,
-        lissign: 0,
-        lisamount: 0,
-    }
-}
-
 // The two balances: a sign and an amount each (Table 34).
+#[tactic(auto, unfolding(crate::specs::Parts::balances_valid))]
 fn balances_valid(c: TrimConfig) -> bool
     ensures { result ≡ balances_valid c }
 {
@@ -80,10 +75,11 @@ fn balances_valid(c: TrimConfig) -> bool
     let tbamount = between_if(has_tb, 0, MOST_TRIM_CODE, c.tbamount);
     let lissign = between_if(has_lis, 0, 1, c.lissign);
     let lisamount = between_if(has_lis, 0, MOST_TRIM_CODE, c.lisamount);
-    both(tbsign, both(tbamount, both(lissign, lisamount)))
+    tbsign & tbamount & lissign & lisamount
 }
 
 // The three trims, 0 to 3 of the last two reserved (Tables 36 and 37), and the balances.
+#[tactic(auto, unfolding(crate::specs::Parts::trims_valid))]
 fn trims_valid(c: TrimConfig) -> bool
     ensures { result ≡ trims_valid c }
 {
@@ -93,35 +89,28 @@ fn trims_valid(c: TrimConfig) -> bool
     let centre = between_if(has_centre, 0, MOST_TRIM_CODE, c.centre);
     let surround = between_if(has_surround, LEAST_TRIM, MOST_TRIM_CODE, c.surround);
     let height = between_if(has_height, LEAST_TRIM, MOST_TRIM_CODE, c.height);
-    let balances = balances_valid(c);
-    both(centre, both(surround, both(height, balances)))
+    centre & surround & height & balances_valid(c)
 }
 
 // A configuration, by whether it is sent.
+#[tactic(auto, unfolding(form::specs::Valid::config_valid, crate::specs::Parts::trims_valid, crate::specs::Parts::balances_valid))]
 fn config_valid(sent: bool, c: TrimConfig) -> bool
     ensures { result ≡ config_valid sent c }
 {
-    let chosen = both(sent, c.bydefault == 0);
-    let custom = both(sent, both(c.bydefault == 0, c.disabled == 0));
+    let chosen = sent & (c.bydefault == 0);
+    let custom = chosen & (c.disabled == 0);
     let bydefault = between_if(sent, 0, 1, c.bydefault);
     let disabled = between_if(chosen, 0, 1, c.disabled);
     let presence = between_if(custom, 0, ALL_PARTS, c.presence);
-    let trims = trims_valid(c);
-    both(bydefault, both(disabled, both(presence, trims)))
+    bydefault & disabled & presence & trims_valid(c)
 }
 
 // Whether n bytes are 0, one by one.
 fn zero_bytes(bytes: &[u8], from: usize, n: usize) -> bool
-    requires { (from + n ≤ length bytes.now) × (n ≤ most_trim) }
+    requires { from + n ≤ length bytes.now }
     ensures { result ≡ eqb (total bytes.now n from) 0 }
 {
-    let mut sum: u32 = 0;
-    let mut i: usize = 0;
-    while i < n {
-        sum = sum + bytes[from + i] as u32;
-        i = i + 1;
-    }
-    sum == 0
+    all_below(n, |i| bytes[from + i] == 0)
 }
 
 // Whether n times eight bytes are 0, eight at once.
@@ -130,12 +119,8 @@ fn zero_words(bytes: &[u8], from: usize, n: usize) -> bool
     ensures { result ≡ eqb (total bytes.now (8 * n) from) 0 }
 {
     let mut seen: u64 = 0;
-    let mut at = from;
-    let mut i: usize = 0;
-    while i < n {
-        seen = seen | record::eight_at(bytes, at);
-        at = at + 8;
-        i = i + 1;
+    for i in 0..n {
+        seen |= record::eight_at(bytes, from + 8 * i);
     }
     seen == 0
 }
@@ -146,9 +131,7 @@ fn zeros(bytes: &[u8], from: usize, n: usize) -> bool
     ensures { result ≡ eqb (total bytes.now n from) 0 }
 {
     let words = n / 8;
-    let front = zero_words(bytes, from, words);
-    let back = zero_bytes(bytes, from + 8 * words, n % 8);
-    both(front, back)
+    zero_words(bytes, from, words) & zero_bytes(bytes, from + 8 * words, n % 8)
 }
 
 // The configurations, all sent or none.
@@ -159,16 +142,9 @@ fn configs_valid(sent: bool, trim: &[u8]) -> bool
     if !sent {
         return zeros(trim, TRIM_HEAD, CONFIG_BYTES * TRIM_CONFIGS);
     }
-    let mut valid = true;
-    let mut at: usize = TRIM_HEAD;
-    let mut i: usize = 0;
-    while i < TRIM_CONFIGS {
-        let c = config_at(trim, at);
-        valid = both(valid, config_valid(sent, c));
-        at = at + CONFIG_BYTES;
-        i = i + 1;
-    }
-    valid
+    all_below(TRIM_CONFIGS, |i| {
+        config_valid(sent, config_at(trim, TRIM_HEAD + CONFIG_BYTES * i))
+    })
 }
 
 // The flags of the objects, all sent or none.
@@ -176,15 +152,10 @@ fn flags_valid(sent: bool, trim: &[u8], objects: u8) -> bool
     requires { trim_fixed + objects ≤ length trim.now }
     ensures { result ≡ entries_valid (λ used x. between_if used 0 1 x) (pick sent objects 0) (bytes_at trim.now objects trim_fixed) }
 {
-    let count = objects as usize;
-    let mut valid = true;
-    let mut i: usize = 0;
-    while i < count {
-        let flag = trim[TRIM_FIXED + i];
-        valid = both(valid, between_if(sent, 0, 1, flag));
-        i = i + 1;
-    }
-    valid
+    all_below(
+        objects as usize,
+        |i| between_if(sent, 0, 1, trim[TRIM_FIXED + i]),
+    )
 }
 
 // A table of which there is all.
@@ -199,8 +170,7 @@ fn table_valid(objects: u8, trim: &[u8]) -> bool
     let configs = configs_valid(trim[MODE] == SENT, trim);
     let per_object = between_if(there, 0, 1, trim[PER_OBJECT_BYTE]);
     let flags = flags_valid(trim[PER_OBJECT_BYTE] == 1, trim, objects);
-    let rest = both(configs, both(per_object, flags));
-    both(present, both(warp, both(mode, rest)))
+    present & warp & mode & configs & per_object & flags
 }
 
 // A trim table such as some accepted payload with so many objects gives, and all of it.

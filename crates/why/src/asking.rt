@@ -2,35 +2,14 @@
 use std::env::{Env, FillError};
 
 // What a word counts as that is missing, is no number in decimal, or is above this: no payload has so many objects, blocks or bytes.
-const LAST: u32 = 4294967295;
+const LAST: u32 = u32::MAX;
 
-const MOST: u64 = 4294967295;
-
-fn wide(x: u8) -> u64 {
-    x as u64
-}
-
+// Digits alone: `parse` would take a sign, too.
 fn number_of(word: &[u8]) -> u32 {
-    if word.len() == 0 {
-        return LAST;
+    match str::from_utf8(word) {
+        Ok(digits) if word.iter().all(|b| b.is_ascii_digit()) => digits.parse().unwrap_or(LAST),
+        _ => LAST,
     }
-    let mut n: u64 = 0;
-    let mut i: usize = 0;
-    while i < word.len() {
-        let digit = wide(word[i]);
-        if digit < 48 {
-            return LAST;
-        }
-        if 57 < digit {
-            return LAST;
-        }
-        n = 10 * n + (digit - 48);
-        if MOST < n {
-            return LAST;
-        }
-        i = i + 1;
-    }
-    n as u32
 }
 
 // Which argument is a part, from 0 on, of a question; the program's own name is the first.

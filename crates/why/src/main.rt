@@ -2,10 +2,8 @@
 // block, and a byte of their record.
 #![tactic(auto)]
 
-ghost use Rattle.std.specs.Prelude.{length, ◌≡◌};
-
 use bits::Refusal;
-use sources::{MOST_STEPS, WhyAnswer};
+use sources::WhyAnswer;
 use std::env::Env;
 use std::io;
 use std::io::Print;
@@ -16,23 +14,9 @@ mod steps; // steps.rt: the line of a step
 // The questions that are answered, at the most.
 const MOST_QUESTIONS: u32 = 1000;
 
-// One byte more than a payload may have, so that a longer one is told.
-fn room() -> [u8; 4097]
-    ensures { 4097 ≡ length result }
-{
-    [0; 4097]
-}
-
 fn show_steps<P: Print>(out: &P, a: WhyAnswer) -> io::Result<()> {
-    let told = a.steps;
-    let count = a.count as usize;
-    let mut i: usize = 0;
-    while i < MOST_STEPS {
-        if count <= i {
-            return Ok(());
-        }
-        steps::show(out, told[i])?;
-        i = i + 1;
+    for step in a.steps.iter().take(a.count as usize) {
+        steps::show(out, *step)?;
     }
     Ok(())
 }
@@ -41,7 +25,7 @@ fn show_steps<P: Print>(out: &P, a: WhyAnswer) -> io::Result<()> {
 fn show<P: Print>(out: &P, a: WhyAnswer) -> io::Result<()> {
     printing::line(out, &keys::REFUSAL, a.refusal as u64)?;
     printing::line(out, &keys::PLACE, a.place)?;
-    if a.refusal == bits::number(Refusal::EndsEarly) {
+    if a.refusal == Refusal::EndsEarly.number() {
         printing::line(out, &keys::MISSING, a.missing as u64)?;
     }
     show_steps(out, a)
@@ -58,19 +42,17 @@ fn answer<R: Env + Print>(rt: &R, payload: &[u8], question: u32) -> io::Result<(
 // All questions; there is one, though there are no words.
 fn answer_all<R: Env + Print>(rt: &R, payload: &[u8]) -> io::Result<()> {
     answer(rt, payload, 0)?;
-    let mut question: u32 = 1;
-    while question < MOST_QUESTIONS {
+    for question in 1..MOST_QUESTIONS {
         if !asking::begins(rt, question) {
-            return Ok(());
+            break;
         }
         answer(rt, payload, question)?;
-        question = question + 1;
     }
     Ok(())
 }
 
 fn main(rt: HostRuntime) -> io::Result<()> {
-    let mut payload = room();
+    let mut payload = [0; printing::ROOM];
     let n = printing::read_full(&mut rt.reader(), &mut payload)?;
     answer_all(&rt, &payload[..n])
 }

@@ -3,10 +3,10 @@ use mathlib.Core.Path.{◌≡◌, refl, ap, ap₂, ◌∙◌}
 use mathlib.Core.List.{List, [], ◌∷◌, ◌++◌}
 use Prim.Native.Nat.{ℕ, zero, suc, ◌+◌, ◌-◌, ◌*◌, ◌%◌, ◌≤◌, ◌<◌}
 use native.Mathlib.Omega.{arith}
-use lib.ListN.{length-append}
+use lib.ListN.{get_or, length-append}
 use Rattle.bits.specs.Writes.{to_bits, each_bits}
 use Rattle.bits.specs.Lists.{length-to_bits}
-use Rattle.writer.proofs.Entries.{steps_more, steps_none}
+use Rattle.record.specs.Entries.{entry}
 use Rattle.oamd.specs.Record.{Record}
 use Rattle.oamd.specs.Payload.{Tables}
 use Rattle.oamd.specs.Tables.{record_stride}
@@ -14,14 +14,28 @@ use Rattle.writer.specs.Parts.{Wide, Inside}
 use Rattle.form.specs.Form.{timing_bits, by_object, object_data_bits, object_element_bits}
 use Rattle.record.specs.Bytes.{record_at, records_at}
 
-module _ (f : ℕ → Record → List ℕ) (s : List ℕ) (n i k : ℕ) where
-  pub records_more : i < n → each_bits f i (records_at s (n - i) k) ≡ f i (record_at s k) ++ each_bits f (i + 1) (records_at s (n - (i + 1)) (k + record_stride))
-  unfolding records_at
-  records_more = steps_more f (record_at s) record_stride (records_at s) (λ m j. refl) n i k
+-- the byte behind those of i records and one more
+next_byte : (i : ℕ) → record_stride * i + record_stride ≡ record_stride * (i + 1)
+next_byte i = omega arith
 
-  pub records_none : n ≤ i → each_bits f i (records_at s (n - i) k) ≡ []
-  unfolding records_at
-  records_none = steps_none f (records_at s) (λ j. refl) n i k
+-- record i of n, and those behind it
+module _ (f : ℕ → Record → List ℕ) (s : List ℕ) (n i : ℕ) where
+  pub records_more : i < n → each_bits f i (records_at s (n - i) (record_stride * i))
+      ≡ f i (record_at s (record_stride * i)) ++ each_bits f (i + 1) (records_at s (n - (i + 1)) (record_stride * (i + 1)))
+  unfolding records_at each_bits
+  records_more h =
+      ap (λ (m : ℕ). each_bits f i (records_at s m (record_stride * i))) (let d : n - i ≡ suc (n - (i + 1)) = omega arith in d)
+      ∙ ap₂ (λ (j k : ℕ). f i (record_at s (record_stride * i)) ++ each_bits f j (records_at s (n - (i + 1)) k)) (let e : suc i ≡ i + 1 = omega arith in e) (next_byte i)
+
+  pub records_none : n ≤ i → each_bits f i (records_at s (n - i) (record_stride * i)) ≡ []
+  unfolding records_at each_bits
+  records_none h = ap (λ (m : ℕ). each_bits f i (records_at s m (record_stride * i))) (let d : n - i ≡ 0 = omega arith in d)
+
+-- the record of a number
+pub record-entry : (s : List ℕ) (n i : ℕ) (d : Record) → i < n → get_or (records_at s n 0) i d ≡ record_at s (record_stride * i)
+unfolding records_at
+record-entry s n i d h =
+    entry record_stride record_at records_at (λ s at. refl) (λ s n at. refl) s n 0 i d h ∙ ap (record_at s) (let e : 0 + record_stride * i ≡ record_stride * i = omega arith in e)
 
 -- m records, and those behind them
 pub records-append : (s : List ℕ) (m r k : ℕ) → records_at s (m + r) k ≡ records_at s m k ++ records_at s r (k + record_stride * m)

@@ -1,6 +1,6 @@
 -- One pass over the records: each is tested by two tests at once, and what was seen and what is still to come answer for all. Assumes nothing.
 use mathlib.Core.Path.{◌≡◌, refl, ap, ap₂, sym, subst, ◌∙◌}
-use mathlib.Core.Bool.{Bool, true}
+use mathlib.Core.Bool.{Bool, ◌||◌}
 use mathlib.Core.List.{List, [], ◌∷◌, ◌++◌, append_assoc}
 use Prim.Native.Nat.{ℕ, zero, suc, ◌+◌, ◌-◌, ◌*◌, ◌%◌, ◌≤◌, min}
 use native.Mathlib.Nat.{mul-add-mod_self_right, mod-eq_of_lt, mul-le-mul_left}
@@ -8,7 +8,6 @@ use native.Mathlib.Omega.{arith}
 use lib.Dec.{eqb}
 use lib.ListN.{length, take, drop}
 use lib.Seq.{take-append_seam, drop-append_seam}
-use Rattle.bits.specs.Language.{pick}
 use Rattle.bits.specs.Writes.{each_bits}
 use Rattle.oamd.specs.declared.Shares.{Shares}
 use Rattle.oamd.specs.declared.Timing.{Timing}
@@ -30,12 +29,12 @@ use Rattle.writer.proofs.Widths.{Counted, wide_is, wide-within}
 abbrev pub wrong_from : Shares → ℕ → Timing → List ℕ → ℕ → ℕ → ℕ → ℕ
 wrong_from shares frame t s i n from = min (bad_from shares t.blocks s i n from) (mistimed_from frame t s i n from)
 
--- before record i of n, which begins at a byte and is a block of an object: some were seen that need the one group or the other, and so many bits were counted
-pub record Surveying (shares : Shares) (frame : ℕ) (t : Timing) (s : List ℕ) (n object block from i : ℕ) (one other : Bool) (width : ℕ) : Type 0 where
-  pub search-so-far : SoFar (wrong_from shares frame t s) t.blocks n object block from i
-  pub one-so-far : pick one true (any diverges (records_at s (n - i) from)) ≡ any diverges (records_at s n 0)
-  pub other-so-far : pick other true (any refines (records_at s (n - i) from)) ≡ any refines (records_at s n 0)
-  pub bits-so-far : Counted (most_block * i) width (blocks_bits t.blocks 0 (records_at s n 0)) (blocks_bits t.blocks i (records_at s (n - i) from))
+-- before record i of n, which is a block of an object: some were seen that need the one group or the other, and so many bits were counted
+pub record Surveying (shares : Shares) (frame : ℕ) (t : Timing) (s : List ℕ) (n object block i : ℕ) (one other : Bool) (width : ℕ) : Type 0 where
+  pub search-so-far : SoFar (wrong_from shares frame t s) t.blocks n object block i
+  pub one-so-far : one || any diverges (records_at s (n - i) (record_stride * i)) ≡ any diverges (records_at s n 0)
+  pub other-so-far : other || any refines (records_at s (n - i) (record_stride * i)) ≡ any refines (records_at s n 0)
+  pub bits-so-far : Counted (most_block * i) width (blocks_bits t.blocks 0 (records_at s n 0)) (blocks_bits t.blocks i (records_at s (n - i) (record_stride * i)))
 
 -- ---- the same bits object by object
 
@@ -86,10 +85,10 @@ as-objects s objects blocks e =
 
 -- of all records: as the form takes them
 module _ (shares : Shares) (frame : ℕ) (p : Programme) (t : Timing) (s : List ℕ) {n : ℕ} {r : Found} where
-  pub gathered : Surveyed shares frame t s n r → n ≡ record_count p t → n ≤ r.seen → t.blocks ≤ most_blocks → Gathered p t s r
-  gathered found e all few =
+  pub gathered : Surveyed shares frame t s n r → n ≡ record_count p t → t.blocks ≤ most_blocks → Gathered p t s r
+  gathered found e few =
       let most : p.objects * t.blocks ≤ p.objects * most_blocks = mul-le-mul_left p.objects few in
       record {
-        needed = subst (λ (i : ℕ). Needed (records_at s i 0) r.groups) e (found.needed all);
-        wide = wide_is (as-objects s p.objects t.blocks e) (wide-within (omega (arith, e, most)) (found.wide all));
+        needed = subst (λ (i : ℕ). Needed (records_at s i 0) r.groups) e found.needed;
+        wide = wide_is (as-objects s p.objects t.blocks e) (wide-within (omega (arith, e, most)) found.wide);
       }

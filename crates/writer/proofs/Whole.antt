@@ -140,37 +140,37 @@ pub record Accepted (p : Programme) (t : Timing) (s : List ℕ) : Type 0 where
   pub whole : record_stride * record_count p t ≤ length s
 
 module _ (frame : ℕ) (p : Programme) (t : Timing) (s x out : List ℕ) where
-  pub bad-programme : {r : WriteAnswer} → r ≡ refused_write (number_of NotValid) 0 → programme_valid p ≡ false → gives r out ≡ writing frame p t s x out
+  pub bad-programme : programme_valid p ≡ false → refused_to out (number_of NotValid) 0 ≡ writing frame p t s x out
   unfolding writing
-  bad-programme e a = told out e (sym (rw a refl))
+  bad-programme a = sym (rw a refl)
 
-  pub bad-timing : {r : WriteAnswer} → r ≡ refused_write (number_of NotValid) 0 → programme_valid p ≡ true → timing_valid t ≡ false → gives r out ≡ writing frame p t s x out
+  pub bad-timing : programme_valid p ≡ true → timing_valid t ≡ false → refused_to out (number_of NotValid) 0 ≡ writing frame p t s x out
   unfolding writing
-  bad-timing e a b = told out e (sym (rw (a, b) refl))
+  bad-timing a b = sym (rw (a, b) refl)
 
-  pub few_bytes_lem : {r : WriteAnswer} → r ≡ refused_write (number_of NotValid) 0 → programme_valid p ≡ true → timing_valid t ≡ true → length s < record_stride * record_count p t
-      → gives r out ≡ writing frame p t s x out
+  pub few_bytes_lem : programme_valid p ≡ true → timing_valid t ≡ true → length s < record_stride * record_count p t
+      → refused_to out (number_of NotValid) 0 ≡ writing frame p t s x out
   unfolding writing
-  few_bytes_lem e a b c = told out e (sym (rw (a, b, lt-leb (record_stride * record_count p t) (length s) c) refl))
+  few_bytes_lem a b c = sym (rw (a, b, lt-leb (record_stride * record_count p t) (length s) c) refl)
 
   module _ (a : Accepted p t s) {bad : ℕ} (d : bad ≡ first_refused frame p t s) where
     judging : judged out (tables_of p t s x) bad (leb (trim_needed p.objects) (length x)) ≡ writing frame p t s x out
     unfolding writing
     judging = sym (rw (a.programme, a.timing, le-leb (record_stride * record_count p t) (length s) a.whole, ← d) refl)
 
-    pub bad_record : {r : WriteAnswer} → r ≡ refused_write (number_of NotValid) (1 + bad) → bad < record_count p t → gives r out ≡ writing frame p t s x out
+    pub bad_record : bad < record_count p t → refused_to out (number_of NotValid) (1 + bad) ≡ writing frame p t s x out
     unfolding judged
-    bad_record e h = told out e (sym (rw (lt-ltb bad (record_count p t) h) refl) ∙ judging)
+    bad_record h = sym (rw (lt-ltb bad (record_count p t) h) refl) ∙ judging
 
     module _ (h : record_count p t ≤ bad) where
       good-records : trimmed out (tables_of p t s x) (leb (trim_needed p.objects) (length x)) ≡ writing frame p t s x out
       unfolding judged
       good-records = sym (rw (le-ltb bad (record_count p t) h) refl) ∙ judging
 
-      pub bad-trim : {r : WriteAnswer} → r ≡ refused_write (number_of NotValid) (1 + record_count p t)
-          → (leb (trim_needed p.objects) (length x) and trim_valid p.objects (trim_at p.objects x)) ≡ false → gives r out ≡ writing frame p t s x out
+      pub bad-trim : (leb (trim_needed p.objects) (length x) and trim_valid p.objects (trim_at p.objects x)) ≡ false
+          → refused_to out (number_of NotValid) (1 + record_count p t) ≡ writing frame p t s x out
       unfolding trimmed
-      bad-trim g e = told out g (sym (rw e refl) ∙ good-records)
+      bad-trim e = sym (rw e refl) ∙ good-records
 
       pub good-trim : (leb (trim_needed p.objects) (length x) and trim_valid p.objects (trim_at p.objects x)) ≡ true
           → fitted out (form (tables_of p t s x)) ≡ writing frame p t s x out

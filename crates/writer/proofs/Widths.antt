@@ -45,6 +45,9 @@ module _ {i k : ℕ} {p : Packed} {l : List ℕ} (h : PacksIn i k p l) where
   pub packed-wide : Wide k p.width.0 l
   packed-wide = record { same = packs-length h.packs; most = h.most }
 
+  pub at_most : PacksIn 0 k p l
+  at_most = record { packs = h.packs; least = omega arith; most = h.most }
+
   pub packed-laid : {s t : List ℕ} {at r : Pen} → Laid p.width.0 s t at r (to_bits p.width.0 p.value) → Laid k s t at r l
   packed-laid g = laid-within h.most (laid_is h.packs.same g)
 

@@ -1,5 +1,5 @@
 -- What the parts of a form are laid by, found before a bit is laid.
-use Rattle.std.specs.Prelude.{◌≡◌, Bool, true, false, List, [], ℕ, ◌+◌, ◌*◌, ◌≤◌, length}
+use Rattle.std.specs.Prelude.{◌≡◌, Bool, true, false, List, [], ◌++◌, ℕ, zero, suc, ◌+◌, ◌*◌, ◌<◌, ◌≤◌, length}
 use Rattle.bits.specs.Language.{pick}
 use Rattle.bits.specs.Writes.{each_bits}
 use Rattle.oamd.specs.declared.Programme.{Programme}
@@ -12,6 +12,9 @@ use Rattle.form.specs.Valid.{record_count}
 use Rattle.form.specs.Form.{divergence_bits, precise_bits, any, diverges, refines, object_element_bits, extended_element_bits, trim_element_bits, form_bits}
 use Rattle.form.specs.Form.{size_bits, size_for, element_bits, by_object, object_data_bits}
 use Rattle.record.specs.Bytes.{records_at}
+use Rattle.coding.specs.declared.Packed.{Packed}
+use Rattle.coding.specs.Packing.{PacksIn}
+use Rattle.laying.specs.Laying.{widest_put, most_position}
 use Rattle.form.specs.Answer.{trim_at, tables_of}
 use Rattle.writer.specs.Most.{most_object_fields, most_extended_fields, most_trim_fields, most_size, most_padding, most_records, most_form}
 use Rattle.writer.specs.declared.Groups.{Groups}
@@ -58,6 +61,23 @@ trim_element_part x objects = element_bits 2 (trim_bits x objects)
 pub record Wide (k n : ℕ) (l : List ℕ) : Type 0 where
   pub same : n ≡ length l
   pub most : n ≤ k
+
+-- the bits of n parts, one behind the other, each by its number
+unfoldable pub bits_below : (ℕ → List ℕ) → ℕ → List ℕ
+bits_below f zero = []
+bits_below f (suc n) = bits_below f n ++ f n
+
+-- what is packed for each number below n are its bits of f, and they are `most` at the most
+pub record PacksEach (post : ℕ → Packed → Type 0) (most : ℕ) (f : ℕ → List ℕ) (n : ℕ) : Type 0 where
+  pub each : (i : ℕ) (r : Packed) → i < n → post i r → PacksIn 0 most r (f i)
+
+-- and all of them have room behind a place
+pub record Packable (post : ℕ → Packed → Type 0) (n at : ℕ) : Type 0 where
+  pub most : ℕ
+  pub bits : ℕ → List ℕ
+  pub parts : PacksEach post most bits n
+  pub widest : most ≤ widest_put
+  pub room : at + most * n ≤ most_position
 
 -- n bits inside an element are the discard flag and its fields, which are k bits at the most
 pub record Inside (k n : ℕ) (fields : List ℕ) : Type 0 where

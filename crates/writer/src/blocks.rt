@@ -17,10 +17,8 @@ fn put_full(first: bool, out: &mut [u8], pen: Pen, s: Scene) -> Pen
     requires { reach out.old pen + most_block ≤ most_position }
     ensures { Laid most_block out.old out.new pen result (fore_bits first s ++ aft_bits s) }
 {
-    let fore = coding::fore(first, s);
-    let aft = coding::aft(s);
-    let next = put_packed(out, pen, fore);
-    put_packed(out, next, aft)
+    let next = put_packed(out, pen, coding::fore(first, s));
+    put_packed(out, next, coding::aft(s))
 }
 
 pub fn put_block(first: bool, out: &mut [u8], pen: Pen, s: Scene) -> Pen
@@ -28,19 +26,18 @@ pub fn put_block(first: bool, out: &mut [u8], pen: Pen, s: Scene) -> Pen
     ensures { Laid most_block out.old out.new pen result (block_bits first s) }
 {
     if carries(s) {
-        return put_full(first, out, pen, s);
+        put_full(first, out, pen, s)
+    } else {
+        put_packed(out, pen, coding::short(first, s))
     }
-    let all = coding::short(first, s);
-    put_packed(out, pen, all)
 }
 
 pub fn block_width(first: bool, s: Scene) -> BitCount
     ensures { Wide most_block result.0 (block_bits first s) }
 {
     if carries(s) {
-        let fore = coding::fore(first, s).width;
-        let aft = coding::aft(s).width;
-        return fore.plus(aft);
+        coding::fore(first, s).width.plus(coding::aft(s).width)
+    } else {
+        coding::short(first, s).width
     }
-    coding::short(first, s).width
 }

@@ -23,8 +23,7 @@ fn open_element(out: &mut [u8], pen: Pen, id: u32, v: u32) -> Pen
     requires { reach out.old pen + most_front ≤ most_position }
     ensures { Laid most_front out.old out.new pen result (to_bits 4 id ++ (size_bits v ++ to_bits 1 0)) }
 {
-    let all = coding::front(id, v);
-    put_packed(out, pen, all)
+    put_packed(out, pen, coding::front(id, v))
 }
 
 // What stands behind the fields: zeros up to the end of an element of size v, with n bits inside.
@@ -34,8 +33,7 @@ fn close_element(out: &mut [u8], pen: Pen, v: u32, n: BitCount) -> Pen
     requires sized { Sized n.0 v }
     ensures { Laid most_padding out.old out.new pen result (replicate (8 * (v + 1) - n.0) 0) }
 {
-    let pad = padding(v, n);
-    put_zeros(out, pen, pad)
+    put_zeros(out, pen, padding(v, n))
 }
 
 // The bits inside the extended object element: the discard flag and its fields.
@@ -44,8 +42,7 @@ pub fn extended_inside(records: &[u8], count: usize, groups: Groups) -> BitCount
     requires needed { Needed (records_at records.now count 0) groups }
     ensures { Inside (most_extended_fields count) result.0 (extended_bits records.now count) }
 {
-    let fields = extended_width(records, count, groups);
-    BitCount::new(1).plus(fields)
+    BitCount::new(1).plus(extended_width(records, count, groups))
 }
 
 // The bits inside the trim element, likewise.
@@ -53,8 +50,7 @@ pub fn trim_inside(trim: &[u8], objects: u8) -> BitCount
     requires { trim_fixed + objects ≤ length trim.now }
     ensures { Inside (most_trim_fields objects) result.0 (trim_bits trim.now objects) }
 {
-    let fields = trim_width(trim, objects);
-    BitCount::new(1).plus(fields)
+    BitCount::new(1).plus(trim_width(trim, objects))
 }
 
 // The object element where it is there, with n bits inside.

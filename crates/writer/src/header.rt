@@ -4,21 +4,14 @@ ghost use Rattle.bits.specs.Writes.{each_bits};
 ghost use Rattle.oamd.specs.Tables.{most_beds};
 ghost use Rattle.form.specs.Form.{bed_bits, header_bits};
 ghost use Rattle.laying.specs.Laying.{Laid, most_position, reach};
-ghost use Rattle.writer.specs.Most.{most_bed, most_bed_list, most_header};
+ghost use Rattle.writer.specs.Most.{most_bed_list, most_header};
 ghost use Rattle.writer.specs.Parts.{Wide};
 
+use crate::each::{each_width, put_each};
 use crate::putting::put_packed;
 use laying::Pen;
 use oamd::{Bed, Programme};
 use units::BitCount;
-
-fn put_bed(out: &mut [u8], pen: Pen, bed: Bed) -> Pen
-    requires { reach out.old pen + most_bed ≤ most_position }
-    ensures { Laid most_bed out.old out.new pen result (bed_bits bed) }
-{
-    let all = coding::bed(bed);
-    put_packed(out, pen, all)
-}
 
 // The first n beds.
 fn put_bed_list(out: &mut [u8], pen: Pen, n: u8, beds: [Bed; oamd::MOST_BEDS]) -> Pen
@@ -26,15 +19,7 @@ fn put_bed_list(out: &mut [u8], pen: Pen, n: u8, beds: [Bed; oamd::MOST_BEDS]) -
     requires n_le_most_beds { n ≤ most_beds }
     ensures { Laid most_bed_list out.old out.new pen result (each_bits (λ i b. bed_bits b) 0 (take n beds)) }
 {
-    let count = n as usize;
-    let mut next = pen;
-    let mut i: usize = 0;
-    while i < count {
-        let bed = beds[i];
-        next = put_bed(out, next, bed);
-        i = i + 1;
-    }
-    next
+    put_each(out, pen, n as usize, |i| coding::bed(beds[i]))
 }
 
 pub fn put_header(out: &mut [u8], pen: Pen, programme: Programme) -> Pen
@@ -42,12 +27,9 @@ pub fn put_header(out: &mut [u8], pen: Pen, programme: Programme) -> Pen
     requires bedcount_le_most_beds { programme.bedcount ≤ most_beds }
     ensures { Laid most_header out.old out.new pen result (header_bits programme) }
 {
-    let head = coding::head(programme);
-    let tail = coding::tail(programme);
-    let beds = programme.beds;
-    let next = put_packed(out, pen, head);
-    let next = put_bed_list(out, next, programme.bedcount, beds);
-    put_packed(out, next, tail)
+    let next = put_packed(out, pen, coding::head(programme));
+    let next = put_bed_list(out, next, programme.bedcount, programme.beds);
+    put_packed(out, next, coding::tail(programme))
 }
 
 // How many bits the first n beds take.
@@ -55,16 +37,7 @@ fn bed_list_width(n: u8, beds: [Bed; oamd::MOST_BEDS]) -> BitCount
     requires { n ≤ most_beds }
     ensures { Wide most_bed_list result.0 (each_bits (λ i b. bed_bits b) 0 (take n beds)) }
 {
-    let count = n as usize;
-    let mut total = BitCount::new(0);
-    let mut i: usize = 0;
-    while i < count {
-        let bed = beds[i];
-        let width = coding::bed(bed).width;
-        total = total.plus(width);
-        i = i + 1;
-    }
-    total
+    each_width(n as usize, |i| coding::bed(beds[i]))
 }
 
 // And all of it.
@@ -74,7 +47,6 @@ pub fn header_width(programme: Programme) -> BitCount
 {
     let head = coding::head(programme).width;
     let tail = coding::tail(programme).width;
-    let beds = programme.beds;
-    let list = bed_list_width(programme.bedcount, beds);
+    let list = bed_list_width(programme.bedcount, programme.beds);
     head.plus(list).plus(tail)
 }

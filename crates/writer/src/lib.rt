@@ -2,18 +2,21 @@
 // the form is, is found out first; then its parts are laid, clause by clause of the definition.
 #![tactic(auto)]
 
-ghost use Rattle.std.specs.Prelude.{◌≡◌};
+ghost use Rattle.std.specs.Prelude.{◌≡◌, true, List, ℕ, IfOk, IfErr};
+ghost use Rattle.bits.specs.Language.{pick};
 ghost use Rattle.bits.specs.Refusals.{number_of};
+ghost use Rattle.bits.specs.declared.Refusal.TheVariants.{NotValid};
 ghost use Rattle.form.specs.Form.{form};
-ghost use Rattle.form.specs.Answer.{tables_of, refused_write, fitted, writing};
+ghost use Rattle.form.specs.Answer.{tables_of, refused_write, refused_to, fitted, writing};
 ghost use Rattle.writer.specs.Parts.{Enough};
-ghost use Rattle.writer.specs.Survey.{Gathered};
+ghost use Rattle.writer.specs.Survey.{Gathered, Judged};
 
 use bits::Refusal;
 use oamd::{Programme, Timing, WriteAnswer};
 use units::{BitCount, ByteCount};
 
 mod putting; // putting.rt: a field
+mod each; // each.rt: parts of one kind
 mod blocks; // blocks.rt: a block
 mod survey; // survey.rt: all records, before a bit is laid
 mod header; // header.rt: what stands before the elements
@@ -32,10 +35,18 @@ pub struct Groups {
     pub refines: bool,
 }
 
-// What one pass over the records finds: the index of the first that is refused, or their number; and where none is, which groups they need, and how many bits their blocks take.
+impl Groups {
+    // Whether some record needs either.
+    fn some(self) -> bool
+        ensures { result ≡ pick self.diverges true self.refines }
+    {
+        self.diverges | self.refines
+    }
+}
+
+// What one pass over the records finds, where none is refused: which groups they need, and how many bits their blocks take.
 #[derive(Clone, Copy)]
 pub struct Found {
-    pub seen: usize,
     pub groups: Groups,
     pub width: BitCount,
 }
@@ -57,7 +68,7 @@ fn refused(refusal: Refusal, place: u64) -> WriteAnswer
     WriteAnswer {
         place,
         length: ByteCount::new(0),
-        refusal: bits::number(refusal),
+        refusal: refusal.number(),
     }
 }
 
@@ -75,22 +86,46 @@ fn write_form(
     ensures { (record { answer = result; out = payload.new }) ≡ fitted payload.old (form (tables_of programme timing records.now trim.now)) }
 {
     let m = payload::measure(programme, timing, records, trim, found);
-    let whole = m.whole;
-    let length = whole.bytes();
+    let length = m.whole.bytes();
     let bytes = length.raw();
-    if payload.len() < bytes as usize {
-        return refused(Refusal::NoFit, bytes as u64);
-    }
-    if oamd::MOST_BYTES < bytes as usize {
-        return refused(Refusal::NoFit, bytes as u64);
-    }
     let n = bytes as usize;
+    if payload.len() < n || oamd::MOST_BYTES < n {
+        return refused(Refusal::NoFit, bytes as u64);
+    }
     payload::fill(&mut payload[..n], programme, timing, records, trim, m);
     WriteAnswer {
         place: 0,
         length,
         refusal: 0,
     }
+}
+
+// What a pass over the records finds; or the place of the first of the tables that is not valid.
+fn judge(
+    programme: Programme,
+    timing: Timing,
+    frame: u32,
+    records: &[u8],
+    trim: &[u8],
+) -> Result<Found, u64>
+    ensures found { IfOk result (λ found. Judged frame programme timing records.now trim.now found) }
+    ensures refused { IfErr result (λ place. (out : List ℕ) → refused_to out (number_of NotValid) place ≡ writing frame programme timing records.now trim.now out) }
+{
+    let count = valid::record_count(programme.objects, timing.blocks);
+    if !valid::programme_valid(programme) {
+        return Err(0);
+    }
+    if !valid::timing_valid(timing) {
+        return Err(0);
+    }
+    if records.len() < oamd::RECORD_STRIDE * count {
+        return Err(0);
+    }
+    let found = survey::survey(meaning::shares(programme), timing, frame, records, count)?;
+    if !valid::trim_valid(programme.objects, trim) {
+        return Err(1 + count as u64);
+    }
+    Ok(found)
 }
 
 // Writes tables. `frame` is the number of the frame, from 0: bytes 24 to 31 of each record must be its block's time in that frame. The payload is the same for every frame.
@@ -105,23 +140,8 @@ pub fn write(
 ) -> WriteAnswer
     ensures { (record { answer = result; out = payload.new }) ≡ writing frame programme timing records.now trim.now payload.old }
 {
-    let count = valid::record_count(programme.objects, timing.blocks);
-    if !valid::programme_valid(programme) {
-        return refused(Refusal::NotValid, 0);
+    match judge(programme, timing, frame, records, trim) {
+        Ok(found) => write_form(programme, timing, records, trim, found, payload),
+        Err(place) => refused(Refusal::NotValid, place),
     }
-    if !valid::timing_valid(timing) {
-        return refused(Refusal::NotValid, 0);
-    }
-    if records.len() < oamd::RECORD_STRIDE * count {
-        return refused(Refusal::NotValid, 0);
-    }
-    let shares = meaning::shares(programme);
-    let found = survey::survey(shares, timing, frame, records, count);
-    if found.seen < count {
-        return refused(Refusal::NotValid, 1 + found.seen as u64);
-    }
-    if !valid::trim_valid(programme.objects, trim) {
-        return refused(Refusal::NotValid, 1 + count as u64);
-    }
-    write_form(programme, timing, records, trim, found, payload)
 }

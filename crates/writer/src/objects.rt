@@ -11,8 +11,8 @@ use crate::blocks::put_block;
 use crate::putting::put;
 use crate::timing::put_timing;
 use laying::Pen;
-use oamd::{Programme, Timing};
-use record::scene_at;
+use oamd::{Programme, RECORD_STRIDE, Timing};
+use record::{next_block, scene_at};
 use valid::record_count;
 
 // The blocks of all objects, one record behind the other.
@@ -22,18 +22,11 @@ fn put_blocks(out: &mut [u8], pen: Pen, records: &[u8], count: usize, blocks: us
     ensures { Laid (most_block * count) out.old out.new pen result (blocks_bits blocks 0 (records_at records.now count 0)) }
 {
     let mut next = pen;
-    let mut block: usize = 0;
-    let mut at: usize = 0;
-    let mut i: usize = 0;
-    while i < count {
-        let s = scene_at(records, at);
+    let mut block = 0;
+    for i in 0..count {
+        let s = scene_at(records, RECORD_STRIDE * i);
         next = put_block(block == 0, out, next, s);
-        block = block + 1;
-        if block == blocks {
-            block = 0;
-        }
-        at = at + oamd::RECORD_STRIDE;
-        i = i + 1;
+        block = next_block(block, blocks);
     }
     next
 }

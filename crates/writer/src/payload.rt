@@ -15,7 +15,6 @@ use crate::putting::put;
 use crate::sizes::{room_of, size_for};
 use crate::timing::timing_width;
 use crate::{Found, Measures};
-use bits::{as_flag, either};
 use laying::Pen;
 use oamd::{Programme, Timing};
 use units::BitCount;
@@ -26,12 +25,13 @@ fn element_bits(on: bool, n: BitCount) -> BitCount
     requires { (1 ≤ n.0) × (n.0 + most_padding ≤ most_position) }
     ensures { Framed on n.0 result.0 }
 {
-    if on {
-        let v = size_for(n);
-        let size = coding::size(v).width;
-        return BitCount::new(4).plus(size).plus(room_of(v));
+    if !on {
+        return BitCount::new(0);
     }
-    BitCount::new(0)
+    let v = size_for(n);
+    BitCount::new(4)
+        .plus(coding::size(v).width)
+        .plus(room_of(v))
 }
 
 // How long the form and its parts are, before a byte is written.
@@ -48,12 +48,13 @@ pub fn measure(
 {
     let count = record_count(programme.objects, timing.blocks);
     let groups = found.groups;
-    let blocks = found.width;
-    let object = BitCount::new(2).plus(timing_width(timing)).plus(blocks);
+    let object = BitCount::new(2)
+        .plus(timing_width(timing))
+        .plus(found.width);
     let extended = extended_inside(records, count, groups);
     let trims = trim_inside(trim, programme.objects);
     let first = element_bits(0 < timing.blocks, object);
-    let second = element_bits(either(groups.diverges, groups.refines), extended);
+    let second = element_bits(groups.some(), extended);
     let third = element_bits(trim[0] == 1, trims);
     let before = header_width(programme).plus(BitCount::new(4));
     Measures {
@@ -79,16 +80,13 @@ fn put_form(
     requires measured { Measured (tables_of programme timing records.now trim.now) m }
     ensures { Laid most_form out.old out.new blank result (form_bits (tables_of programme timing records.now trim.now)) }
 {
-    let groups = m.groups;
-    let some = either(groups.diverges, groups.refines);
+    let some = m.groups.some();
     let there = trim[0] == 1;
-    let one = as_flag(0 < timing.blocks);
-    let two = as_flag(some);
-    let three = as_flag(there);
-    let start = laying::start();
-    let header = put_header(out, start, programme);
-    let count = put(out, header, 4, one as u32 + two as u32 + three as u32);
-    let inside = m.object;
+    let one = u32::from(0 < timing.blocks);
+    let two = u32::from(some);
+    let three = u32::from(there);
+    let header = put_header(out, laying::start(), programme);
+    let count = put(out, header, 4, one + two + three);
     let object = put_object_element(
         0 < timing.blocks,
         out,
@@ -96,12 +94,10 @@ fn put_form(
         programme,
         timing,
         records,
-        inside,
+        m.object,
     );
-    let inside = m.extended;
-    let extended = put_extended_element(some, out, object, records, m.count, groups, inside);
-    let inside = m.trim;
-    put_trim_element(there, out, extended, trim, programme.objects, inside)
+    let extended = put_extended_element(some, out, object, records, m.count, m.groups, m.extended);
+    put_trim_element(there, out, extended, trim, programme.objects, m.trim)
 }
 
 // Lays the whole form into a buffer that has room for it and no more; the bits behind it, up to the end of its last byte, are 0.

@@ -14,8 +14,7 @@ pub fn put(out: &mut [u8], pen: Pen, w: u32, v: u32) -> Pen
     requires w_bound { reach out.old pen + w ≤ most_position }
     ensures { Laid w out.old out.new pen result (to_bits w v) }
 {
-    let field = coding::field(w, v as u64);
-    put_packed(out, pen, field)
+    put_packed(out, pen, coding::field(w, v as u64))
 }
 
 // Packed bits.
@@ -24,8 +23,7 @@ pub fn put_packed(out: &mut [u8], pen: Pen, packed: Packed) -> Pen
     requires width_bound { reach out.old pen + packed.width.0 ≤ most_position }
     ensures { Laid packed.width.0 out.old out.new pen result (to_bits packed.width.0 packed.value) }
 {
-    let width = packed.width;
-    laying::put(out, pen, width.raw(), packed.value)
+    laying::put(out, pen, packed.width.raw(), packed.value)
 }
 
 // The same, or no bits at all.
@@ -34,11 +32,11 @@ pub fn put_some(out: &mut [u8], pen: Pen, packed: Packed) -> Pen
     requires width_bound { reach out.old pen + packed.width.0 ≤ most_position }
     ensures { Laid packed.width.0 out.old out.new pen result (to_bits packed.width.0 packed.value) }
 {
-    let width = packed.width;
-    if width.raw() == 0 {
-        return pen;
+    if packed.width.raw() == 0 {
+        pen
+    } else {
+        put_packed(out, pen, packed)
     }
-    put_packed(out, pen, packed)
 }
 
 // Fewer than 8 zeros.

@@ -3,7 +3,6 @@ ghost use Rattle.std.specs.Prelude.{◌≡◌, ◌+◌, ◌-◌, ◌*◌, ◌≤
 ghost use Rattle.laying.specs.Laying.{most_position};
 ghost use Rattle.writer.specs.Parts.{Sized};
 
-use bits::minus;
 use units::{BitCount, ByteCount};
 
 // The size of an element with n bits inside.
@@ -11,8 +10,7 @@ pub fn size_for(n: BitCount) -> u32
     requires { 1 ≤ n.0 }
     ensures { Sized n.0 result }
 {
-    let bytes = n.bytes();
-    minus(bytes.raw(), 1)
+    n.bytes().raw().saturating_sub(1)
 }
 
 // The bits that an element of size v has inside: its size counts the bytes, less 1.
@@ -20,8 +18,7 @@ pub fn room_of(v: u32) -> BitCount
     requires { 8 * (v + 1) ≤ most_position }
     ensures { result.0 ≡ 8 * (v + 1) }
 {
-    let bytes = ByteCount::new(v + 1);
-    bytes.bit_count()
+    ByteCount::new(v + 1).bit_count()
 }
 
 // The zeros behind n bits inside an element of size v.

@@ -5,22 +5,15 @@ ghost use Rattle.oamd.specs.Tables.{most_blocks};
 ghost use Rattle.form.specs.Coded.{coded_update};
 ghost use Rattle.form.specs.Form.{update_bits, timing_bits};
 ghost use Rattle.laying.specs.Laying.{Laid, most_position, reach};
-ghost use Rattle.writer.specs.Most.{most_update, most_updates, most_timing};
+ghost use Rattle.writer.specs.Most.{most_updates, most_timing};
 ghost use Rattle.writer.specs.Parts.{Wide};
 
+use crate::each::{each_width, put_each};
 use crate::putting::put_packed;
 use laying::Pen;
 use oamd::{Timing, Update};
 use units::BitCount;
 use valid::sample_offset;
-
-fn put_update(out: &mut [u8], pen: Pen, update: Update) -> Pen
-    requires { reach out.old pen + most_update ≤ most_position }
-    ensures { Laid most_update out.old out.new pen result (update_bits (coded_update update)) }
-{
-    let all = coding::update(update);
-    put_packed(out, pen, all)
-}
 
 // The first n updates.
 fn put_updates(out: &mut [u8], pen: Pen, n: u8, updates: [Update; oamd::MOST_BLOCKS]) -> Pen
@@ -28,15 +21,7 @@ fn put_updates(out: &mut [u8], pen: Pen, n: u8, updates: [Update; oamd::MOST_BLO
     requires n_le_most_blocks { n ≤ most_blocks }
     ensures { Laid most_updates out.old out.new pen result (each_bits (λ i u. update_bits (coded_update u)) 0 (take n updates)) }
 {
-    let count = n as usize;
-    let mut next = pen;
-    let mut i: usize = 0;
-    while i < count {
-        let update = updates[i];
-        next = put_update(out, next, update);
-        i = i + 1;
-    }
-    next
+    put_each(out, pen, n as usize, |i| coding::update(updates[i]))
 }
 
 // One sample offset for all blocks.
@@ -45,11 +30,9 @@ pub fn put_timing(out: &mut [u8], pen: Pen, timing: Timing) -> Pen
     requires blocks_le_most_blocks { timing.blocks ≤ most_blocks }
     ensures { Laid most_timing out.old out.new pen result (timing_bits timing) }
 {
-    let updates = timing.updates;
-    let first = sample_offset(updates).raw();
-    let lead = coding::lead(first as u8, timing.blocks);
-    let next = put_packed(out, pen, lead);
-    put_updates(out, next, timing.blocks, updates)
+    let first = sample_offset(timing.updates).raw();
+    let next = put_packed(out, pen, coding::lead(first as u8, timing.blocks));
+    put_updates(out, next, timing.blocks, timing.updates)
 }
 
 // How many bits the first n updates take.
@@ -57,16 +40,7 @@ fn updates_width(n: u8, updates: [Update; oamd::MOST_BLOCKS]) -> BitCount
     requires { n ≤ most_blocks }
     ensures { Wide most_updates result.0 (each_bits (λ i u. update_bits (coded_update u)) 0 (take n updates)) }
 {
-    let count = n as usize;
-    let mut total = BitCount::new(0);
-    let mut i: usize = 0;
-    while i < count {
-        let update = updates[i];
-        let width = coding::update(update).width;
-        total = total.plus(width);
-        i = i + 1;
-    }
-    total
+    each_width(n as usize, |i| coding::update(updates[i]))
 }
 
 // And the timing.
@@ -74,9 +48,7 @@ pub fn timing_width(timing: Timing) -> BitCount
     requires { timing.blocks ≤ most_blocks }
     ensures { Wide most_timing result.0 (timing_bits timing) }
 {
-    let updates = timing.updates;
-    let first = sample_offset(updates).raw();
+    let first = sample_offset(timing.updates).raw();
     let lead = coding::lead(first as u8, timing.blocks).width;
-    let list = updates_width(timing.blocks, updates);
-    lead.plus(list)
+    lead.plus(updates_width(timing.blocks, timing.updates))
 }

@@ -5,12 +5,4 @@ use Rattle.batch.proofs.is_roomy.Goals as goal
 pub returns : goal.returns
 unfolding roomy
 returns c =
-    rw (
-      c.both-3.ensures,
-      c.both-2.ensures,
-      c.both.ensures,
-      c.both-lists.ensures,
-      c.fits-places.ensures,
-      c.fits-trim_slots.ensures,
-      c.fits-slots.ensures,
-    ) refl
+    rw (c.fits-places.ensures, c.fits-trim_slots.ensures, c.fits-slots.ensures) refl

@@ -1,4 +1,3 @@
-use Rattle.std.proofs.Common.{length, ◌-◌}
 use Rattle.batch.proofs.Shelves.{Done}
 use Rattle.batch.proofs.read_entries.Given as goal
 
@@ -7,6 +6,3 @@ abbrev pub invariant-loop-i : goal.invariant-loop-i
 invariant-loop-i t =
     Done t.store t.starts t.lengths t.frames t.recordslot t.trimslot (record { records = t.initial.records; trims = t.initial.trims; answers = t.initial.answers })
     (record { records = t.records; trims = t.trims; answers = t.answers }) t.slot t.trim t.place t.i
-
-abbrev pub decreases-loop-i : goal.decreases-loop-i
-decreases-loop-i t = length t.starts - t.i

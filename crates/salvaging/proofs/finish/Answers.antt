@@ -6,7 +6,7 @@ use Rattle.reader.specs.declared.Sifted.{Sifted}
 use Rattle.salvaging.specs.declared.SalvageAnswer.{SalvageAnswer}
 use Rattle.salvaging.specs.Salvage.{refused_with}
 use Rattle.salvaging.specs.Parts.{gone_by, left_by}
-use Rattle.salvaging.proofs.Verdicts.{gives, refuses, by-room, no_room, fits}
+use Rattle.salvaging.proofs.Verdicts.{gives, by-room, no_room, fits}
 use Rattle.salvaging.proofs.finish.Goals as goal
 use Rattle.salvaging.proofs.finish.Goals.{After-raw-bytes}
 
@@ -19,28 +19,23 @@ counted c =
     let a = c.args in
     c.raw-bytes.ensures ∙ c.bytes-length.ensures ∙ ap (λ (n : ℕ). (n + 7) / 8) c.left_width-whole.ensures ∙ sym (length-to_bytes (left_by a.payload.now a.found))
 
-pub returns-then-found-ne0 : goal.returns-then-found-ne0
-returns-then-found-ne0 c =
-    let a = c.args in
-    ap (λ (r : SalvageAnswer). gives r a.out.now) c.refused.ensures ∙ refuses a.payload.now a.found c.requires c.if-found-ne0.true a.out.now
-
 pub left_width-whole-requires : goal.left_width-whole-requires
-left_width-whole-requires c = (by-room c.args.payload.now c.args.found c.requires c.if-found-ne0.false).fair
+left_width-whole-requires c = (by-room _ _ c.requires).fair
 
 pub returns-then-out-bytes : goal.returns-then-out-bytes
 returns-then-out-bytes c =
     let a = c.args in
     let out = a.out.now in
-    ap (λ (r : SalvageAnswer). gives r out) (c.refused-then-out-bytes.ensures ∙ ap (λ (n : ℕ). refused_with n c.raw-bytes.result 0) c.number.ensures.0)
+    ap (λ (r : SalvageAnswer). gives r out) (c.refused.ensures ∙ ap (λ (n : ℕ). refused_with n c.raw-bytes.result 0) c.number.ensures.0)
     ∙ no_room out (gone_by a.found) (remains a.payload.now a.found) _ (counted (goal.at.returns-then-out-bytes c).After-raw-bytes) c.if-out-bytes.true
-    ∙ (by-room a.payload.now a.found c.requires c.if-found-ne0.false).same out
+    ∙ (by-room _ _ c.requires).same out
 
 pub fill-requires-clause-fair : goal.fill-requires-clause-fair
-fill-requires-clause-fair c = (by-room c.args.payload.now c.args.found c.requires c.if-found-ne0.false).fair
+fill-requires-clause-fair c = (by-room _ _ c.requires).fair
 
 pub accepted-requires : goal.accepted-requires
 accepted-requires c =
-    let fair = (by-room c.args.payload.now c.args.found c.requires c.if-found-ne0.false).fair in
+    let fair = (by-room _ _ c.requires).fair in
     (omega (arith, fair.few, fair.most), fair.array)
 
 pub returns : goal.returns
@@ -53,4 +48,4 @@ returns c =
     ap (λ (r : SalvageAnswer). gives r (c.fill.new.out ++ rest)) c.accepted.ensures
     ∙ fits out (gone_by a.found) (remains a.payload.now a.found) _ (counted (goal.at.returns c).After-raw-bytes) (c.fill.new.out ++ rest) _ (sym c.raw-bytes.ensures)
     c.if-out-bytes.false filled
-    ∙ (by-room a.payload.now a.found c.requires c.if-found-ne0.false).same out
+    ∙ (by-room _ _ c.requires).same out

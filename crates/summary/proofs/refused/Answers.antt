@@ -1,9 +1,8 @@
-use Rattle.std.proofs.Common.{ap, ℕ}
+use Rattle.std.proofs.Common.{ap₂}
+use Rattle.summary.specs.declared.Summary.{Summary}
 use Rattle.summary.specs.Summary.{refused_summary}
 use Rattle.summary.proofs.refused.Goals as goal
 
--- `refused` meets its contract: the number is that of its refusal. Assumes nothing.
 pub returns : goal.returns
 unfolding refused_summary
-returns c =
-    ap (λ (n : ℕ). refused_summary n c.args.place) c.number.ensures.0
+returns c = ap₂ (λ (s : Summary) (n : _). record s { place = c.args.place; refusal = n }) c.nothing.ensures c.number.ensures.0

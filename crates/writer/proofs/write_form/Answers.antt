@@ -3,7 +3,7 @@ use Rattle.form.specs.Answer.{tables_of}
 use Rattle.form.specs.Form.{form_bits}
 use Rattle.writer.proofs.Whole.{no_room, too_long, fits}
 use Rattle.writer.proofs.write_form.Goals as goal
-use Rattle.writer.proofs.write_form.Goals.{After-raw-bytes, After-slice_known-2-1}
+use Rattle.writer.proofs.write_form.Goals.{After-raw-bytes, then-payload-n-via-then-payload-n, then-payload-n-via-else-payload-n+then-n-gt-MOST_BYTES}
 
 -- the bytes counted there are those of the form
 counted : (c : After-raw-bytes) → let a = c.args in
@@ -11,16 +11,15 @@ counted : (c : After-raw-bytes) → let a = c.args in
 counted c =
     c.raw-bytes.ensures ∙ c.bytes-length.ensures ∙ ap (λ (n : ℕ). (n + 7) / 8) c.measure-m.ensures.whole
 
-pub returns-then-payload-bytes : goal.returns-then-payload-bytes
-returns-then-payload-bytes c =
-    no_room _ _ _ (counted (goal.at.returns-then-payload-bytes c).After-raw-bytes) c.refused.ensures c.if-payload-bytes.true
-
-pub returns-then-bytes-gt-MOST_BYTES : goal.returns-then-bytes-gt-MOST_BYTES
-returns-then-bytes-gt-MOST_BYTES c =
-    too_long _ _ _
-    (counted (goal.at.returns-then-bytes-gt-MOST_BYTES c).After-raw-bytes) c.refused-then-bytes-gt-MOST_BYTES.ensures c.if-payload-bytes.false c.if-bytes-gt-MOST_BYTES.true
+pub returns-then-payload-n : goal.returns-then-payload-n
+returns-then-payload-n c =
+    let bytes = counted (goal.at.returns-then-payload-n c).After-raw-bytes in
+    elim c.then-payload-n.branch [
+      | then-payload-n-via-then-payload-n w ↦ no_room _ _ _ bytes c.refused.ensures w.if-payload-n.true
+      | then-payload-n-via-else-payload-n+then-n-gt-MOST_BYTES w ↦ too_long _ _ _ bytes c.refused.ensures w.if-payload-n.false w.if-n-gt-MOST_BYTES.true
+    ]
 
 pub returns : goal.returns
 returns c =
-    fits _ _ _ (counted (goal.at.returns c).After-raw-bytes) _ _ (sym c.raw-bytes.ensures) c.if-payload-bytes.false c.if-bytes-gt-MOST_BYTES.false
+    fits _ _ _ (counted (goal.at.returns c).After-raw-bytes) _ _ (sym c.raw-bytes.ensures) c.if-payload-n.false c.if-n-gt-MOST_BYTES.false
     (ap (λ (x : List ℕ). x ++ drop c.raw-bytes.result c.args.payload.now) c.fill.ensures)

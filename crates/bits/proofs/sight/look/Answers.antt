@@ -4,5 +4,5 @@ use Rattle.bits.proofs.sight.look.Goals as goal
 
 pub returns : goal.returns
 returns c =
-    let seen = c.peek-v.ensures in
+    let seen = c.peek-value.ensures in
     (rw seen.0, record { looks = looks-bits seen.0 (omega arith); small = seen.1; near = omega arith })

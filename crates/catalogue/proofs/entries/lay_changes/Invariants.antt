@@ -1,5 +1,5 @@
 -- `lay_changes` meets its contract: whoever lays the fields left from here has laid all from the start. Assumes nothing.
-use Rattle.std.proofs.Common.{◌-◌, ◌≤◌}
+use Rattle.std.proofs.Common.{◌≤◌}
 use Rattle.oamd.specs.Tables.{record_bytes}
 use Rattle.text.proofs.LayLaws.{Rest}
 use Rattle.catalogue.specs.Text.{changes}
@@ -9,7 +9,3 @@ use Rattle.catalogue.proofs.entries.lay_changes.Given as goal
 abbrev pub invariant-loop-k : goal.invariant-loop-k
 invariant-loop-k t =
     (t.k ≤ record_bytes) × Rest t.initial.text t.text t.initial.to t.to (changes t.full t.before t.rows t.j) (listed_from t.full t.before t.rows t.j t.k)
-
-abbrev pub decreases-loop-k : goal.decreases-loop-k
-decreases-loop-k t =
-    record_bytes - t.k

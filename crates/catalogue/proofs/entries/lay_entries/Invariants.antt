@@ -9,7 +9,3 @@ use Rattle.catalogue.proofs.entries.lay_entries.Given as goal
 abbrev pub invariant-loop-j : goal.invariant-loop-j
 invariant-loop-j t =
     (t.j ≤ t.objects) × Rest t.initial.text t.text t.initial.to t.to (texts_for t.objects (entry_line t.full t.before t.rows)) (texts (entry_line t.full t.before t.rows) (from t.j (t.objects - t.j)))
-
-abbrev pub decreases-loop-j : goal.decreases-loop-j
-decreases-loop-j t =
-    t.objects - t.j

@@ -1,5 +1,5 @@
 -- `gather` meets its contract: whoever lays the rows of the objects left from here has laid all from the start. Assumes nothing.
-use Rattle.std.proofs.Common.{List, drop, take, ℕ, ◌*◌, ◌+◌, ◌-◌, ◌≡◌, ◌≤◌}
+use Rattle.std.proofs.Common.{List, drop, take, ℕ, ◌*◌, ◌+◌, ◌-◌, ◌≤◌}
 use Rattle.bits.specs.Language.{from as numbers}
 use Rattle.oamd.specs.Tables.{record_bytes, record_stride}
 use Rattle.text.specs.Lines.{texts}
@@ -13,9 +13,5 @@ row blocks records blk j = take record_bytes (drop (record_stride * (j * blocks 
 
 abbrev pub invariant-loop-j : goal.invariant-loop-j
 invariant-loop-j t =
-    (t.j ≤ t.objects) × (t.from ≡ record_stride * (t.j * t.blocks + t.blk))
+    (t.j ≤ t.objects)
     × Rest t.initial.rows t.rows t.initial.to t.to (block_rows t.objects t.blocks t.records t.blk) (texts (row t.blocks t.records t.blk) (numbers t.j (t.objects - t.j)))
-
-abbrev pub decreases-loop-j : goal.decreases-loop-j
-decreases-loop-j t =
-    t.objects - t.j

@@ -1,6 +1,6 @@
 use Rattle.std.proofs.Common.{List, length, ℕ, ◌∙◌, ◌≡◌}
 use Rattle.oamd.specs.Tables.{room_bytes}
-use Rattle.catalogue.specs.Parts.{rows_of}
+use Rattle.catalogue.specs.Parts.{front}
 use Rattle.catalogue.specs.Writes.{Within, sheet_by}
 use Rattle.catalogue.proofs.WriteSheets.{sheet_is, read-within, read-nothing, cataloguing_more, cataloguing_end}
 use Rattle.catalogue.proofs.frames.lay_catalogue.Goals as goal
@@ -22,26 +22,28 @@ module _ (c : After-read_entry-a) where
   entry-nothing : (c.read_entry-a.result.refusal ≡ 0 → ⊥) → c.read_entry-a.result.timing.blocks ≡ 0
   entry-nothing = read-nothing _ _ _ _ _ _ c.loop-i.invariant.0 c.loop-i.invariant.1 c.read_entry-a.result laid _ c.read_entry-a.ensures
 
-pub lay_sheet-stand-requires-clause-within : goal.lay_sheet-stand-requires-clause-within
-lay_sheet-stand-requires-clause-within c = entry-within (goal.at.lay_sheet-stand-requires-clause-within c).After-read_entry-a
+pub lay_sheet-to-requires-clause-within : goal.lay_sheet-to-requires-clause-within
+lay_sheet-to-requires-clause-within c = entry-within (goal.at.lay_sheet-to-requires-clause-within c).After-read_entry-a
 
-pub lay_sheet-stand-requires-clause-blocks_value : goal.lay_sheet-stand-requires-clause-blocks_value
-lay_sheet-stand-requires-clause-blocks_value c = entry-nothing (goal.at.lay_sheet-stand-requires-clause-blocks_value c).After-read_entry-a
+pub lay_sheet-to-requires-clause-blocks_value : goal.lay_sheet-to-requires-clause-blocks_value
+lay_sheet-to-requires-clause-blocks_value c = entry-nothing (goal.at.lay_sheet-to-requires-clause-blocks_value c).After-read_entry-a
 
 pub loop-i-preserved : goal.loop-i-preserved
 loop-i-preserved c =
     let read = (goal.at.loop-i-preserved c).After-read_entry-a in
     let h = c.loop-i in
-    let a = c.args in (
+    let a = c.args in
+    let s = a.shelf.now in (
       laid_long read,
       c.read_entry-a.auto.trim ∙ h.invariant.1,
-      cataloguing_more a.store.now a.starts.now a.lengths.now a.frames.now (rows_of a.at.count a.before.now) h.i h.invariant.2
-          (sheet_by _ c.read_entry-a.result (laid read)) c.requires.cases c.loop-i-test.true
-          (sheet_is _ _ _ _ _ _ h.invariant.0 h.invariant.1 c.read_entry-a.result (laid read) _ c.read_entry-a.ensures) c.lay_sheet-stand.ensures,
+      cataloguing_more s.store.now s.starts.now s.lengths.now s.frames.now (front a.latest.now) h.latest h.i h.invariant.2
+          (sheet_by _ c.read_entry-a.result (laid read)) (record { each-length = s.each_length; each-frame = s.each_frame }) c.loop-i-test.true
+          (sheet_is _ _ _ _ _ _ h.invariant.0 h.invariant.1 c.read_entry-a.result (laid read) _ c.read_entry-a.ensures) c.lay_sheet-to.ensures,
     )
 
 pub returns : goal.returns
 returns c =
     let h = c.loop-i in
     let a = c.args in
-    cataloguing_end a.store.now a.starts.now a.lengths.now a.frames.now (rows_of a.at.count a.before.now) h.i h.invariant.2 c.loop-i-test.false
+    let s = a.shelf.now in
+    cataloguing_end s.store.now s.starts.now s.lengths.now s.frames.now (front a.latest.now) h.latest h.i h.invariant.2 c.loop-i-test.false

@@ -5,5 +5,5 @@ use Rattle.catalogue.proofs.frames.lay_change.Goals as goal
 
 pub returns : goal.returns
 returns c =
-    laid-bind (laid_is (ap₂ (λ (start ramp : ℕ). update_line start ramp) c.raw-start.ensures c.raw-ramp.ensures) c.lay_update_line-to.ensures)
+    laid-bind (laid_is (ap₂ (λ (start ramp : ℕ). update_line start ramp) c.raw.ensures c.raw-2.ensures) c.lay_update_line-to.ensures)
     c.lay_entries.ensures

@@ -1,5 +1,5 @@
 use Rattle.std.proofs.Common.{arith}
-use Rattle.catalogue.specs.Parts.{rows_of}
+use Rattle.catalogue.specs.Parts.{front}
 use Rattle.catalogue.proofs.WriteFrames.{updating_more, updating_end}
 use Rattle.catalogue.proofs.frames.lay_updates.Goals as goal
 
@@ -8,12 +8,12 @@ loop-blk-preserved c =
     let h = c.loop-blk in
     let a = c.args in (
       omega arith,
-      updating_more a.objects a.t.blocks a.records.now a.t.updates (rows_of a.at.count a.before.now) h.blk h.invariant.1 c.loop-blk-test.true
-          c.lay_update-stand.ensures,
+      updating_more a.objects.n a.t.blocks a.records.now a.t.updates (front a.latest.now) h.latest h.blk h.invariant.1 c.loop-blk-test.true
+          c.lay_update-to.ensures,
     )
 
 pub returns : goal.returns
 returns c =
     let h = c.loop-blk in
     let a = c.args in
-    updating_end a.objects a.t.blocks a.records.now a.t.updates (rows_of a.at.count a.before.now) h.blk h.invariant.1 (omega arith)
+    updating_end a.objects.n a.t.blocks a.records.now a.t.updates (front a.latest.now) h.latest h.blk h.invariant.1 (omega arith)

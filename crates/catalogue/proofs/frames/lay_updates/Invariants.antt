@@ -1,13 +1,9 @@
 -- `lay_updates` meets its contract: whoever lays the updates left from here has laid all from the start. Assumes nothing.
-use Rattle.std.proofs.Common.{◌-◌, ◌≤◌}
-use Rattle.catalogue.specs.Parts.{rows_of}
+use Rattle.std.proofs.Common.{◌≤◌}
+use Rattle.catalogue.specs.Parts.{front}
 use Rattle.catalogue.proofs.WriteFrames.{Updating}
 use Rattle.catalogue.proofs.frames.lay_updates.Given as goal
 
 abbrev pub invariant-loop-blk : goal.invariant-loop-blk
 invariant-loop-blk t =
-    (t.blk ≤ t.blocks) × Updating t.objects t.blocks t.records t.updates (rows_of t.initial.stand.count t.initial.before) t.initial.text t.text t.before t.initial.stand.to t.stand t.blk
-
-abbrev pub decreases-loop-blk : goal.decreases-loop-blk
-decreases-loop-blk t =
-    t.blocks - t.blk
+    (t.blk ≤ t.blocks) × Updating t.objects.n t.blocks t.records t.t.updates (front t.fn.latest) t.fn.text t.text t.fn.at t.to t.latest t.blk

@@ -9,7 +9,3 @@ use Rattle.catalogue.proofs.lending.lay_records.Given as goal
 abbrev pub invariant-loop-j : goal.invariant-loop-j
 invariant-loop-j t =
     (t.j ≤ t.p.objects) × Rest t.initial.records t.records t.initial.to t.to (records_of t.p t.store) (texts (object_of t.p t.store) (from t.j (t.p.objects - t.j)))
-
-abbrev pub decreases-loop-j : goal.decreases-loop-j
-decreases-loop-j t =
-    t.p.objects - t.j

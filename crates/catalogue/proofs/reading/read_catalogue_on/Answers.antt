@@ -1,6 +1,5 @@
 -- `read_catalogue_on` meets its contract: what the text gives and needs first, then the room, then the buffers. Assumes nothing.
 use Rattle.std.proofs.Common.{ap, arith, length, ◌<◌, ◌∙◌}
-use borrow.Author.Tests.{not-true, not-false}
 use Rattle.text.specs.Laying.{last_position}
 use Rattle.catalogue.specs.declared.BackAnswer.{BackAnswer}
 use Rattle.catalogue.proofs.BackWhole.{gives, no-before, bad-line, no-records, no_lines, all_laid}
@@ -22,29 +21,25 @@ returns-then-before-lt-BEFORE_BYTES c =
     ap (λ (r : BackAnswer). gives r a.before.now a.lines.now a.records.now) c.refused.ensures
     ∙ no-before a.text.now a.before.now a.lines.now a.records.now c.if-before-lt-BEFORE_BYTES.true
 
-pub returns-then-not-needed : goal.returns-then-not-needed
-returns-then-not-needed c =
+pub returns-in-Err : goal.returns-in-Err
+returns-in-Err c =
     let a = c.args in
-    ap (λ (r : BackAnswer). gives r a.before.now a.lines.now a.records.now) c.refused-then-not-needed.ensures
-    ∙ bad-line a.text.now a.before.now a.lines.now a.records.now c.if-before-lt-BEFORE_BYTES.false c.measure-needed.result c.measure-needed.ensures
-    (not-true _ c.if-not-needed.true)
+    ap (λ (r : BackAnswer). gives r a.before.now a.lines.now a.records.now) c.refused-in-Err.ensures
+    ∙ bad-line a.text.now a.before.now a.lines.now a.records.now c.if-before-lt-BEFORE_BYTES.false _ c.in-Err.ensures
 
 pub returns-then-records-needed : goal.returns-then-records-needed
 returns-then-records-needed c =
     let a = c.args in
     ap (λ (r : BackAnswer). gives r a.before.now a.lines.now a.records.now) c.refused-then-records-needed.ensures
-    ∙ no-records a.text.now a.before.now a.lines.now a.records.now c.if-before-lt-BEFORE_BYTES.false c.measure-needed.result c.measure-needed.ensures
-    (not-false _ c.if-not-needed.false) c.if-records-needed.true
+    ∙ no-records a.text.now a.before.now a.lines.now a.records.now c.if-before-lt-BEFORE_BYTES.false c.in-Ok.needed c.in-Ok.ensures c.if-records-needed.true
 
 pub returns-then-lines-needed : goal.returns-then-lines-needed
 returns-then-lines-needed c =
     let a = c.args in
     ap (λ (r : BackAnswer). gives r a.before.now a.lines.now a.records.now) c.refused-then-lines-needed.ensures
-    ∙ no_lines a.text.now a.before.now a.lines.now a.records.now c.if-before-lt-BEFORE_BYTES.false c.measure-needed.result c.measure-needed.ensures
-    (not-false _ c.if-not-needed.false) c.if-records-needed.false (short-records (goal.at.returns-then-lines-needed c).Else-before-lt-BEFORE_BYTES) c.if-lines-needed.true
+    ∙ no_lines a.text.now a.before.now a.lines.now a.records.now c.if-before-lt-BEFORE_BYTES.false c.in-Ok.needed c.in-Ok.ensures c.if-records-needed.false (short-records (goal.at.returns-then-lines-needed c).Else-before-lt-BEFORE_BYTES) c.if-lines-needed.true
 
 pub returns : goal.returns
 returns c =
     let a = c.args in
-    all_laid a.text.now a.before.now a.lines.now a.records.now c.if-before-lt-BEFORE_BYTES.false c.measure-needed.result c.measure-needed.ensures
-    (not-false _ c.if-not-needed.false) c.if-records-needed.false (short-records (goal.at.returns c).Else-before-lt-BEFORE_BYTES) c.if-lines-needed.false (short-lines (goal.at.returns c).Else-before-lt-BEFORE_BYTES) c.lend.ensures
+    all_laid a.text.now a.before.now a.lines.now a.records.now c.if-before-lt-BEFORE_BYTES.false c.in-Ok.needed c.in-Ok.ensures c.if-records-needed.false (short-records (goal.at.returns c).Else-before-lt-BEFORE_BYTES) c.if-lines-needed.false (short-lines (goal.at.returns c).Else-before-lt-BEFORE_BYTES) c.lend.ensures

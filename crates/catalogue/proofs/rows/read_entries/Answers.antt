@@ -1,18 +1,9 @@
-use Rattle.catalogue.proofs.ScanLaws.{bind}
-use Rattle.catalogue.proofs.RowsLaws.{entries_end, entries_over}
+use Rattle.std.proofs.Common.{add-one, arith, suc, ◌-◌, ◌≡◌, ◌∙◌}
 use Rattle.catalogue.proofs.rows.read_entries.Goals as goal
 
-pub returns-then-next-eq-NO_OBJECT-clause-rows_after : goal.returns-then-next-eq-NO_OBJECT-clause-rows_after
-returns-then-next-eq-NO_OBJECT-clause-rows_after c =
-    let l = c.loop-j.invariant in
-    let a = c.args in
-    let n = c.next_object-next.result in
-    bind a.text.now a.c n.spot _ _ n.value c.next_object-next.ensures (entries_end l c.loop-j-test.false c.if-next-eq-NO_OBJECT.true)
-
-pub returns-clause-rows_after : goal.returns-clause-rows_after
-returns-clause-rows_after c =
-    let l = c.loop-j.invariant in
-    let a = c.args in
-    let n = c.next_object-next.result in
-    let over = entries_over l c.loop-j-test.false c.failed.result c.if-next-eq-NO_OBJECT.false c.failed.ensures in
-    bind a.text.now a.c n.spot _ _ n.value c.next_object-next.ensures over
+pub loop-j-preserved : goal.loop-j-preserved
+loop-j-preserved c =
+    let l = c.loop-j in
+    let left = c.args.objects - suc l.j in
+    let one : c.args.objects - l.j ≡ suc left = omega arith in
+    (rw (add-one l.j) (c.in_ok-next-2.ensures.by_index left) ∙ (rw one at l.invariant.0), c.in_ok-next-2.ensures.within)

@@ -1,13 +1,10 @@
--- `read_fields` meets its contract: what is left of the row gives what the whole row gives. Assumes nothing.
-use Rattle.std.proofs.Common.{◌-◌}
+-- what is left of the row gives what the whole row gives
+use Rattle.std.proofs.Common.{◌+◌, ◌-◌, ◌≡◌}
 use Rattle.oamd.specs.Tables.{record_bytes}
-use Rattle.catalogue.proofs.RowsLaws.{RowLeft}
+use Rattle.catalogue.specs.Back.{fields_back}
+use Rattle.catalogue.specs.Parts.{runs}
 use Rattle.catalogue.proofs.rows.read_fields.Given as goal
 
 abbrev pub invariant-loop-k : goal.invariant-loop-k
-invariant-loop-k t =
-    RowLeft t.text t.full t.at t.initial.d t.d t.initial.rows t.rows t.k
-
-abbrev pub decreases-loop-k : goal.decreases-loop-k
-decreases-loop-k t =
-    record_bytes - t.k
+invariant-loop-k l =
+    runs l.r (fields_back l.full l.k (l.at + l.k) (record_bytes - l.k) l.rows) ≡ runs l.fn.r (fields_back l.full 0 l.at record_bytes l.fn.rows)

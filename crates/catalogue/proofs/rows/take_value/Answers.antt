@@ -1,10 +1,12 @@
--- `take_value` meets its contract: the tables are those of the fields. Assumes nothing.
+use Rattle.std.proofs.Common.{rules}
 use Rattle.catalogue.specs.Fields.{fields}
-use Rattle.catalogue.proofs.RowsLaws.{value_read}
+use Rattle.catalogue.proofs.RowsLaws.{least_of, most_of}
 use Rattle.catalogue.proofs.rows.take_value.Goals as goal
 
-pub returns-clause-result_value : goal.returns-clause-result_value
+pub returns-in_err-v : goal.returns-in_err-v
 unfolding fields
-returns-clause-result_value c =
-    let a = c.args in
-    value_read a.text.now a.c a.k c.take_number.ensures.result_value
+returns-in_err-v c = rw (← least_of c.args.k, ← most_of c.args.k) (search rules)
+
+pub returns : goal.returns
+unfolding fields
+returns c = rw (← least_of c.args.k, ← most_of c.args.k) (search rules)

@@ -5,4 +5,4 @@ use Rattle.coding.proofs.block.aft.Goals as goal
 pub returns : goal.returns
 unfolding aft_bits
 returns c =
-    nonempty (c.nothing-p.ensures ▹ c.extent-p.ensures ▸ c.screen-p.ensures ▸ c.pack-p.ensures ▸ c.pack.ensures)
+    nonempty (c.nothing.ensures ▹ c.extent-p.ensures ▸ c.screen.ensures ▸ c.pack.ensures ▸ c.pack-2.ensures)

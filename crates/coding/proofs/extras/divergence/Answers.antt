@@ -5,4 +5,4 @@ use Rattle.coding.proofs.extras.divergence.Goals as goal
 pub returns : goal.returns
 unfolding divergence_bits
 returns c =
-    c.nothing-p.ensures ▹ c.pack_if-p.ensures ▸ c.pack_if-p-2.ensures ▸ c.pack_both-p.ensures ▸ c.pack_if.ensures
+    c.nothing.ensures ▹ c.pack_if.ensures ▸ c.pack_if-2.ensures ▸ c.pack_if-3.ensures ▸ c.pack_if-4.ensures

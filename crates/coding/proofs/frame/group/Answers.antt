@@ -5,4 +5,4 @@ use Rattle.coding.proofs.frame.group.Goals as goal
 pub returns : goal.returns
 unfolding group_bits
 returns c =
-    c.pack-p.ensures ▸ c.pack.ensures
+    c.pack.ensures ▸ c.pack-2.ensures

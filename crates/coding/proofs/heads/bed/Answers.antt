@@ -5,4 +5,4 @@ use Rattle.coding.proofs.heads.bed.Goals as goal
 pub returns : goal.returns
 unfolding bed_bits
 returns c =
-    nonempty (c.nothing-p.ensures ▹ c.pack-p.ensures ▸ c.pack_if-p.ensures ▸ c.pack_if-p-2.ensures ▸ c.pack_both.ensures)
+    nonempty (c.nothing.ensures ▹ c.pack.ensures ▸ c.pack_if.ensures ▸ c.pack_if-2.ensures ▸ c.pack_if-3.ensures)

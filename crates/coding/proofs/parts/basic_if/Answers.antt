@@ -5,4 +5,4 @@ use Rattle.coding.proofs.parts.basic_if.Goals as goal
 pub returns : goal.returns
 unfolding basic_bits
 returns c =
-    behind_if c.args.active c.requires (c.gain-more.ensures ▸ c.priority-more.ensures) c.kept_if.ensures
+    behind_if c.args.active c.requires (c.gain.ensures ▸ c.priority.ensures) c.kept_if.ensures

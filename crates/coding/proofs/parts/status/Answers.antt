@@ -4,4 +4,4 @@ use Rattle.coding.proofs.parts.status.Goals as goal
 pub returns : goal.returns
 unfolding status_bits
 returns c =
-    c.pack_both.ensures
+    c.pack_if.ensures

@@ -7,5 +7,5 @@ use Rattle.coding.proofs.timing.lead.Goals as goal
 pub returns : goal.returns
 unfolding offset_bits
 returns c =
-    nonempty (packs_is (ap offset_bits c.coded_offset-offset.ensures) (c.nothing-p.ensures ▹ c.pack-p.ensures ▸ c.pack_if-p.ensures ▸ c.pack_if-p-2.ensures)
-    ▹ behind_is (ap (to_bits 3) c.less-more.ensures) c.pack.ensures)
+    nonempty (packs_is (ap offset_bits c.coded_offset-offset.ensures) (c.nothing.ensures ▹ c.pack.ensures ▸ c.pack_if.ensures ▸ c.pack_if-2.ensures)
+    ▹ behind_is (ap (to_bits 3) c.saturating_sub-more.ensures) c.pack-2.ensures)

@@ -5,4 +5,4 @@ use Rattle.coding.proofs.trim.config.Goals as goal
 pub returns : goal.returns
 unfolding config_bits
 returns c =
-    nonempty (c.nothing-p.ensures ▹ c.pack-p.ensures ▸ c.pack_if-p.ensures ▸ c.pack_both-p.ensures ▸ c.trims.ensures)
+    nonempty (c.nothing.ensures ▹ c.pack.ensures ▸ c.pack_if.ensures ▸ c.pack_if-p.ensures ▸ c.trims.ensures)

@@ -46,11 +46,11 @@ pub returns-then-n-gt63 : goal.returns-then-n-gt63
 returns-then-n-gt63 c =
     let a = c.args in
     let many = ap (λ (k : ℕ). k + a.w) c.raw.ensures in
-    put-past a.out.now a.pen a.w a.v (omega arith) (omega arith) (omega arith) _ (omega arith) (omega arith) refl (c.new-then-n-gt63.ensures ∙ many) refl
+    put-past a.out.now a.pen a.w a.v (omega arith) (omega arith) (omega arith) _ (omega arith) (omega arith) refl (c.new-held.ensures ∙ many) refl
 
 pub returns : goal.returns
 returns c =
     let a = c.args in
     let many = ap (λ (k : ℕ). k + a.w) c.raw.ensures in
-    let word = c.join-y-2.ensures ∙ ap (λ (k : ℕ). joined a.pen.word k a.v) many in
-    put-held a.out.now a.pen a.w a.v (omega arith) (omega arith) (omega arith) _ (omega arith) (omega arith) word (c.new-2.ensures ∙ many) refl
+    let word = c.join.ensures ∙ ap (λ (k : ℕ). joined a.pen.word k a.v) many in
+    put-held a.out.now a.pen a.w a.v (omega arith) (omega arith) (omega arith) _ (omega arith) (omega arith) word (c.new-held.ensures ∙ many) refl

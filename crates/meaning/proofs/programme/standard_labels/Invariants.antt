@@ -1,4 +1,3 @@
-use Rattle.std.proofs.Common.{◌-◌}
 use Rattle.oamd.specs.Tables.{bed_labels}
 use Rattle.meaning.proofs.Sums.{SoFar, labels_from}
 use Rattle.meaning.proofs.programme.standard_labels.Given as goal
@@ -7,7 +6,3 @@ use Rattle.meaning.proofs.programme.standard_labels.Given as goal
 abbrev pub invariant-loop-k : goal.invariant-loop-k
 invariant-loop-k t =
     SoFar (labels_from 10 t.v) 2 bed_labels t.sum t.k
-
-abbrev pub decreases-loop-k : goal.decreases-loop-k
-decreases-loop-k t =
-    10 - t.k

@@ -16,5 +16,5 @@ pub returns : goal.returns
 unfolding volume_of
 returns c =
     let e = c.args.e in
-    rw (c.choice.ensures, c.choice-2.ensures, c.choice-3.ensures, c.choice-all.ensures)
+    rw (c.pick.ensures, c.pick-2.ensures, c.pick-3.ensures, c.pick-all.ensures)
     (apart (eqb e.index 2) (eqb e.index 1) e.width e.depth e.height e.all)

@@ -1,4 +1,4 @@
-use Rattle.std.proofs.Common.{Bool, ne_eqb, sym, true, ◌∙◌, ◌≡◌}
+use Rattle.std.proofs.Common.{Bool, ne_eqb, true, ◌≡◌}
 use Rattle.bits.specs.Language.{pick}
 use Rattle.oamd.specs.declared.Kind.{Kind}
 use Rattle.oamd.specs.declared.Kind.TheVariants.{Unknown}
@@ -9,15 +9,15 @@ use Rattle.oamd.proofs.kinds.kind_of.Goals as goal
 passed : (t : Bool) (k : Kind) → t ≡ true → Unknown ≡ pick t Unknown k
 passed t k h = rw h
 
-pub returns-then-both : goal.returns-then-both
+pub returns-then-other_data : goal.returns-then-other_data
 unfolding kind
-returns-then-both c =
-    passed _ _ (sym c.both.ensures ∙ c.if-both.true)
+returns-then-other_data c =
+    passed _ _ c.if-other_data.true
 
 pub returns-in-1 : goal.returns-in-1
 unfolding kind
 returns-in-1 c =
-    rw (sym c.both.ensures ∙ c.if-both.false, c.in-1.is)
+    rw (c.if-other_data.false, c.in-1.is)
 
 pub returns-in-2 : goal.returns-in-2
 unfolding kind

@@ -1,4 +1,3 @@
-use Rattle.std.proofs.Common.{◌-◌}
 use Rattle.bits.specs.Language.{bit}
 use Rattle.reader.specs.Steps.{lent}
 use Rattle.reader.proofs.ElementLoop.{Ongoing}
@@ -7,7 +6,3 @@ use Rattle.reader.proofs.element.read_elements.Given as goal
 abbrev pub invariant-loop-i : goal.invariant-loop-i
 invariant-loop-i t =
     Ongoing t.n t.scope t.initial.state (bit t.s) t.initial.cur t.l (lent t.initial.out t.initial.table) t.i t.state t.cur (lent t.out t.table)
-
-abbrev pub decreases-loop-i : goal.decreases-loop-i
-decreases-loop-i t =
-    t.n - t.i

@@ -21,7 +21,7 @@ returns-then-trim-taken c =
 pub returns : goal.returns
 returns c =
     let table = c.read_payload-step.new.table in
-    let taken = trim_needed c.read_payload-step.result.programme.objects in
+    let taken = trim_needed c.read_payload-step.result.value.programme.objects in
     let long : length (take taken table) ≡ taken = length-take-le taken table (omega (arith, trim_fits c.read_payload-step.ensures)) in
     rw c.accepted.ensures
     (stored _ _ _ _ c.read_payload-step.ensures c.if-cur-ne0.false (omega arith) (omega arith)

@@ -1,12 +1,7 @@
-use Rattle.std.proofs.Common.{◌-◌}
 use Rattle.bits.specs.Language.{bit}
 use Rattle.reader.proofs.ObjectLoop.{Inside}
 use Rattle.reader.proofs.objects.read_object.Given as goal
 
 abbrev pub invariant-loop-i : goal.invariant-loop-i
 invariant-loop-i t =
-    Inside t.class t.blocks t.from (bit t.s) t.l t.initial.cur t.initial.out t.i t.at t.scene t.cur t.out
-
-abbrev pub decreases-loop-i : goal.decreases-loop-i
-decreases-loop-i t =
-    t.blocks - t.i
+    Inside t.class t.blocks t.from (bit t.s) t.l t.initial.cur t.initial.out t.i t.scene t.cur t.out

@@ -10,7 +10,7 @@ use Rattle.reader.proofs.payload.read_header.Goals as goal
 pub returns : goal.returns
 unfolding header
 returns c =
-    let programme = c.read_assignment-step.result.programme in
+    let programme = c.read_assignment-step.result.value in
     let (few, step) = c.read_assignment-step.ensures in
     let agreed = gated _ _ _ _ (ap not c.agrees.ensures) c.refuse_if-agreed.ensures in
     record {

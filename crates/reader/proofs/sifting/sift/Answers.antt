@@ -4,7 +4,7 @@ use Rattle.reader.proofs.sifting.sift.Goals as goal
 
 pub returns-then-len-gt-MOST_BYTES : goal.returns-then-len-gt-MOST_BYTES
 returns-then-len-gt-MOST_BYTES c =
-    rw (c.refused.ensures, c.number.ensures.0) (too_long _ (omega arith))
+    rw c.number.ensures.0 (too_long _ (omega arith))
 
 pub returns-then-count-ne0 : goal.returns-then-count-ne0
 returns-then-count-ne0 c =

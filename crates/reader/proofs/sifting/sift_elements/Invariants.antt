@@ -1,4 +1,3 @@
-use Rattle.std.proofs.Common.{◌-◌}
 use Rattle.reader.specs.Steps.{lent}
 use Rattle.reader.proofs.SiftLoop.{Passing}
 use Rattle.reader.proofs.sifting.sift_elements.Given as goal
@@ -6,7 +5,3 @@ use Rattle.reader.proofs.sifting.sift_elements.Given as goal
 abbrev pub invariant-loop-i : goal.invariant-loop-i
 invariant-loop-i t =
     Passing t.s t.head t.count t.initial.scratch t.i t.state t.gone t.drops t.cur (lent t.scratch t.table)
-
-abbrev pub decreases-loop-i : goal.decreases-loop-i
-decreases-loop-i t =
-    t.count.v - t.i

@@ -17,7 +17,7 @@ returns c =
     let filled = c.loop-i.invariant.1 in
     let all : c.take-count.result.v + 1 ≡ length filled.list = omega (arith, filled.long) in
     record {
-      value = record { offset = c.read_offset-start.result.offset; blocks = filled.list };
+      value = record { offset = c.read_offset-start.result.value; blocks = filled.list };
       reads = bind c.read_offset-start.ensures.reads (bind c.take-count.ensures.reads (done (filling-stop filled (omega arith))));
       holds = λ j. record { blocks = all j; updates = filled.holds j };
       counts = all;

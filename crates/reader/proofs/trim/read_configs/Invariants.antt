@@ -1,4 +1,3 @@
-use Rattle.std.proofs.Common.{◌*◌, ◌+◌, ◌-◌, ◌≡◌}
 use Rattle.bits.specs.Language.{bit}
 use Rattle.oamd.specs.Tables.{trim_configs, config_bytes, trim_head}
 use Rattle.oamd.specs.Trim.{trim_config, configs_bytes_of}
@@ -8,8 +7,4 @@ use Rattle.reader.proofs.trim.read_configs.Given as goal
 
 abbrev pub invariant-loop-i : goal.invariant-loop-i
 invariant-loop-i t =
-    (t.at ≡ trim_head + config_bytes * t.i) × Laying trim_configs (λ cfg. trim_config) configs_bytes_of config_bytes trim_head (bit t.s) t.initial.cur t.l t.initial.out length-configs t.i t.cur t.out
-
-abbrev pub decreases-loop-i : goal.decreases-loop-i
-decreases-loop-i t =
-    trim_configs - t.i
+    Laying trim_configs (λ cfg. trim_config) configs_bytes_of config_bytes trim_head (bit t.s) t.initial.cur t.l t.initial.out length-configs t.i t.cur t.out

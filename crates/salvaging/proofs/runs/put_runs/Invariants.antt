@@ -7,9 +7,5 @@ use Rattle.salvaging.proofs.runs.put_runs.Given as goal
 
 abbrev pub invariant-loop-i : goal.invariant-loop-i
 invariant-loop-i t =
-    Rest (t.from.0 - t.found.body.0) t.initial.out t.out t.initial.next t.next (runs_by t.payload t.found) (runs_from t.payload t.found t.from.0 t.i)
-    × Come t.payload t.found t.from.0 t.i
-
-abbrev pub decreases-loop-i : goal.decreases-loop-i
-decreases-loop-i t =
-    t.found.drops - t.i
+    Rest (t.from.0 - t.fn.found.body.0) t.initial.out t.out t.initial.next t.next (runs_by t.payload t.fn.found) (runs_from t.payload t.fn.found t.from.0 t.i)
+    × Come t.payload t.fn.found t.from.0 t.i

@@ -10,7 +10,7 @@ returns c before =
     let gain = c.look_gain-g.ensures in
     let rank = c.look_priority-p.ensures in
     record {
-      coded = record { status = Full; parts = 3; gain = c.look_gain-g.result.gain; priority = c.look_priority-p.result.priority };
+      coded = record { status = Full; parts = 3; gain = c.look_gain-g.result.value; priority = c.look_priority-p.result.value };
       means = rw (c.gain_of.ensures, c.priority_of.ensures);
       held = record {
         looks = looks-give ▹ gain.first ▹ gain.second ▹ rank.first ▹ rank.second ▹ looks-give;

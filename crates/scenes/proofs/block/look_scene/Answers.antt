@@ -34,7 +34,7 @@ returns-then-idle-eq1 c =
           ⊳ free-give
           ⊳ there (no-basic Default looks-give) seen refl refl
           ⊳ free-give
-          ⊳ there (no-render Default _ looks-give looks-give) seen refl (omega (arith, ap (λ (s : Sighted). s.off) look.0))
+          ⊳ there (no-render Default _ looks-give looks-give) seen refl (omega (arith, ap (λ (s : Sighted ℕ). s.off) look.0))
           ⊳ c.look_additional.ensures.freely refl
           ⊳ free-give;
       means = c.idle.ensures;
@@ -44,7 +44,7 @@ pub returns : goal.returns
 unfolding object_info_block resolve
 returns c =
     let seen = sees (goal.at.returns c).After-window-x in
-    let zero : c.look-idle.result.v ≡ 0 = omega (arith, c.look-idle.ensures.1.small, c.if-idle-eq1.false) in
+    let zero : c.look-idle.result.value ≡ 0 = omega (arith, c.look-idle.ensures.1.small, c.if-idle-eq1.false) in
     let low = c.levels_in-b.ensures in
     let high = c.shown_in-n.ensures in
     record {

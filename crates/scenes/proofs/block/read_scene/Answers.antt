@@ -1,4 +1,4 @@
-use Rattle.std.proofs.Common.{arith, refl, rules}
+use Rattle.std.proofs.Common.{arith, refl}
 use Rattle.bits.proofs.Free.{held}
 use Rattle.bits.proofs.Sticky.{plain}
 use Rattle.syntax.proofs.Lines.{◌▸◌, worth}
@@ -8,6 +8,6 @@ pub returns-then-look : goal.returns-then-look
 returns-then-look c =
     let made = c.look_scene-look.ensures in
     record {
-      reads = held (made.held c.if-look.true) (search rules) (omega (arith, c.raw-then-raw-le4000000000.ensures)) c.new.ensures ▸ worth made.means plain;
+      reads = held (made.held c.if-look.true) c.if-c-eq0.true (omega (arith, c.raw-then-raw-le4000000000.ensures)) c.new.ensures ▸ worth made.means plain;
       empty = refl;
     }

@@ -27,7 +27,7 @@ returns c =
       coded = _;
       held = record {
         freely = λ g.
-            let good = each-good _ _ c.both.ensures g in
+            let good = each-good _ _ g in
             free-give
             ⊳ there position.looks sees refl refl
             ⊳ there distance.looks sees refl refl

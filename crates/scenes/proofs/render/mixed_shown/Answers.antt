@@ -1,4 +1,4 @@
-use Rattle.std.proofs.Common.{Bool, arith, refl, ℕ, ◌%◌, ◌+◌, ◌-◌, ◌≤◌}
+use Rattle.std.proofs.Common.{Bool, arith, not, refl, ℕ, ◌||◌, ◌%◌, ◌+◌, ◌-◌, ◌≤◌}
 use Rattle.bits.proofs.Free.{free-give}
 use Rattle.oamd.specs.declared.Render.{Render}
 use Rattle.oamd.specs.declared.Status.TheVariants.{Mixed}
@@ -14,22 +14,22 @@ use Rattle.scenes.proofs.render.mixed_shown.Goals.{After-look-snap}
 
 -- where the second window is opened
 abbrev at : After-look-snap → ℕ
-at c = c.args.base + c.chosen.result
+at c = c.args.base + c.pick.result
 
-first-far : (c : After-look-snap) → c.chosen.result ≤ c.args.o + 28
+first-far : (c : After-look-snap) → c.pick.result ≤ c.args.o + 28
 first-far c =
     let parts = c.look-parts in
     let both : c.look_distance-d.result.off ≤ parts.result.off + 24 = omega (arith, c.look_position-p.ensures.near, c.look_distance-d.ensures.near) in
-    omega (arith, parts.ensures.1.near, near_if c.has_position.ensures _ _ c.chosen.ensures both)
+    omega (arith, parts.ensures.1.near, near_if c.has_position.ensures _ _ c.pick.ensures both)
 
-zone-far : (c : After-look-snap) → c.chosen-extent_off.result ≤ at c % 8 + 4
-zone-far c = near_if c.has_zone-zoned.ensures _ _ c.chosen-extent_off.ensures c.look_zone-z.ensures.near
+zone-far : (c : After-look-snap) → c.pick-extent_off.result ≤ at c % 8 + 4
+zone-far c = near_if c.has_zone-zoned.ensures _ _ c.pick-extent_off.ensures c.look_zone-z.ensures.near
 
-size-far : (c : After-look-snap) → c.chosen-screen_off.result ≤ c.chosen-extent_off.result + 17
-size-far c = near_if c.has_size-sized.ensures _ _ c.chosen-screen_off.ensures c.look_extent-e.ensures.near
+size-far : (c : After-look-snap) → c.pick-screen_off.result ≤ c.pick-extent_off.result + 17
+size-far c = near_if c.has_size-sized.ensures _ _ c.pick-screen_off.ensures c.look_extent-e.ensures.near
 
-screen-far : (c : After-look-snap) → c.chosen-snap_off.result ≤ c.chosen-screen_off.result + 6
-screen-far c = near_if c.has_screen.ensures _ _ c.chosen-snap_off.ensures c.look_screen-n.ensures.near
+screen-far : (c : After-look-snap) → c.pick-snap_off.result ≤ c.pick-screen_off.result + 6
+screen-far c = near_if c.has_screen.ensures _ _ c.pick-snap_off.ensures c.look_screen-n.ensures.near
 
 far : (c : After-look-snap)
     → at c - at c % 8 + c.look-snap.result.off ≤ c.args.base + c.args.o + 56
@@ -50,27 +50,27 @@ returns c =
     let screen-told = c.has_screen.ensures in
     let looked : Render = record {
       status = Mixed;
-      parts = c.look-parts.result.v;
-      position = c.look_position-p.result.position;
-      distance = c.look_distance-d.result.distance;
-      zone = c.look_zone-z.result.zone;
-      extent = c.look_extent-e.result.extent;
-      screen = c.look_screen-n.result.screen;
-      snap = c.look-snap.result.v;
+      parts = c.look-parts.result.value;
+      position = c.look_position-p.result.value;
+      distance = c.look_distance-d.result.value;
+      zone = c.look_zone-z.result.value;
+      extent = c.look_extent-e.result.value;
+      screen = c.look_screen-n.result.value;
+      snap = c.look-snap.result.value;
     } in
     record {
       coded = sent_alone looked;
       held = record {
         freely = λ g.
-            let good = each-good _ _ c.both.ensures g in
+            let good = each-good (not c.has_zone-zoned.result || c.look_zone-z.result.good) (not c.has_size-sized.result || c.look_extent-e.result.good) g in
             there parts.looks sees refl refl
             ⊳ there (taken told (λ (on : Bool). position on c.args.first) refl (λ h. position-seen.looks) (no-position _)) sees refl refl
-            ⊳ there (taken-behind told distance c.chosen.ensures c.look_distance-d.ensures.looks no_distance_lem) sees refl refl
-            ⊳ there (taken zone-told zone c.chosen-extent_off.ensures (λ h. c.look_zone-z.ensures.looks (good_if zone-told c.either.ensures good.0 h)) no-zone)
+            ⊳ there (taken-behind told distance c.pick.ensures c.look_distance-d.ensures.looks no_distance_lem) sees refl refl
+            ⊳ there (taken zone-told zone c.pick-extent_off.ensures (λ h. c.look_zone-z.ensures.looks (good_if zone-told good.0 h)) no-zone)
             sees-2 (entered new) refl
-            ⊳ there (taken size-told extent c.chosen-screen_off.ensures (λ h. c.look_extent-e.ensures.looks (good_if size-told c.either-2.ensures good.1 h)) no-extent)
+            ⊳ there (taken size-told extent c.pick-screen_off.ensures (λ h. c.look_extent-e.ensures.looks (good_if size-told good.1 h)) no-extent)
             sees-2 refl refl
-            ⊳ there (taken screen-told screen c.chosen-snap_off.ensures (λ h. c.look_screen-n.ensures.looks) no-screen) sees-2 refl refl
+            ⊳ there (taken screen-told screen c.pick-snap_off.ensures (λ h. c.look_screen-n.ensures.looks) no-screen) sees-2 refl refl
             ⊳ there c.look-snap.ensures.1.looks sees-2 refl (behind _ new)
             ⊳ free-give;
         near = far (goal.at.returns c).After-look-snap;

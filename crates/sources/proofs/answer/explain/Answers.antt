@@ -1,28 +1,33 @@
-use Rattle.std.proofs.Common.{ap, arith, get_or, ℕ, ◌*◌, ◌+◌, ◌∙◌, ◌≤◌}
+use Rattle.std.proofs.Common.{Some, ap, arith, get_or, ℕ, ◌*◌, ◌+◌, ◌∙◌, ◌<◌}
 use Rattle.oamd.specs.Tables.{record_stride}
 use Rattle.sources.specs.Asked.{Asked}
-use Rattle.sources.proofs.Chaining.{asked_back, value_is, chaining_start, chaining_step, chaining-stop}
+use Rattle.sources.proofs.Chaining.{Chaining, asked_back, value_is, chaining_start, chaining_step, chaining-stop}
 use Rattle.sources.proofs.answer.explain.Goals as goal
-use Rattle.sources.proofs.answer.explain.Goals.{At-loop-link, In-loop-link}
+use Rattle.sources.proofs.answer.explain.Goals.{In-Some}
+
+-- what the loop knows where the chain goes on
+going : (c : In-Some) → Chaining c.args.known.payload.now c.args.object c.args.block c.args.byte c.loop-next.steps c.loop-next.count (Some c.in-Some.link)
+going c = rw c.in-Some.is at c.loop-next.invariant
 
 -- the object and the block that the chain has come to are there
-here : (c : In-loop-link) → Asked c.args.payload.now c.args.blocks c.loop-link.link.object c.loop-link.link.block
-here c = asked_back c.requires.0 c.loop-link.invariant.objects c.loop-link.invariant.blocks
+here : (c : In-Some) → Asked c.args.known.payload.now c.args.known.blocks c.in-Some.link.object c.in-Some.link.block
+here c = asked_back c.requires.0 (going c).within.0 (going c).within.1
 
 -- there is room for its step
-room : (c : At-loop-link) → c.loop-link.count + c.loop-link.link.left ≤ 166
-room c = omega (arith, c.loop-link.invariant.fuel, c.requires.0.object, c.requires.0.objects, c.requires.0.block, c.requires.0.few)
+room : (c : In-Some) → c.loop-next.count < 166
+room c = omega (arith, (going c).fuel, c.requires.0.object, c.requires.0.objects, c.requires.0.block, c.requires.0.few)
 
-pub loop-link-init : goal.loop-link-init
-loop-link-init c =
-    rw c.no_steps-steps.ensures (chaining_start _ _ _ _)
+pub loop-next-init : goal.loop-next-init
+loop-next-init c =
+    chaining_start _ _ _ _ _ (omega arith)
 
-pub loop-link-preserved : goal.loop-link-preserved
-loop-link-preserved c =
-    chaining_step c.loop-link.invariant (here (goal.at.loop-link-preserved c).In-loop-link).blocks c.loop-link-test.true (omega (arith, room (goal.at.loop-link-preserved c).At-loop-link, c.loop-link-test.true)) c.told_at-told.ensures
-    (ap (λ (i : ℕ). get_or c.args.records.now (record_stride * i + c.args.byte) 0) c.index_of.ensures ∙ value_is (here (goal.at.loop-link-preserved c).In-loop-link) c.requires.1 c.requires.2)
-    c.step_of-step.ensures c.link_of-link.ensures
+pub loop-next-preserved : goal.loop-next-preserved
+loop-next-preserved c =
+    let at = (goal.at.loop-next-preserved c).In-Some in
+    chaining_step (going at) (here at).blocks (room at) c.told_at-told.ensures
+    (ap (λ (i : ℕ). get_or c.args.known.records.now (record_stride * i + c.args.byte) 0) c.index_of.ensures ∙ value_is (here at) c.requires.1 c.requires.2)
+    c.step_of.ensures c.behind-next.ensures
 
 pub returns : goal.returns
 returns c =
-    chaining-stop c.loop-link.invariant c.loop-link-test.false
+    chaining-stop (rw c.in_default.is at c.loop-next.invariant)

@@ -1,39 +1,17 @@
-use Rattle.std.proofs.Common.{[], arith, ◌∷◌}
-use Rattle.sources.specs.Offsets.{sum_to}
-use Rattle.sources.proofs.Rows.{all_of}
+use Rattle.std.proofs.Common.{arith, ap, sum, sym, take, ℕ, ◌∙◌}
+use Rattle.std.proofs.lemmas.List.{take_min}
+use Rattle.std.proofs.lemmas.List.Sums.{sum_by-take-le}
+use Rattle.sources.proofs.Rows.{sum-to}
 use Rattle.sources.proofs.offset.first_of.Goals as goal
 
-pub returns-in-0 : goal.returns-in-0
-unfolding sum_to
-returns-in-0 c =
-    rw c.in-0.is (record { is = omega arith; small = omega arith })
+pub sum_of-requires : goal.sum_of-requires
+sum_of-requires c =
+    omega (arith, sum_by-take-le (λ (x : ℕ). x) c.args.widths.now c.min-n.result)
 
-pub returns-in-1 : goal.returns-in-1
-unfolding sum_to
-returns-in-1 c =
-    rw c.in-1.is (record { is = omega arith; small = omega arith })
-
-pub returns-in-2 : goal.returns-in-2
-unfolding sum_to
-returns-in-2 c =
-    rw c.in-2.is (record { is = omega arith; small = omega arith })
-
-pub returns-in-3 : goal.returns-in-3
-unfolding sum_to
-returns-in-3 c =
-    rw c.in-3.is (record { is = omega arith; small = omega arith })
-
-pub returns-in-4 : goal.returns-in-4
-unfolding sum_to
-returns-in-4 c =
-    rw c.in-4.is (record { is = omega arith; small = omega arith })
-
-pub returns-in-5 : goal.returns-in-5
-unfolding sum_to
-returns-in-5 c =
-    rw c.in-5.is (record { is = omega arith; small = omega arith })
-
-pub returns-in_default : goal.returns-in_default
-unfolding sum_to
-returns-in_default c =
-    record { is = rw (all_of c.args.n (c.args.a ∷ c.args.b ∷ c.args.c ∷ c.args.d ∷ c.args.e ∷ c.args.f ∷ []) (omega arith)) (omega arith); small = omega arith }
+pub returns : goal.returns
+returns c =
+    let widths = c.args.widths.now in
+    record {
+      is = c.sum_of.ensures ∙ ap (λ (k : ℕ). sum (take k widths)) c.min-n.ensures ∙ ap sum (take_min c.args.n widths) ∙ sym (sum-to c.args.n widths);
+      small = omega (arith, sum_by-take-le (λ (x : ℕ). x) widths c.min-n.result);
+    }

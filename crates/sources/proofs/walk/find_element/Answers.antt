@@ -6,7 +6,7 @@ use Rattle.sources.proofs.walk.find_element.Goals as goal
 use Rattle.sources.proofs.walk.find_element.Goals.{After-read_frame-step}
 
 -- behind its head comes its end
-near : (c : After-read_frame-step) → body_at c.loop-i.cur.at.0 c.args.alternate c.read_frame-step.result.frame.size ≤ 8 * most_bytes
+near : (c : After-read_frame-step) → body_at c.loop-i.cur.at.0 c.args.alternate c.read_frame-step.result.value.size ≤ 8 * most_bytes
 near c =
     body_near c.loop-i.invariant c.loop-i-test.true c.requires.whole c.read_frame-step.ensures c.requires.short
 
@@ -37,4 +37,4 @@ loop-i-preserved c =
 
 pub returns : goal.returns
 returns c =
-    not_found c.loop-i.invariant c.loop-i-test.false c.nowhere.ensures
+    not_found c.loop-i.invariant c.loop-i-test.false

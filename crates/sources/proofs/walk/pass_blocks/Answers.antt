@@ -8,7 +8,7 @@ loop-i-init c =
 
 pub loop-i-preserved : goal.loop-i-preserved
 loop-i-preserved c =
-    passing_step c.loop-i.invariant c.loop-i-test.true c.read_block-step.ensures.reads
+    passing_step c.loop-i.invariant c.loop-i-test.true c.read_block.ensures.reads
 
 pub returns : goal.returns
 unfolding object_data

@@ -1,4 +1,3 @@
-use Rattle.std.proofs.Common.{◌-◌}
 use Rattle.bits.specs.Language.{bit}
 use Rattle.oamd.specs.Block.{object_info_block}
 use Rattle.sources.proofs.Passing.{Passing}
@@ -7,7 +6,3 @@ use Rattle.sources.proofs.walk.pass_blocks.Given as goal
 abbrev pub invariant-loop-i : goal.invariant-loop-i
 invariant-loop-i t =
     Passing t.n (object_info_block t.class) (bit t.s) t.initial.cur t.l t.i t.cur
-
-abbrev pub decreases-loop-i : goal.decreases-loop-i
-decreases-loop-i t =
-    t.n - t.i

@@ -7,7 +7,7 @@ loop-i-init c =
 
 pub loop-i-preserved : goal.loop-i-preserved
 loop-i-preserved c =
-    passing_step c.loop-i.invariant c.loop-i-test.true (rw c.carries_at-carries.ensures at c.read_divergence-step.ensures.reads)
+    passing_step c.loop-i.invariant c.loop-i-test.true (rw c.carries_at-carries.ensures at c.read_divergence.ensures.reads)
 
 pub returns : goal.returns
 returns c =

@@ -1,4 +1,3 @@
-use Rattle.std.proofs.Common.{◌-◌}
 use Rattle.bits.specs.Language.{bit}
 use Rattle.oamd.specs.Programme.{class_of}
 use Rattle.oamd.specs.ObjectElement.{object_data}
@@ -8,7 +7,3 @@ use Rattle.sources.proofs.walk.pass_objects.Given as goal
 abbrev pub invariant-loop-j : goal.invariant-loop-j
 invariant-loop-j t =
     Passing t.n (λ j. object_data t.blocks (class_of t.shares j)) (bit t.s) t.initial.cur t.l t.j t.cur
-
-abbrev pub decreases-loop-j : goal.decreases-loop-j
-decreases-loop-j t =
-    t.n - t.j

@@ -1,4 +1,3 @@
-use Rattle.std.proofs.Common.{◌-◌}
 use Rattle.bits.specs.Language.{bit}
 use Rattle.oamd.specs.Extended.{ext_prec_pos_block}
 use Rattle.sources.specs.Walks.{carries_at}
@@ -8,7 +7,3 @@ use Rattle.sources.proofs.walk.pass_precises.Given as goal
 abbrev pub invariant-loop-i : goal.invariant-loop-i
 invariant-loop-i t =
     Passing t.n (λ i. ext_prec_pos_block (carries_at t.records i)) (bit t.s) t.initial.cur t.l t.i t.cur
-
-abbrev pub decreases-loop-i : goal.decreases-loop-i
-decreases-loop-i t =
-    t.n - t.i

@@ -10,17 +10,12 @@ use Rattle.summary.proofs.columns.count_column.Given as goal
 abbrev pub left : List ℕ → ℕ → ℕ → ℕ → List ℕ
 left room k n i = map (λ j. get_or room (record_stride * j + k) 0) (from i (n - i))
 
-pub record Left (room : List ℕ) (n k : ℕ) (counts₀ counts : List ℕ) (at i : ℕ) : Type 0 where
+pub record Left (room : List ℕ) (n k : ℕ) (counts₀ counts : List ℕ) (i : ℕ) : Type 0 where
   pub within : i ≤ n
-  pub here : at ≡ record_stride * i + k
   pub low : Low (n - i) counts
   pub kept : length counts ≡ length counts₀
   pub all : all_bumped (left room k n i) counts ≡ all_bumped (bytes_of_records k n room) counts₀
 
 abbrev pub invariant-loop-i : goal.invariant-loop-i
 invariant-loop-i t =
-    Left t.room t.n t.k t.initial.counts t.counts t.at t.i
-
-abbrev pub decreases-loop-i : goal.decreases-loop-i
-decreases-loop-i t =
-    t.n - t.i
+    Left t.room t.n t.k t.initial.counts t.counts t.i

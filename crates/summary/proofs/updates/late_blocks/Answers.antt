@@ -1,21 +1,15 @@
-use Rattle.std.proofs.Common.{arith, get_or}
-use Rattle.oamd.specs.Timing.{no_update}
+use Rattle.std.proofs.Common.{rules, arith, Bool, cond, ◌≡◌, ◌∙◌}
+use Rattle.std.specs.Prelude.{count_by, leb}
+use Rattle.std.proofs.lemmas.List.Sums.{count_by-le-length}
+use Rattle.oamd.specs.declared.Update.{Update}
+use Rattle.oamd.specs.Tables.{frame_samples}
 use Rattle.summary.specs.Summary.{is_late}
-use Rattle.summary.proofs.Summed.{begun, turn, is-late, not_late}
+use Rattle.summary.proofs.Summed.{sum-total, counts}
 use Rattle.summary.proofs.updates.late_blocks.Goals as goal
-use Rattle.summary.proofs.updates.late_blocks.Goals.{else-raw-ge-FRAME_SAMPLES, then-raw-ge-FRAME_SAMPLES}
 
-pub loop-blk-init : goal.loop-blk-init
-loop-blk-init c =
-    (begun is_late _ c.requires.0, omega arith)
-
-pub loop-blk-preserved : goal.loop-blk-preserved
-loop-blk-preserved c =
-    let u = get_or c.args.timing.updates c.loop-blk.blk no_update in
-    let began = c.raw.ensures in (
-      turn c.loop-blk.invariant.0 c.requires.1 (omega arith) (elim c.if-raw-ge-FRAME_SAMPLES.branch [
-        | then-raw-ge-FRAME_SAMPLES w ↦ omega (arith, is-late u began (omega (arith, w.if-raw-ge-FRAME_SAMPLES.true)), w.late-is)
-        | else-raw-ge-FRAME_SAMPLES w ↦ omega (arith, not_late u began (omega (arith, w.if-raw-ge-FRAME_SAMPLES.false)), w.late-is)
-      ]),
-      elim c.if-raw-ge-FRAME_SAMPLES.branch [ then-raw-ge-FRAME_SAMPLES w ↦ omega arith | else-raw-ge-FRAME_SAMPLES w ↦ omega arith ],
-    )
+pub returns : goal.returns
+returns c =
+    let updates = c.args.updates.now in
+    let late : Update → Bool = λ u. leb frame_samples u.start.0 in
+    let counted : c.count.result ≡ count_by late updates = search rules in
+    (counted ∙ sum-total (λ u. cond (late u) 1 0) is_late (λ u. counts (late u)) updates, omega (arith, count_by-le-length late updates))

@@ -9,6 +9,6 @@ returns c =
     emptied c.with_value.ensures
     (c.take_if-used.ensures.reads
     ▸ c.take_unless-mode.ensures.reads
-    ▸ (rw c.both.ensures at c.take_if-table.ensures.reads)
+    ▸ c.take_if-table.ensures.reads
     ▸ c.take_unless-code.ensures.reads
     ▸ plain)

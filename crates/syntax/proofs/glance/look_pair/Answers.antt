@@ -12,8 +12,8 @@ returns c =
     let o = c.args.o in
     let w = c.args.w in
     let k = c.args.k in
-    let sent = eqb (c.look-q.result.v / 2 ^ k) c.args.which in
-    rw (c.only.ensures, c.chosen.ensures, unit k (omega arith))
+    let sent = eqb (c.look-q.result.value / 2 ^ k) c.args.which in
+    rw (c.only.ensures, c.pick.ensures, unit k (omega arith))
     (record {
       mid = o + w;
       first = lead o w k e (omega arith);

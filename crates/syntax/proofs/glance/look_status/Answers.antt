@@ -17,4 +17,4 @@ pub returns : goal.returns
 unfolding status_idx
 returns c =
     let seen = c.look-code.ensures.1 in
-    rw (c.if-none.false, c.if-first.false, c.status_of-status.ensures) (record { looks = seen.looks ▹ looks-give; near = seen.near })
+    rw (c.if-none.false, c.if-first.false, c.status_of.ensures) (record { looks = seen.looks ▹ looks-give; near = seen.near })

@@ -10,5 +10,5 @@ returns c =
     ▸ (rw c.has_gain.ensures at c.take_if-index.ensures.reads)
     ▸ c.take_if-level.ensures.reads
     ▸ (rw c.has_priority-ranked.ensures at c.take_if-bydefault.ensures.reads)
-    ▸ (rw (c.both.ensures, c.has_priority-ranked.ensures) at c.take_if-rank.ensures.reads)
+    ▸ (rw c.has_priority-ranked.ensures at c.take_if-rank.ensures.reads)
     ▸ plain

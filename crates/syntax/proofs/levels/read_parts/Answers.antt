@@ -1,4 +1,4 @@
-use Rattle.std.proofs.Common.{pow_pos, rules}
+use Rattle.std.proofs.Common.{inl, inr, pow_pos, rules}
 use Rattle.bits.proofs.Sticky.{plain'}
 use Rattle.syntax.proofs.levels.read_parts.Goals as goal
 
@@ -8,8 +8,5 @@ returns-in-Full c =
 
 pub returns-in-Default : goal.returns-in-Default
 returns-in-Default c =
-    rw (c.in-Default.is, c.with_value-in-Default.ensures) (record { reads = plain'; small = pow_pos _ })
-
-pub returns-in-Reuse : goal.returns-in-Reuse
-returns-in-Reuse c =
-    rw (c.in-Reuse.is, c.with_value-in-Reuse.ensures) (record { reads = plain'; small = pow_pos _ })
+    rw c.with_value-in-Default.ensures
+    (elim c.in-Default.is [ inl e ↦ rw e (record { reads = plain'; small = pow_pos _ }) | inr e ↦ rw e (record { reads = plain'; small = pow_pos _ }) ])

@@ -15,4 +15,4 @@ returns-then-first c =
 pub returns : goal.returns
 unfolding status_idx
 returns c =
-    rw (c.if-none.false, c.if-first.false, c.status_of-status.ensures) (search reading)
+    rw (c.if-none.false, c.if-first.false, c.status_of.ensures) (search reading)

@@ -17,8 +17,8 @@ returns c =
             ▸ b.reads
             ▸ c.read_isf-isf.ensures.reads
             ▸ c.read_dynamics-dynamics.ensures.reads
-            ▸ c.pass_reserved-cur.ensures.reads
+            ▸ c.pass_reserved.ensures.reads
             ▸ rw (b.distributes, b.multiplies, b.numbers, b.counts, b.holds) plain;
-        empty = c.pass_reserved-cur.ensures.empty;
+        empty = c.pass_reserved.ensures.empty;
       },
     )

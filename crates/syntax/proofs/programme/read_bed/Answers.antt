@@ -9,5 +9,5 @@ returns c =
     c.take-lfe.ensures.reads
     ▸ c.take_if-standard.ensures.reads
     ▸ c.take_if-usual.ensures.reads
-    ▸ (rw c.both.ensures at c.take_if-other.ensures.reads)
+    ▸ c.take_if-other.ensures.reads
     ▸ plain

@@ -1,5 +1,5 @@
 -- The loop's invariant: the array holds the beds that were read, filled up, and what is left to read gives what the whole gives.
-use Rattle.std.proofs.Common.{List, ℕ, ◌-◌, ◌≤◌}
+use Rattle.std.proofs.Common.{List, ℕ, ◌≤◌}
 use Rattle.bits.specs.declared.Cur.{Cur}
 use Rattle.bits.specs.Language.{P, give, bit}
 use Rattle.oamd.specs.declared.Bed.{Bed}
@@ -23,7 +23,4 @@ made distribute multiple instances xs =
 
 abbrev pub invariant-loop-i : goal.invariant-loop-i
 invariant-loop-i t =
-    (t.i ≤ t.n) × Filling t.n bed (made t.distribute t.multiple t.instances) itself most_beds no_bed (bit t.s) t.instances t.l t.beds t.cur t.i
-
-abbrev pub decreases-loop-i : goal.decreases-loop-i
-decreases-loop-i t = t.n - t.i
+    (t.i ≤ t.i-end) × Filling t.i-end bed (made t.distribute t.multiple t.instances) itself most_beds no_bed (bit t.s) t.instances t.l t.beds t.cur t.i

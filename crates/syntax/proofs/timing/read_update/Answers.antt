@@ -11,5 +11,5 @@ returns c =
     ▸ c.take-code.ensures.reads
     ▸ c.take_if-indexed.ensures.reads
     ▸ c.take_if-index.ensures.reads
-    ▸ (rw c.both.ensures at c.take_if-ramp.ensures.reads)
+    ▸ c.take_if-ramp.ensures.reads
     ▸ plain)

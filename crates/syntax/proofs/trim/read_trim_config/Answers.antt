@@ -11,7 +11,7 @@ returns c =
     emptied c.with_value.ensures
     (c.take-bydefault.ensures.reads
     ▸ c.take_if-disabled.ensures.reads
-    ▸ (rw c.both-sent.ensures at c.take_if-presence.ensures.reads)
+    ▸ c.take_if-presence.ensures.reads
     ▸ (rw c.has_centre.ensures at c.take_if-centre.ensures.reads)
     ▸ (rw c.has_surround.ensures at c.take_unless-surround.ensures.reads)
     ▸ (rw c.has_height.ensures at c.take_unless-height.ensures.reads)

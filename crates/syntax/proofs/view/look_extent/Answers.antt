@@ -31,9 +31,9 @@ unfolding extent
 returns c =
     let o = c.args.o in
     let e = c.look-q.ensures.0 in
-    let v = c.look-q.result.v / 32768 % 4 in
+    let v = c.look-q.result.value / 32768 % 4 in
     let code = slot o 0 2 15 o (o + 2) e (omega arith) (omega arith) (omega arith) in
-    rw (c.only.ensures, c.only-2.ensures, c.only-3.ensures, c.only-4.ensures, c.chosen-2.ensures, c.chosen.ensures)
+    rw (c.only.ensures, c.only-2.ensures, c.only-3.ensures, c.only-4.ensures, c.pick-2.ensures, c.pick.ensures)
     (record {
       looks = λ g.
           fair ObjectSizeIdx code g

@@ -1,13 +1,9 @@
 -- `lay_bytes` meets its contract: whoever lays the bytes left from here has laid all from the start. Assumes nothing.
-use Rattle.std.proofs.Common.{[], drop, length, ◌-◌, ◌∷◌, ◌≤◌}
+use Rattle.std.proofs.Common.{[], drop, length, ◌∷◌, ◌≤◌}
 use Rattle.text.specs.Lines.{texts}
 use Rattle.text.proofs.LayLaws.{Rest}
 use Rattle.text.proofs.laying.lay_bytes.Given as goal
 
-abbrev pub invariant-loop-i : goal.invariant-loop-i
-invariant-loop-i t =
-    (t.i ≤ length t.bytes) × Rest t.initial.text t.text t.initial.to t.to t.bytes (texts (λ b. b ∷ []) (drop t.i t.bytes))
-
-abbrev pub decreases-loop-i : goal.decreases-loop-i
-decreases-loop-i t =
-    length t.bytes - t.i
+abbrev pub invariant-loop-b : goal.invariant-loop-b
+invariant-loop-b t =
+    (t.b-index ≤ length t.bytes) × Rest t.initial.text t.text t.initial.to t.to t.bytes (texts (λ b. b ∷ []) (drop t.b-index t.bytes))

@@ -9,14 +9,12 @@ use Rattle.text.proofs.listing.lay_object.Goals as goal
 pub loop-blk-preserved : goal.loop-blk-preserved
 loop-blk-preserved c =
     let a = c.args in
-    let at : c.loop-blk.place ≡ record_stride * (a.object * a.blocks + c.loop-blk.blk) = c.loop-blk.invariant.1 in (
+    let at : a.from + record_stride * c.loop-blk.blk ≡ record_stride * (a.object * a.blocks + c.loop-blk.blk) = omega arith in (
       omega arith,
-      omega arith,
-      omega arith,
-      rest_step _ _ (count_more (line_of a.object a.blocks a.records.now) a.blocks c.loop-blk.blk (omega arith)) c.loop-blk.invariant.3
+      rest_step _ _ (count_more (line_of a.object a.blocks a.records.now) a.blocks c.loop-blk.blk (omega arith)) c.loop-blk.invariant.1
           (laid_is (ap (λ (p : ℕ). record_line a.object c.loop-blk.blk (take record_stride (drop p a.records.now))) at) c.lay_record-to.ensures),
     )
 
 pub returns : goal.returns
 returns c =
-    let h = c.loop-blk in rest_end (count_none _ _ h.blk (omega arith)) h.invariant.3
+    let h = c.loop-blk in rest_end (count_none _ _ h.blk (omega arith)) h.invariant.1

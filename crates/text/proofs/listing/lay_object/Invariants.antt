@@ -1,7 +1,6 @@
 -- `lay_object` meets its contract: whoever lays the blocks left from here has laid all from the start. Assumes nothing.
-use Rattle.std.proofs.Common.{List, ℕ, ◌*◌, ◌+◌, ◌-◌, ◌≡◌, ◌≤◌}
+use Rattle.std.proofs.Common.{List, ℕ, ◌*◌, ◌+◌, ◌-◌, ◌≤◌}
 use Rattle.bits.specs.Language.{from as numbers}
-use Rattle.oamd.specs.Tables.{record_stride}
 use Rattle.text.specs.Lines.{texts}
 use Rattle.text.specs.Listing.{record_line, record_at, object_lines}
 use Rattle.text.proofs.LayLaws.{Rest}
@@ -13,9 +12,5 @@ line_of object blocks records blk = record_line object blk (record_at records (o
 
 abbrev pub invariant-loop-blk : goal.invariant-loop-blk
 invariant-loop-blk t =
-    (t.blk ≤ t.blocks) × (t.place ≡ record_stride * (t.object * t.blocks + t.blk)) × (t.place + record_stride * (t.blocks - t.blk) ≡ t.from + record_stride * t.blocks)
+    (t.blk ≤ t.blocks)
     × Rest t.initial.text t.text t.initial.to t.to (object_lines t.blocks t.records t.object) (texts (line_of t.object t.blocks t.records) (numbers t.blk (t.blocks - t.blk)))
-
-abbrev pub decreases-loop-blk : goal.decreases-loop-blk
-decreases-loop-blk t =
-    t.blocks - t.blk

@@ -9,10 +9,6 @@ use Rattle.text.proofs.listing.lay_updates.Given as goal
 
 abbrev pub invariant-loop-blk : goal.invariant-loop-blk
 invariant-loop-blk t =
-    (t.blk ≤ t.blocks)
-    × Rest t.initial.text t.text t.initial.to t.to (texts (λ i. block_line i (get_or t.updates i no_update)) (from 0 t.blocks))
-    (texts (λ i. block_line i (get_or t.updates i no_update)) (from t.blk (t.blocks - t.blk)))
-
-abbrev pub decreases-loop-blk : goal.decreases-loop-blk
-decreases-loop-blk t =
-    t.blocks - t.blk
+    (t.blk ≤ t.fn.t.blocks)
+    × Rest t.initial.text t.text t.initial.to t.to (texts (λ i. block_line i (get_or t.fn.t.updates i no_update)) (from 0 t.fn.t.blocks))
+    (texts (λ i. block_line i (get_or t.fn.t.updates i no_update)) (from t.blk (t.fn.t.blocks - t.blk)))

@@ -1,13 +1,12 @@
-use Rattle.std.proofs.Common.{rules}
+use Rattle.std.proofs.Common.{rules, ◌∙◌}
+use Rattle.oamd.specs.Tables.{most_beds}
+use Rattle.oamd.specs.Programme.{no_bed}
+use Rattle.form.specs.Valid.{bed_valid}
 use Rattle.valid.specs.Parts.{beds_valid}
-use Rattle.valid.proofs.Entries.{turn, whole-array}
+use Rattle.valid.proofs.Entries.{tested, all_of_array}
 use Rattle.valid.proofs.programme.beds_valid.Goals as goal
-
-pub loop-i-preserved : goal.loop-i-preserved
-loop-i-preserved c =
-    turn _ c.loop-i.invariant (search rules) c.bed_valid.ensures c.both-valid.ensures
 
 pub returns : goal.returns
 unfolding beds_valid
 returns c =
-    whole-array (search rules) c.loop-i.invariant (search rules)
+    c.all_below.ensures (tested bed_valid c.args.count c.args.beds no_bed) (λ i r h e. search rules) ∙ all_of_array bed_valid c.args.count c.args.beds no_bed most_beds (search rules)

@@ -5,7 +5,5 @@ use Rattle.valid.proofs.scenes.sent_valid.Goals as goal
 pub returns : goal.returns
 unfolding scene_at
 returns c =
-    rw (c.both-4.ensures, c.both-3.ensures, c.both-2.ensures, c.refining_valid-precise.ensures, c.precise_at.ensures.there c.requires.0)
-    (rw (c.diverging_valid-divergence.ensures, c.divergence_at.ensures.there c.requires.0, c.both-hanging.ensures, c.both.ensures)
-    (rw (c.either-screen.ensures, c.within_limits-limits.ensures)
-    (sent_is c.args.class (record_at c.args.records.now c.args.at) c.requires.1)))
+    rw (c.refining_valid-precise.ensures, c.precise_at.ensures.there c.requires.0, c.diverging_valid-divergence.ensures, c.divergence_at.ensures.there c.requires.0)
+    (rw c.within_limits-limits.ensures (sent_is c.args.class (record_at c.args.records.now c.args.at) c.requires.1))

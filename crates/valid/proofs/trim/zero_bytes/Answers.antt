@@ -1,9 +1,8 @@
-use Rattle.std.proofs.Common.{ap, arith, rules, ℕ, ◌+◌, eqb}
-use Rattle.valid.proofs.Zeros.{summed, all-summed}
+use Rattle.std.proofs.Common.{rules, ◌+◌, eqb, get_or, ◌∙◌}
+use Rattle.valid.proofs.Zeros.{each_zero}
 use Rattle.valid.proofs.trim.zero_bytes.Goals as goal
 
-pub loop-i-preserved : goal.loop-i-preserved
-loop-i-preserved c = summed c.loop-i.invariant (search rules) (omega (arith, c.type_inv.bytes (c.args.from + c.loop-i.i)))
-
 pub returns : goal.returns
-returns c = ap (λ (k : ℕ). eqb k 0) (all-summed c.loop-i.invariant (omega arith))
+returns c =
+    let bytes = c.args.bytes.now in
+    c.all_below.ensures (λ i. eqb (get_or bytes (c.args.from + i) 0) 0) (λ i r h e. search rules) ∙ each_zero bytes c.args.n c.args.from

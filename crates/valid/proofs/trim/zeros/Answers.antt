@@ -3,4 +3,4 @@ use Rattle.valid.proofs.trim.zeros.Goals as goal
 
 pub returns : goal.returns
 returns c =
-    rw (c.both.ensures, c.zero_bytes-back.ensures, c.zero_words-front.ensures) (by-words _ _ _)
+    rw (c.zero_bytes.ensures, c.zero_words.ensures) (by-words _ _ _)

@@ -9,7 +9,7 @@ returns-then-carries c =
     wide_is (block-full a.first a.s (sym c.if-carries.true ∙ c.carries.ensures))
     (wide-bind (packed-wide c.fore.ensures) (packed-wide c.aft.ensures) (omega arith) c.plus.ensures)
 
-pub returns : goal.returns
-returns c =
+pub returns-else-carries : goal.returns-else-carries
+returns-else-carries c =
     let a = c.args in
     wide_is (block-short a.first a.s (sym c.if-carries.false ∙ c.carries.ensures)) (wide-within (omega arith) (packed-wide c.short.ensures))

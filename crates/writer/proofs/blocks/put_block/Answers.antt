@@ -9,8 +9,8 @@ returns-then-carries c =
     let a = c.args in
     laid_is (block-full a.first a.s (sym c.if-carries.true ∙ c.carries.ensures)) c.put_full.ensures
 
-pub returns : goal.returns
-returns c =
+pub returns-else-carries : goal.returns-else-carries
+returns-else-carries c =
     let a = c.args in
     laid_is (block-short a.first a.s (sym c.if-carries.false ∙ c.carries.ensures))
-    (laid-within (omega arith) (packed-laid c.short-all.ensures c.put_packed.ensures))
+    (laid-within (omega arith) (packed-laid c.short.ensures c.put_packed.ensures))

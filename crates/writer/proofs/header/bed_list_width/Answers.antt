@@ -1,12 +1,13 @@
 use Rattle.std.proofs.Common.{arith, rules}
-use Rattle.writer.proofs.Entries.{each_more, each_none}
-use Rattle.writer.proofs.Widths.{counted_step, packed-wide, counted_end}
+use Rattle.oamd.specs.Programme.{no_bed}
+use Rattle.form.specs.Form.{bed_bits}
+use Rattle.writer.specs.Most.{most_bed}
+use Rattle.writer.proofs.Entries.{entry_bits, entries_bits}
+use Rattle.writer.proofs.Widths.{at_most, wide_is, wide-within}
 use Rattle.writer.proofs.header.bed_list_width.Goals as goal
 
-pub loop-i-preserved : goal.loop-i-preserved
-loop-i-preserved c =
-    let h = c.loop-i in
-    (counted_step (omega arith) (omega arith) (each_more _ _ _ h.i _ (search rules) (search rules)) h.invariant.0 (packed-wide c.bed.ensures) c.plus-total.ensures, search rules)
-
 pub returns : goal.returns
-returns c = let h = c.loop-i in counted_end (omega arith) (each_none _ _ _ h.i (omega arith)) h.invariant.0
+returns c =
+    wide_is (entries_bits (λ i b. bed_bits b) c.args.beds no_bed c.args.n (search rules))
+    (wide-within (omega arith)
+    (c.each_width.ensures most_bed (entry_bits (λ i b. bed_bits b) c.args.beds no_bed) (record { each = λ i r h e. at_most {i = 1} (search rules) }) (omega arith)))

@@ -1,11 +1,22 @@
 use Rattle.std.proofs.Common.{arith, rules}
-use Rattle.laying.proofs.Laws.{rest_step, rest_end}
-use Rattle.writer.proofs.Entries.{each_more, each_none}
+use Rattle.oamd.specs.Programme.{no_bed}
+use Rattle.form.specs.Form.{bed_bits}
+use Rattle.laying.proofs.Laws.{laid_is, laid-within}
+use Rattle.writer.specs.Most.{most_bed}
+use Rattle.writer.proofs.Entries.{entry_bits, entries_bits}
+use Rattle.writer.proofs.Widths.{at_most}
 use Rattle.writer.proofs.header.put_bed_list.Goals as goal
 
-pub loop-i-preserved : goal.loop-i-preserved
-loop-i-preserved c =
-    (rest_step (omega arith) (each_more _ _ _ c.loop-i.i _ (search rules) (omega (arith, c.requires.n_le_most_beds, c.well_formed))) c.loop-i.invariant.0 c.put_bed-next.ensures, search rules)
+pub put_each-requires-clause-parts : goal.put_each-requires-clause-parts
+put_each-requires-clause-parts c = record {
+  most = most_bed;
+  bits = entry_bits (λ i b. bed_bits b) c.args.beds no_bed;
+  parts = record { each = λ i r h e. at_most {i = 1} (search rules) };
+  widest = omega arith;
+  room = omega arith;
+}
 
 pub returns : goal.returns
-returns c = rest_end (omega arith) (each_none _ _ _ _ (omega arith)) c.loop-i.invariant.0
+returns c =
+    laid_is (entries_bits (λ i b. bed_bits b) c.args.beds no_bed c.args.n (search rules))
+    (laid-within (omega arith) (c.put_each.ensures most_bed (entry_bits (λ i b. bed_bits b) c.args.beds no_bed) (record { each = λ i r h e. at_most {i = 1} (search rules) })))

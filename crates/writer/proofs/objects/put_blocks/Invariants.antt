@@ -1,4 +1,4 @@
-use Rattle.std.proofs.Common.{◌%◌, ◌*◌, ◌-◌, ◌≡◌, ◌≤◌}
+use Rattle.std.proofs.Common.{◌%◌, ◌*◌, ◌-◌, ◌≡◌}
 use Rattle.oamd.specs.Tables.{record_stride}
 use Rattle.record.specs.Bytes.{records_at}
 use Rattle.laying.proofs.Laws.{Rest}
@@ -10,9 +10,5 @@ use Rattle.writer.proofs.objects.put_blocks.Given as goal
 abbrev pub invariant-loop-i : goal.invariant-loop-i
 invariant-loop-i t =
     Rest (most_block * t.i) t.initial.out t.out t.initial.next t.next (blocks_bits t.blocks 0 (records_at t.records t.count 0))
-    (blocks_bits t.blocks t.i (records_at t.records (t.count - t.i) t.at))
-    × (t.i ≤ t.count) × (t.at ≡ record_stride * t.i) × (t.block ≡ t.i % t.blocks)
-
-abbrev pub decreases-loop-i : goal.decreases-loop-i
-decreases-loop-i t =
-    t.count - t.i
+    (blocks_bits t.blocks t.i (records_at t.records (t.count - t.i) (record_stride * t.i)))
+    × (t.block ≡ t.i % t.blocks)

@@ -44,7 +44,7 @@ returns c =
       trim = trim;
       whole =
           total.0
-          ∙ form-length (tables_of a.programme a.timing records a.trim.now) _ _ (extended_there needed c.either.ensures)
+          ∙ form-length (tables_of a.programme a.timing records a.trim.now) _ _ (extended_there needed c.some.ensures)
           (trim_there a.programme.objects a.trim.now) header inside extended trim one two three;
       small = total.1;
     }

@@ -1,4 +1,5 @@
-use Rattle.std.proofs.Common.{List, ap, arith, ℕ, ◌≡◌, ◌∙◌}
+use Rattle.std.proofs.Common.{List, ap, arith, rules, ltb, eqb, get_or, ℕ, ◌≡◌, ◌∙◌}
+use Rattle.bits.specs.Language.{as_flag}
 use Rattle.bits.specs.Writes.{only}
 use Rattle.form.specs.Form.{object_element_bits, extended_element_bits, element_bits}
 use Rattle.record.specs.Bytes.{records_at}
@@ -16,14 +17,14 @@ begun : (s : List ℕ) {p : Pen} → p ≡ blank → reach s p ≡ 0
 begun s e = ap (λ (q : Pen). reach s q) e ∙ reach-blank s
 
 pub put_header-header-requires-clause-most_header_bound : goal.put_header-header-requires-clause-most_header_bound
-put_header-header-requires-clause-most_header_bound c = omega (arith, begun c.args.out.now c.start-start.ensures)
+put_header-header-requires-clause-most_header_bound c = omega (arith, begun c.args.out.now c.start.ensures)
 
 pub put-count-requires-clause-w_bound : goal.put-count-requires-clause-w_bound
-put-count-requires-clause-w_bound c = omega (arith, c.put_header-header.ensures.most, begun c.args.out.now c.start-start.ensures)
+put-count-requires-clause-w_bound c = omega (arith, c.put_header-header.ensures.most, begun c.args.out.now c.start.ensures)
 
 pub put_object_element-object-requires-clause-objects_bound : goal.put_object_element-object-requires-clause-objects_bound
 put_object_element-object-requires-clause-objects_bound c =
-    omega (arith, c.put-count.ensures.most, c.put_header-header.ensures.most, begun c.args.out.now c.start-start.ensures)
+    omega (arith, c.put-count.ensures.most, c.put_header-header.ensures.most, begun c.args.out.now c.start.ensures)
 
 pub put_object_element-object-requires-clause-inside : goal.put_object_element-object-requires-clause-inside
 unfolding object_element_bits
@@ -36,7 +37,7 @@ put_extended_element-extended-requires-clause-count_bound c =
       c.put_object_element-object.ensures.most,
       c.put-count.ensures.most,
       c.put_header-header.ensures.most,
-      begun c.args.out.now c.start-start.ensures,
+      begun c.args.out.now c.start.ensures,
       c.requires.measured.few,
     )
 
@@ -48,7 +49,7 @@ put_trim_element-requires-clause-objects_bound c =
       c.put_object_element-object.ensures.most,
       c.put-count.ensures.most,
       c.put_header-header.ensures.most,
-      begun c.args.out.now c.start-start.ensures,
+      begun c.args.out.now c.start.ensures,
       c.requires.measured.few,
     )
 
@@ -58,9 +59,12 @@ returns c =
     let a = c.args in
     let records = a.records.now in
     let m = c.requires.measured in
-    let n = ap (λ (k : ℕ). only c.either-some.result (element_bits 5 (extended_element_bits (records_at records k 0)))) m.count in
+    let one : c.from-one.result ≡ as_flag (ltb 0 a.timing.blocks) = search rules in
+    let two : c.from-two.result ≡ as_flag c.some-some.result = search rules in
+    let three : c.from-three.result ≡ as_flag (eqb (get_or a.trim.now 0 0) 1) = search rules in
+    let n = ap (λ (k : ℕ). only c.some-some.result (element_bits 5 (extended_element_bits (records_at records k 0)))) m.count in
     laid-within (omega (arith, m.few))
-    (form-laid (tables_of a.programme a.timing records a.trim.now) _ _ (extended_there m.needed c.either-some.ensures)
-    (trim_there a.programme.objects a.trim.now) c.start-start.ensures c.as_flag-one.ensures c.as_flag-two.ensures c.as_flag-three.ensures
+    (form-laid (tables_of a.programme a.timing records a.trim.now) _ _ (extended_there m.needed c.some-some.ensures)
+    (trim_there a.programme.objects a.trim.now) c.start.ensures one two three
     c.put_header-header.ensures c.put-count.ensures c.put_object_element-object.ensures
     (laid_is n c.put_extended_element-extended.ensures) c.put_trim_element.ensures)

@@ -7,4 +7,4 @@ use Rattle.writer.proofs.timing.put_timing.Goals as goal
 pub returns : goal.returns
 returns c =
     laid_is (timing-parts c.args.timing (c.raw-first.ensures ∙ c.sample_offset.ensures))
-    (laid-bind (packed-laid c.lead-lead.ensures c.put_packed-next.ensures) c.put_updates.ensures)
+    (laid-bind (packed-laid c.lead.ensures c.put_packed-next.ensures) c.put_updates.ensures)

@@ -1,11 +1,23 @@
 use Rattle.std.proofs.Common.{arith, rules}
-use Rattle.laying.proofs.Laws.{rest_step, rest_end}
-use Rattle.writer.proofs.Entries.{each_more, each_none}
+use Rattle.oamd.specs.Timing.{no_update}
+use Rattle.form.specs.Coded.{coded_update}
+use Rattle.form.specs.Form.{update_bits}
+use Rattle.laying.proofs.Laws.{laid_is, laid-within}
+use Rattle.writer.specs.Most.{most_update}
+use Rattle.writer.proofs.Entries.{entry_bits, entries_bits}
+use Rattle.writer.proofs.Widths.{at_most}
 use Rattle.writer.proofs.timing.put_updates.Goals as goal
 
-pub loop-i-preserved : goal.loop-i-preserved
-loop-i-preserved c =
-    (rest_step (omega arith) (each_more _ _ _ c.loop-i.i _ (search rules) (omega (arith, c.requires.n_le_most_blocks, c.well_formed))) c.loop-i.invariant.0 c.put_update-next.ensures, search rules)
+pub put_each-requires-clause-parts : goal.put_each-requires-clause-parts
+put_each-requires-clause-parts c = record {
+  most = most_update;
+  bits = entry_bits (λ i u. update_bits (coded_update u)) c.args.updates no_update;
+  parts = record { each = λ i r h e. at_most {i = 1} (search rules) };
+  widest = omega arith;
+  room = omega arith;
+}
 
 pub returns : goal.returns
-returns c = rest_end (omega arith) (each_none _ _ _ _ (omega arith)) c.loop-i.invariant.0
+returns c =
+    laid_is (entries_bits (λ i u. update_bits (coded_update u)) c.args.updates no_update c.args.n (search rules))
+    (laid-within (omega arith) (c.put_each.ensures most_update (entry_bits (λ i u. update_bits (coded_update u)) c.args.updates no_update) (record { each = λ i r h e. at_most {i = 1} (search rules) })))

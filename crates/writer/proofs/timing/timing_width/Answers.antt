@@ -6,4 +6,4 @@ use Rattle.writer.proofs.timing.timing_width.Goals as goal
 pub returns : goal.returns
 returns c =
     wide_is (timing-parts c.args.timing (c.raw-first.ensures ∙ c.sample_offset.ensures))
-    (wide-bind (packed-wide c.lead.ensures) c.updates_width-list.ensures (omega arith) c.plus.ensures)
+    (wide-bind (packed-wide c.lead.ensures) c.updates_width.ensures (omega arith) c.plus.ensures)

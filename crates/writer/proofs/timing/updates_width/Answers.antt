@@ -1,12 +1,14 @@
 use Rattle.std.proofs.Common.{arith, rules}
-use Rattle.writer.proofs.Entries.{each_more, each_none}
-use Rattle.writer.proofs.Widths.{counted_step, packed-wide, counted_end}
+use Rattle.oamd.specs.Timing.{no_update}
+use Rattle.form.specs.Coded.{coded_update}
+use Rattle.form.specs.Form.{update_bits}
+use Rattle.writer.specs.Most.{most_update}
+use Rattle.writer.proofs.Entries.{entry_bits, entries_bits}
+use Rattle.writer.proofs.Widths.{at_most, wide_is, wide-within}
 use Rattle.writer.proofs.timing.updates_width.Goals as goal
 
-pub loop-i-preserved : goal.loop-i-preserved
-loop-i-preserved c =
-    let h = c.loop-i in
-    (counted_step (omega arith) (omega arith) (each_more _ _ _ h.i _ (search rules) (search rules)) h.invariant.0 (packed-wide c.update.ensures) c.plus-total.ensures, search rules)
-
 pub returns : goal.returns
-returns c = let h = c.loop-i in counted_end (omega arith) (each_none _ _ _ h.i (omega arith)) h.invariant.0
+returns c =
+    wide_is (entries_bits (λ i u. update_bits (coded_update u)) c.args.updates no_update c.args.n (search rules))
+    (wide-within (omega arith)
+    (c.each_width.ensures most_update (entry_bits (λ i u. update_bits (coded_update u)) c.args.updates no_update) (record { each = λ i r h e. at_most {i = 1} (search rules) }) (omega arith)))

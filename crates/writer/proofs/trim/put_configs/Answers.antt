@@ -1,16 +1,16 @@
-use Rattle.std.proofs.Common.{ap, arith, rules}
-use Rattle.oamd.specs.Tables.{trim_configs}
-use Rattle.form.specs.Form.{config_bits}
-use Rattle.laying.proofs.Laws.{laid_is, rest_step, rest_end}
-use Rattle.writer.proofs.Trims.{configs_more, configs_none}
+use Rattle.std.proofs.Common.{arith, rules}
+use Rattle.writer.specs.Most.{most_config}
+use Rattle.writer.proofs.Entries.{pick_le, packable}
+use Rattle.writer.proofs.Trims.{numbered-configs, packs-configs, configs-laid}
+use Rattle.writer.proofs.Widths.{at_most}
 use Rattle.writer.proofs.trim.put_configs.Goals as goal
 
-pub loop-i-preserved : goal.loop-i-preserved
-loop-i-preserved c =
-    let h = c.loop-i in
-    let there = c.config_at-config.ensures in
-    let here = laid_is (ap config_bits (there.there (omega arith))) c.put_config-next.ensures in
-    (rest_step (omega arith) (configs_more _ _ trim_configs h.i _ (search rules)) h.invariant.0 here, search rules, search rules)
+pub put_each-requires-clause-parts : goal.put_each-requires-clause-parts
+put_each-requires-clause-parts c =
+    let few = pick_le c.args.sent c.pick-n.ensures in
+    packable few (packs-configs c.args.trim.now few (λ i r h e. at_most {i = 1} (search rules))) (omega arith) (omega arith)
 
 pub returns : goal.returns
-returns c = rest_end (omega arith) (configs_none _ _ _ _ _ (omega arith)) c.loop-i.invariant.0
+returns c =
+    let n = c.pick-n.ensures in
+    configs-laid c.args.trim.now c.args.sent n (c.put_each.ensures most_config (numbered-configs c.args.trim.now) (packs-configs c.args.trim.now (pick_le c.args.sent n) (λ i r h e. at_most {i = 1} (search rules))))

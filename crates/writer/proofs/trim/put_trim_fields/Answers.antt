@@ -9,4 +9,4 @@ unfolding trim_element_bits trim_at
 returns c =
     laid-within (omega arith)
     (laid-bind c.put-next.ensures (laid-bind c.put-next-2.ensures (laid-bind c.put-next-3.ensures
-    (laid-bind c.put_configs_if-next.ensures (laid-bind c.put-next-4.ensures c.put_flags_if.ensures)))))
+    (laid-bind c.put_configs-next.ensures (laid-bind c.put-next-4.ensures c.put_flags.ensures)))))

@@ -7,7 +7,7 @@ use Rattle.writer.proofs.trim.trim_width.Goals as goal
 pub returns : goal.returns
 unfolding trim_element_bits trim_at
 returns c =
-    let flags = c.flags_width_if-flags.ensures in
-    let configs = c.configs_width_if-configs.ensures in
+    let flags = c.flags_width-flags.ensures in
+    let configs = c.configs_width-configs.ensures in
     wide-count (omega (arith, configs.most, flags.most, c.ranges.objects))
     (wide-behind (wide-field 2 _) (wide-behind (wide-field 2 _) (wide-behind (wide-field 2 _) (wide-behind configs (wide-behind (wide-field 1 _) flags)))))

@@ -1,7 +1,0 @@
-use Rattle.form.specs.Coded.{ramp_code}
-use Rattle.coding.proofs.choices.ramp_code.Goals as goal
-
-pub returns : goal.returns
-unfolding ramp_code
-returns c =
-    rw (c.choice.ensures, c.choice-more.ensures, c.choice-long.ensures)

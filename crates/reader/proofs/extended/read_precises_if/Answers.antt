@@ -1,6 +1,0 @@
-use Rattle.reader.proofs.Pass.{passed}
-use Rattle.reader.proofs.extended.read_precises_if.Goals as goal
-
-pub returns-else-on : goal.returns-else-on
-returns-else-on c =
-    passed _ _ c.if-on.false

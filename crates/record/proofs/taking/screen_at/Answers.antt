@@ -1,8 +1,0 @@
-use Rattle.std.proofs.Common.{rules}
-use Rattle.record.specs.Bytes.{scene_at}
-use Rattle.record.proofs.taking.screen_at.Goals as goal
-
-pub returns : goal.returns
-unfolding scene_at
-returns c =
-    search rules
