@@ -10,9 +10,9 @@ mod leaf; // leaf.rt: a field of any width up to 24
 mod sight; // sight.rt: eight bytes looked at once
 mod cursor; // cursor.rt: fields that may be absent, runs, refusals, declared ends
 mod sizes; // sizes.rt: an element's size
-mod choices; // choices.rt: a flag of an array of flags, a choice
+mod choices; // choices.rt: a flag of an array of flags, tests joined, a choice, a difference
 
-pub use choices::{flag, pick};
+pub use choices::{as_flag, both, choice, chosen, either, flag, less, minus, pick};
 pub use cursor::{close, inner_of, open, refuse_if, skip_if, take_if, take_unless, with_value};
 pub use leaf::{take, word};
 pub use sight::{look, look_if, window};
@@ -82,6 +82,13 @@ impl Refusal {
     pub fn number(self) -> u8
         ensures { (result ≡ number_of self) × (0 < result) }
     {
-        self as u8
+        number(self)
     }
+}
+
+// A refusal's number.
+pub fn number(r: Refusal) -> u8
+    ensures { (result ≡ number_of r) × (0 < result) }
+{
+    r as u8
 }

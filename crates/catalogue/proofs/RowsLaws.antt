@@ -1,6 +1,7 @@
 -- The entries of an update: the tables of the code, and rows and updates field by field and object by object. Assumes nothing.
-use Rattle.std.specs.Prelude.{◌≡◌, Bool, true, false, List, [], ◌∷◌, map, ℕ, suc, ◌+◌, ◌-◌, ◌≤◌, ◌<◌, leb, eqb, get_or, Some, None}
-use Rattle.std.proofs.Common.{Bor, refl, sym, ap, ◌∙◌, arith, add-one, leb-true}
+use Rattle.std.specs.Prelude.{◌≡◌, Bool, true, false, List, [], ◌∷◌, map, ℕ, suc, ◌+◌, ◌-◌, ◌≤◌, ◌<◌, leb, eqb, get_or, Some, None, Option as Choice}
+use Rattle.std.proofs.Common.{Bor, refl, sym, ap, ◌∙◌, arith, add-one, leb-true, length, eq-eqb, ne_eqb}
+use native.Mathlib.Nat.{sub-zero}
 use Rattle.std.proofs.Math.Option.{none, some}
 use lib.ListN.{get_or-map}
 use Rattle.bits.specs.Language.{pick}
@@ -9,8 +10,8 @@ use Rattle.oamd.specs.Tables.{record_bytes}
 use Rattle.catalogue.specs.declared.Reader.{Reader}
 use Rattle.catalogue.specs.Fields.{Field, field, fields, field_of}
 use Rattle.catalogue.specs.Scan.{S, ◌>>=◌, after, run, got, bad, and_then}
-use Rattle.catalogue.specs.Back.{field_back, fields_back}
-use Rattle.catalogue.specs.Parts.{Behind, runs}
+use Rattle.catalogue.specs.Back.{field_back, fields_back, no_object, entries_back}
+use Rattle.catalogue.specs.Parts.{Behind, runs, next_of}
 
 -- ---- the tables
 
@@ -97,3 +98,62 @@ module _ (full : Bool) (at k : ℕ) (h : k < record_bytes) (r : Reader) (rows : 
 pub row_end : (full : Bool) (at k : ℕ) → record_bytes ≤ k → (r : Reader) (rows : List ℕ) → got rows r.line r.rest.now ≡ runs r (fields_back full k at (record_bytes - k) rows)
 unfolding fields_back run
 row_end full at k h r rows = let none : record_bytes - k ≡ 0 = omega arith in rw none refl
+
+-- before field k: what is left of the row gives what the whole row gives
+pub record RowLeft (full : Bool) (at : ℕ) (r d : Reader) (rows₀ rows : List ℕ) (k : ℕ) : Type 0 where
+  pub within : k ≤ record_bytes
+  pub kept : length rows ≡ length rows₀
+  pub same : runs d (fields_back full k (at + k) (record_bytes - k) rows) ≡ runs r (fields_back full 0 at record_bytes rows₀)
+
+pub row_start : (full : Bool) (at : ℕ) (r : Reader) (rows : List ℕ) → RowLeft full at r r rows rows 0
+row_start full at r rows =
+    let e : at + 0 ≡ at = omega arith in
+    record { within = omega arith; kept = refl; same = rw e }
+
+module _ {full : Bool} {at : ℕ} {r d : Reader} {rows₀ rows : List ℕ} {k : ℕ} (l : RowLeft full at r d rows₀ rows k) where
+  pub row_step : (r' : Reader) (rows' : List ℕ) → k < record_bytes → got rows' r'.line r'.rest.now ≡ runs d (field_back full k (at + k) rows)
+      → length rows' ≡ length rows → RowLeft full at r r' rows₀ rows' (k + 1)
+  row_step r' rows' h e f = record { within = omega arith; kept = f ∙ l.kept; same = row_on full at k h d rows e ∙ l.same }
+
+  pub row_stop : {m : ℕ} → k < record_bytes → bad m ≡ runs d (field_back full k (at + k) rows) → bad m ≡ runs r (fields_back full 0 at record_bytes rows₀)
+  row_stop h e = row_bad full at k h d rows e ∙ l.same
+
+  pub row_whole : record_bytes ≤ k → got rows d.line d.rest.now ≡ runs r (fields_back full 0 at record_bytes rows₀)
+  row_whole h = row_end full (at + k) k h d rows ∙ l.same
+
+-- ---- the objects of an update
+
+-- before object j: what is left of the update gives what the whole of it gives
+pub record EntriesLeft (full : Bool) (objects : ℕ) (r d : Reader) (next₀ next : Choice ℕ) (rows₀ rows : List ℕ) (j : ℕ) : Type 0 where
+  pub within : j ≤ objects
+  pub kept : length rows ≡ length rows₀
+  pub same : runs d (entries_back full j (objects - j) (next_of next) rows) ≡ runs r (entries_back full 0 objects (next_of next₀) rows₀)
+
+pub entries_start : (full : Bool) (objects : ℕ) (r : Reader) (next : Choice ℕ) (rows : List ℕ) → EntriesLeft full objects r r next next rows rows 0
+entries_start full objects r next rows = record { within = omega arith; kept = refl; same = rw (sub-zero objects) }
+
+module _ {full : Bool} {objects : ℕ} {r d : Reader} {next₀ next : Choice ℕ} {rows₀ rows : List ℕ} {j : ℕ} (l : EntriesLeft full objects r d next₀ next rows₀ rows j) where
+  module _ (h : j < objects) where
+    more-left : runs d (entries_back full j (suc (objects - suc j)) (next_of next) rows) ≡ runs r (entries_back full 0 objects (next_of next₀) rows₀)
+    more-left = let one : objects - j ≡ suc (objects - suc j) = omega arith in rw one at l.same
+
+    pub entries_step : (r' : Reader) (next' : Choice ℕ) (rows' : List ℕ)
+        → ((m : ℕ) → runs r' (entries_back full (suc j) m (next_of next') rows') ≡ runs d (entries_back full j (suc m) (next_of next) rows))
+        → length rows' ≡ length rows → EntriesLeft full objects r r' next₀ next' rows₀ rows' (j + 1)
+    entries_step r' next' rows' e f = record { within = omega arith; kept = f ∙ l.kept; same = rw (add-one j) (e (objects - suc j) ∙ more-left) }
+
+    pub entries_stop : {n : ℕ} → ((m : ℕ) → bad n ≡ runs d (entries_back full j (suc m) (next_of next) rows)) → bad n ≡ runs r (entries_back full 0 objects (next_of next₀) rows₀)
+    entries_stop e = e (objects - suc j) ∙ more-left
+
+  module _ (h : objects ≤ j) where
+    -- behind the last object, where no entry is left and where one is
+    behind : runs d (entries_back full j 0 (next_of next) rows) ≡ runs r (entries_back full 0 objects (next_of next₀) rows₀)
+    behind = let none : objects - j ≡ 0 = omega arith in rw none at l.same
+
+    pub entries_end : next_of next ≡ no_object → got rows d.line d.rest.now ≡ runs r (entries_back full 0 objects (next_of next₀) rows₀)
+    unfolding run entries_back
+    entries_end e = rw (eq-eqb (next_of next) no_object e) at behind
+
+    pub entries_over : (next_of next ≡ no_object → ⊥) → bad d.line ≡ runs r (entries_back full 0 objects (next_of next₀) rows₀)
+    unfolding run entries_back
+    entries_over e = rw (ne_eqb (next_of next) no_object e) at behind

@@ -15,12 +15,13 @@ pub fn take_before(before: &[u8]) -> Latest
 {
     let n = before[0].min(MOST_OBJECTS) as usize;
     let end = 1 + RECORD_BYTES * n;
-    let mut bytes = [0u8; ROWS_BYTES];
-    lay_bytes(&mut bytes, 0, &before[1..end]);
-    Latest {
+    // The rows are laid where they stay: an array of their own would be on the stack, too.
+    let mut latest = Latest {
         count: Objects { n },
-        bytes,
-    }
+        bytes: [0u8; ROWS_BYTES],
+    };
+    lay_bytes(&mut latest.bytes, 0, &before[1..end]);
+    latest
 }
 
 // And back, for the next call.

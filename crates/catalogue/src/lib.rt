@@ -89,7 +89,7 @@ pub(crate) struct Shelf<'a> {
 
 // A frame as its lines gave it. The rows of its updates stand apart, one update behind the other.
 #[derive(Clone, Copy)]
-pub(crate) struct Page {
+pub struct Page {
     pub frame: u32,
     pub refusal: u8,
     pub objects: u8,
@@ -98,7 +98,7 @@ pub(crate) struct Page {
 
 // The frames of a text: how many, and the places behind their lines and their records.
 #[derive(Clone, Copy)]
-pub(crate) struct Tally {
+pub struct Tally {
     pub frames: u64,
     pub lines: usize,
     pub records: usize,

@@ -5,13 +5,14 @@ ghost use Rattle.coding.specs.Packing.{PacksIn, opening_bits, fore_bits, aft_bit
 
 use crate::Packed;
 use crate::parts::{basic_if, distance, extent, position, screen, status, zone};
+use bits::less;
 use oamd::Scene;
 
 // Whether it is active, and gain and priority.
 fn opening(first: bool, s: Scene) -> Packed
     ensures { PacksIn 1 17 result (opening_bits first s) }
 {
-    let idle = 1u8.saturating_sub(s.active);
+    let idle = less(1, s.active);
     let p = Packed::nothing().pack(1, idle as u64);
     let p = status(s.active == 1, first, p);
     basic_if(s.active == 1, p, s)

@@ -3,7 +3,7 @@ ghost use Rattle.std.specs.Prelude.{◌≡◌, eqb, ltb};
 ghost use Rattle.bits.specs.Language.{pick, both};
 ghost use Rattle.form.specs.Coded.{coded_offset, ramp_code, z_sign, z_bits};
 
-use bits::pick;
+use bits::{as_flag, less, pick};
 use oamd::Offset;
 
 // z = 0, as a record has it.
@@ -54,14 +54,14 @@ pub fn ramp_bits(code: u8, ramp: u16) -> u16
 pub fn z_sign(z: u8) -> u8
     ensures { result ≡ z_sign z }
 {
-    u8::from(ZERO_Z < z)
+    as_flag(ZERO_Z < z)
 }
 
 #[tactic(auto, unfolding(form::specs::Coded::z_bits))]
 pub fn z_bits(z: u8) -> u8
     ensures { result ≡ z_bits z }
 {
-    let up = z.saturating_sub(ZERO_Z);
-    let down = ZERO_Z.saturating_sub(z);
+    let up = less(z, ZERO_Z);
+    let down = less(ZERO_Z, z);
     pick(ZERO_Z < z, up, down)
 }

@@ -3,6 +3,7 @@ ghost use Rattle.form.specs.Form.{divergence_bits, precise_bits};
 ghost use Rattle.coding.specs.Packing.{PacksIn, Room, Behind, axes_bits};
 
 use crate::Packed;
+use bits::as_flag;
 use oamd::{Divergence, Precise};
 
 pub fn divergence(sent: bool, d: Divergence) -> Packed
@@ -30,7 +31,7 @@ fn axes(p: Packed, precise: Precise) -> Packed
 pub fn precise(sent: bool, d: Precise) -> Packed
     ensures { PacksIn 0 10 result (precise_bits sent d) }
 {
-    let some = u8::from(0 < d.presence);
+    let some = as_flag(0 < d.presence);
     let p = Packed::nothing()
         .pack_if(sent, 1, some as u64)
         .pack_if(0 < d.presence, 3, d.presence as u64);

@@ -5,6 +5,7 @@ ghost use Rattle.form.specs.Form.{group_bits, size_bits};
 ghost use Rattle.coding.specs.Packing.{PacksIn, Room, Behind};
 
 use crate::Packed;
+use bits::minus;
 
 fn group(p: Packed, digit: u32, more: u32) -> Packed
     requires { Room 5 p }
@@ -25,9 +26,9 @@ fn groups(p: Packed, v: u32) -> Packed
     requires { Room 20 p }
     ensures { Behind 5 20 p result (size_bits v) }
 {
-    let a = (v / 16).saturating_sub(1);
-    let b = (a / 16).saturating_sub(1);
-    let c = (b / 16).saturating_sub(1);
+    let a = minus(v / 16, 1);
+    let b = minus(a / 16, 1);
+    let c = minus(b / 16, 1);
     let p = group_if(4368 <= v, p, c);
     let p = group_if(272 <= v, p, b % 16);
     let p = group_if(16 <= v, p, a % 16);

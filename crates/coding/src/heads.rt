@@ -5,7 +5,7 @@ ghost use Rattle.form.specs.Form.{count_bits, bed_bits};
 ghost use Rattle.coding.specs.Packing.{PacksIn, Room, Behind, content_bits, bed_field_bits, head_bits, tail_bits};
 
 use crate::Packed;
-use bits::pick;
+use bits::{choice, less};
 use oamd::{Bed, Programme};
 
 // A count in 5 bits, and what it has above 31 in 7 more.
@@ -13,8 +13,8 @@ fn count(p: Packed, n: u8) -> Packed
     requires { Room 12 p }
     ensures { Behind 5 12 p result (count_bits n) }
 {
-    let low = pick(n < 31, n, 31);
-    let more = n.saturating_sub(31);
+    let low = choice(n < 31, n, 31);
+    let more = less(n, 31);
     p.pack(5, low as u64).pack_if(!(n < 31), 7, more as u64)
 }
 
@@ -50,7 +50,7 @@ fn bed_fields(p: Packed, programme: Programme) -> Packed
 pub fn head(programme: Programme) -> Packed
     ensures { PacksIn 1 25 result (head_bits programme) }
 {
-    let more = programme.objects.saturating_sub(1);
+    let more = less(programme.objects, 1);
     let p = count(Packed::nothing().pack(2, 0), more);
     bed_fields(content(p, programme), programme)
 }

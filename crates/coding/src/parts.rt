@@ -7,7 +7,7 @@ ghost use Rattle.coding.specs.Packing.{Room, Whole, Behind};
 
 use crate::Packed;
 use crate::choices::{z_bits, z_sign};
-use bits::pick;
+use bits::{less, pick};
 use oamd::{Location, Scene, Screen, Volume, Zone};
 
 // 0 dB, as a record has it.
@@ -36,7 +36,7 @@ fn gain(p: Packed, v: u8) -> Packed
     ensures { Behind 2 8 p result (gain_bits (coded_gain v)) }
 {
     let most = pick(ZERO_DB < v, ZERO_DB + 15, ZERO_DB + 14);
-    let below = most.saturating_sub(v);
+    let below = less(most, v);
     let width = pick(v == 0, 2, 8);
     let value = pick(v == 0, 1, 128 + below % 64);
     either(v == ZERO_DB, p, 2, 0, width, value as u64)
@@ -75,7 +75,7 @@ pub fn distance(p: Packed, v: u8) -> Packed
     requires { Room 6 p }
     ensures { Behind 1 6 p result (distance_bits (coded_distance v)) }
 {
-    let index = v.saturating_sub(2);
+    let index = less(v, 2);
     let width = pick(v == 1, 2, 6);
     let value = pick(v == 1, 3, 32 + index % 16);
     either(0 < v, p, width, value as u64, 1, 0)

@@ -7,6 +7,7 @@ ghost use Rattle.coding.specs.Packing.{PacksIn, Room, Behind, ramp_bits};
 
 use crate::Packed;
 use crate::choices::{coded_offset, ramp_bits, ramp_code, ramp_index, ramp_indexed};
+use bits::less;
 use oamd::Update;
 
 // The sample offset of all blocks, and how many there are behind the first.
@@ -14,7 +15,7 @@ pub fn lead(first: u8, blocks: u8) -> Packed
     ensures { PacksIn 1 12 result (offset_bits (coded_offset first) ++ to_bits 3 (blocks - 1)) }
 {
     let offset = coded_offset(first);
-    let more = blocks.saturating_sub(1);
+    let more = less(blocks, 1);
     Packed::nothing()
         .pack(2, offset.code as u64)
         .pack_if(offset.code == 1, 2, offset.index as u64)

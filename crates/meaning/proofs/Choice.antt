@@ -2,7 +2,8 @@
 -- Assumes nothing.
 use mathlib.Core.Path.{◌≡◌}
 use mathlib.Core.Bool.{Bool, true, false}
-use Prim.Native.Nat.{ℕ, ◌≤◌}
+use Prim.Native.Nat.{ℕ, ◌-◌, ◌<◌, ◌≤◌}
+use native.Mathlib.Omega.{arith}
 use borrow.Author.Tests.{eq-eqb, ne_eqb, lt-ltb, le-ltb}
 use borrow.Author.Rules.{rules}
 use Rattle.bits.specs.Language.{pick}
@@ -20,4 +21,8 @@ pub within : (t : Bool) {a b n : ℕ} → a ≤ n → b ≤ n → pick t a b ≤
 within true p q = p
 within false p q = q
 
-pub ruleset tests = (eq-eqb, ne_eqb, lt-ltb, le-ltb, rules)
+-- a difference that the code gives as 0
+pub none_left : (a b : ℕ) → a < b → a - b ≡ 0
+none_left a b h = omega arith
+
+pub ruleset tests = (eq-eqb, ne_eqb, lt-ltb, le-ltb, none_left, rules)

@@ -2,7 +2,7 @@
 ghost use Rattle.std.specs.Prelude.{◌≡◌};
 ghost use Rattle.oamd.specs.Meaning.{gain_of, priority_of, moved_by, across, upright, height_of, distance_of, location_of, volume_of};
 
-use bits::pick;
+use bits::{less, pick};
 use oamd::{Distance, Extent, Gain, Location, Position, Priority, Volume};
 
 // 0 dB, as a record has it.
@@ -15,7 +15,7 @@ const ZERO_Z: u32 = 64;
 pub fn gain_of(g: Gain, gainbefore: u8) -> u8
     ensures { result ≡ gain_of g gainbefore }
 {
-    let fine = pick(g.bits < 15, ZERO_DB + 15, ZERO_DB + 14).saturating_sub(g.bits);
+    let fine = less(pick(g.bits < 15, ZERO_DB + 15, ZERO_DB + 14), g.bits);
     let sent = pick(g.index == 2, fine, gainbefore);
     pick(g.index == 0, ZERO_DB, pick(g.index == 1, 0, sent))
 }

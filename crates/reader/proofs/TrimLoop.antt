@@ -39,6 +39,18 @@ pub length_none : length no_trim_bytes ≡ most_trim
 unfolding no_trim_bytes
 length_none = length-replicate {A = ℕ} most_trim 0
 
+-- a list that is not carried
+pub absent : {X : Type 0} (bytes : List X → List ℕ) (value : List X) (n from : ℕ) {b : Bits} {c : Cur} {l : Limit} {out : List ℕ} → bytes value ≡ replicate n 0
+    → from + n ≤ most_trim → length out ≡ most_trim → PartRead (give value) bytes n from b c l out c out
+unfolding no_trim_bytes
+absent bytes value n from e f h = record {
+  value = value;
+  reads = plain;
+  long = ap length e ∙ length-replicate n 0;
+  size = h;
+  stand = λ front m s. s ∙ sym (ap (λ (t : List ℕ). onto (front ++ t) no_trim_bytes) e ∙ zeros-stay front n most_trim (omega arith));
+}
+
 -- a list that is sent where a field is this number, and else nothing of it
 module _ {X : Type 0} (p : P (List X)) {bytes : List X → List ℕ} (value : List X) {n from v : ℕ} {b : Bits} {c : Cur} {l : Limit} {out : List ℕ} (k : ℕ) where
   pub sent : {d : Cur} {out' : List ℕ} → v ≡ k → PartRead p bytes n from b c l out d out' → PartRead (when (eqb v k) p value) bytes n from b c l out d out'
@@ -46,14 +58,7 @@ module _ {X : Type 0} (p : P (List X)) {bytes : List X → List ℕ} (value : Li
 
   pub unsent : (v ≡ k → ⊥) → bytes value ≡ replicate n 0 → from + n ≤ most_trim → length out ≡ most_trim
       → PartRead (when (eqb v k) p value) bytes n from b c l out c out
-  unfolding no_trim_bytes
-  unsent z e f h = rw (ne_eqb v k z) (record {
-    value = value;
-    reads = plain;
-    long = ap length e ∙ length-replicate n 0;
-    size = h;
-    stand = λ front m s. s ∙ sym (ap (λ (t : List ℕ). onto (front ++ t) no_trim_bytes) e ∙ zeros-stay front n most_trim (omega arith));
-  })
+  unsent z e f h = rw (ne_eqb v k z) (absent bytes value n from e f h)
 
 -- ---- the loop over a list's entries, each of which takes so many bytes
 

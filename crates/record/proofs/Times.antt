@@ -40,6 +40,22 @@ same_number (suc n) s at v small few =
     rw (← add-one at) (same_number n s (at + 1) (v / 256) small.1 (omega arith)) in
     digit (get_or s at 0) (least_at n s (suc at)) v small.0 ∙ ap (both (eqb (get_or s at 0) (v % 256))) rest
 
+-- four bytes make a number
+pub four : {s : List ℕ} {at a b c d : ℕ} → (a ≡ get_or s at 0) × (a < 256) → (b ≡ get_or s (at + 1) 0) × (b < 256) → (c ≡ get_or s (at + 2) 0) × (c < 256)
+    → (d ≡ get_or s (at + 3) 0) × (d < 256) → Number 4 s at (a + 256 * (b + 256 * (c + 256 * d)))
+unfolding least_at bytes_at
+four {s} {at} {a} {b} {c} {d} one two three last =
+    let e : at + 1 + 1 ≡ at + 2 = omega arith in
+    let f : at + 2 + 1 ≡ at + 3 = omega arith in
+    let g : suc at ≡ at + 1 = omega arith in
+    let h : suc (at + 1) ≡ at + 2 = omega arith in
+    let i : suc (at + 2) ≡ at + 3 = omega arith in
+    record {
+      is = rw (g, h, i, one.0, two.0, three.0, last.0) (omega arith);
+      below = omega (arith, one.1, two.1, three.1, last.1);
+      bytes = rw (e, f, ← one.0, ← two.0, ← three.0, ← last.0) (one.1, (two.1, (three.1, (last.1, tt))));
+    }
+
 -- eight bytes make a number
 pub eight : {s : List ℕ} {at r : ℕ} → ((i : ℕ) → get_or s i 0 < 256) → r ≡ get_or s at 0 + get_or s (at + 1) 0 * 256 + get_or s (at + 2) 0 * 65536
     + get_or s (at + 3) 0 * 16777216 + get_or s (at + 4) 0 * 4294967296 + get_or s (at + 5) 0 * 1099511627776 + get_or s (at + 6) 0 * 281474976710656

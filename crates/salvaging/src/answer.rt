@@ -36,15 +36,14 @@ pub fn refused(refusal: u8, place: u64, missing: u32) -> SalvageAnswer
     }
 }
 
-impl From<Gone> for Drop {
-    fn from(g: Gone) -> Drop
-        ensures { result ≡ drop_of g }
-    {
-        Drop {
-            place: g.place,
-            id: g.id,
-            refusal: g.refusal,
-        }
+// What is told of an element that goes.
+fn drop_of(g: Gone) -> Drop
+    ensures { result ≡ drop_of g }
+{
+    Drop {
+        place: g.place,
+        id: g.id,
+        refusal: g.refusal,
     }
 }
 
@@ -56,7 +55,7 @@ fn report(found: Sifted) -> [Drop; MOST_ELEMENTS]
     let gone = found.gone;
     let mut dropped = no_drops();
     for i in 0..found.drops {
-        dropped[i] = Drop::from(gone[i]);
+        dropped[i] = drop_of(gone[i]);
     }
     dropped
 }

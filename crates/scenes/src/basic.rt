@@ -32,14 +32,14 @@ fn mixed_levels(x: u64, o: u32, before: Scene, gainbefore: u8) -> Sighted<Levels
     let gained = oamd::has_gain(parts.value);
     let ranked = oamd::has_priority(parts.value);
     let g = syntax::look_gain(x, parts.off);
-    let priority_off = bits::pick(gained, g.off, parts.off);
+    let priority_off = bits::chosen(gained, g.off, parts.off);
     let p = syntax::look_priority(x, priority_off);
     Sighted {
         value: Levels {
             gain: bits::pick(gained, meaning::gain_of(g.value, gainbefore), before.gain),
-            priority: bits::pick(ranked, meaning::priority_of(p.value), before.priority),
+            priority: bits::choice(ranked, meaning::priority_of(p.value), before.priority),
         },
-        off: bits::pick(ranked, p.off, priority_off),
+        off: bits::chosen(ranked, p.off, priority_off),
     }
 }
 

@@ -8,7 +8,7 @@ ghost use Rattle.sources.specs.Asked.{payload_in, Asked, Recorded, link_of, step
 
 use crate::telling::index_of;
 use crate::{Known, Link, MOST_STEPS, Source, Told, WhyAnswer, WhyStep};
-use bits::Refusal;
+use bits::{Refusal, minus};
 use oamd::RECORD_STRIDE;
 
 const NO_STEP: WhyStep = WhyStep {
@@ -49,12 +49,12 @@ impl Link {
         let left = self.left.checked_sub(1)?;
         match source {
             Source::ByBlock | Source::ByMove(..) => Some(Link {
-                block: self.block.saturating_sub(1),
+                block: minus(self.block, 1),
                 left,
                 ..self
             }),
             Source::ByObject => Some(Link {
-                object: self.object.saturating_sub(1),
+                object: minus(self.object, 1),
                 left,
                 ..self
             }),

@@ -1,5 +1,5 @@
 -- The public functions of bits.
-use Rattle.std.specs.Prelude.{◌≡◌, refl, Bool, true, ℕ, ◌-◌, ◌*◌, ◌/◌, ◌^◌}
+use Rattle.std.specs.Prelude.{◌≡◌, refl, ℕ, ◌*◌, ◌/◌, ◌^◌}
 use Rattle.std.proofs.Common.{sym, ap, ◌∙◌}
 use Rattle.std.specs.Coded.{coded_ℕ}
 use Rattle.std.specs.declared.clone.Clone as Clone
@@ -22,13 +22,21 @@ use Rattle.bits.specs.contracts.with_value as with_value
 use Rattle.bits.specs.contracts.word as word
 use Rattle.bits.specs.declared.Cur.{Cur}
 use Rattle.bits.specs.declared.Refusal.{Refusal}
-use Rattle.bits.specs.Language.{bit, bits, both, pick as picked, as_flag, between, bits_if, bits_unless, skip, when, refuse_if}
+use Rattle.bits.specs.Language.{bit, bits, between, bits_if, bits_unless, skip, when, refuse_if}
 use Rattle.bits.specs.Refusals.{number_of}
 use Rattle.bits.specs.Size.{variable_bits_max}
 use Rattle.bits.specs.Unique.{one-reads, one-gave}
 use Rattle.bits.specs.View.{word_at, wide_at, Reads, Gave, valued}
+use Rattle.bits.specs.contracts.as_flag as as-flag
+use Rattle.bits.specs.contracts.both as both
+use Rattle.bits.specs.contracts.choice as choice
+use Rattle.bits.specs.contracts.chosen as chosen
+use Rattle.bits.specs.contracts.either as either
 use Rattle.bits.specs.contracts.flag as flag
-use Rattle.bits.specs.contracts.Refusal.number as number
+use Rattle.bits.specs.contracts.less as less
+use Rattle.bits.specs.contracts.minus as minus
+use Rattle.bits.specs.contracts.number as number
+use Rattle.bits.specs.contracts.Refusal.number as refusal-number
 use Rattle.bits.specs.contracts.pick as pick
 use Rattle.unique.specs.OneAnswer.{OneAnswer, by_relation, by_equation, said, result-set, ◌beside◌}
 use Rattle.unique.specs.Readings.{holding, giving, TookBy, took-once, GaveBy, gave-once, reading-set}
@@ -114,34 +122,31 @@ OnePick = (T : RattleType) (g : Clone.Ghosts T.Denot) (d : Dict)
 pub one-pick : OnePick
 one-pick T g d = by_equation (result-set (pick.ended T g d)) (λ w. refl) _ (λ w κs a r z p. said (λ h. h) p.holds)
 
-pub one-choice : OnePick
-one-choice = one-pick
+pub one-choice : OneAnswer choice.ended (λ M 𝓤 𝓛. choice.clauses 𝓛) (λ M 𝓤 𝓛. choice.spec 𝓛) (λ κs a. a) (λ κs a r z. r)
+one-choice = by_equation (result-set choice.ended) (λ w. refl) _ (λ w κs a r z p. said (λ h. h) p.holds)
 
-pub one-chosen : OnePick
-one-chosen = one-pick
+pub one-chosen : OneAnswer chosen.ended (λ M 𝓤 𝓛. chosen.clauses 𝓛) (λ M 𝓤 𝓛. chosen.spec 𝓛) (λ κs a. a) (λ κs a r z. r)
+one-chosen = by_equation (result-set chosen.ended) (λ w. refl) _ (λ w κs a r z p. said (λ h. h) p.holds)
 
-pub one-refusal-number : OneAnswer number.ended (λ M 𝓤 𝓛. number.clauses 𝓛) (λ M 𝓤 𝓛. number.spec 𝓛) (λ κs a. a) (λ κs a r z. r)
-one-refusal-number = by_equation (result-set number.ended) (λ w. refl) _ (λ w κs a r z p. said (λ h. h.0) p.holds)
+pub one-as_flag : OneAnswer as-flag.ended (λ M 𝓤 𝓛. as-flag.clauses 𝓛) (λ M 𝓤 𝓛. as-flag.spec 𝓛) (λ κs a. a) (λ κs a r z. r)
+one-as_flag = by_equation (result-set as-flag.ended) (λ w. refl) _ (λ w κs a r z p. said (λ h. h) p.holds)
+
+pub one-both : OneAnswer both.ended (λ M 𝓤 𝓛. both.clauses 𝓛) (λ M 𝓤 𝓛. both.spec 𝓛) (λ κs a. a) (λ κs a r z. r)
+one-both =
+    by_equation (result-set both.ended) (λ w. refl) _
+    (λ w κs a r z p. said (λ h. h) p.holds)
+
+pub one-either : OneAnswer either.ended (λ M 𝓤 𝓛. either.clauses 𝓛) (λ M 𝓤 𝓛. either.spec 𝓛) (λ κs a. a) (λ κs a r z. r)
+one-either = by_equation (result-set either.ended) (λ w. refl) _ (λ w κs a r z p. said (λ h. h) p.holds)
+
+pub one-less : OneAnswer less.ended (λ M 𝓤 𝓛. less.clauses 𝓛) (λ M 𝓤 𝓛. less.spec 𝓛) (λ κs a. a) (λ κs a r z. r)
+one-less = by_equation (result-set less.ended) (λ w. refl) _ (λ w κs a r z p. said (λ h. h) p.holds)
+
+pub one-minus : OneAnswer minus.ended (λ M 𝓤 𝓛. minus.clauses 𝓛) (λ M 𝓤 𝓛. minus.spec 𝓛) (λ κs a. a) (λ κs a r z. r)
+one-minus = by_equation (result-set minus.ended) (λ w. refl) _ (λ w κs a r z p. said (λ h. h) p.holds)
+
+pub one-refusal-number : OneAnswer refusal-number.ended (λ M 𝓤 𝓛. refusal-number.clauses 𝓛) (λ M 𝓤 𝓛. refusal-number.spec 𝓛) (λ κs a. a) (λ κs a r z. r)
+one-refusal-number = by_equation (result-set refusal-number.ended) (λ w. refl) _ (λ w κs a r z p. said (λ h. h.0) p.holds)
 
 pub one-number : OneAnswer number.ended (λ M 𝓤 𝓛. number.clauses 𝓛) (λ M 𝓤 𝓛. number.spec 𝓛) (λ κs a. a) (λ κs a r z. r)
-one-number = one-refusal-number
-
--- ---- what the language and its library do in the place of a function: each of their clauses admits one answer
-
-alone : {A : Type 0} {x r r' : A} → r ≡ x → r' ≡ x → r ≡ r'
-alone h h' = h ∙ sym h'
-
-pub one-both : (a b r r' : Bool) → r ≡ both a b → r' ≡ both a b → r ≡ r'
-one-both a b r r' = alone
-
-pub one-either : (a b r r' : Bool) → r ≡ picked a true b → r' ≡ picked a true b → r ≡ r'
-one-either a b r r' = alone
-
-pub one-as_flag : (t : Bool) (r r' : ℕ) → r ≡ as_flag t → r' ≡ as_flag t → r ≡ r'
-one-as_flag t r r' = alone
-
-pub one-less : (a b r r' : ℕ) → r ≡ a - b → r' ≡ a - b → r ≡ r'
-one-less a b r r' = alone
-
-pub one-minus : (a b r r' : ℕ) → r ≡ a - b → r' ≡ a - b → r ≡ r'
-one-minus = one-less
+one-number = by_equation (result-set number.ended) (λ w. refl) _ (λ w κs a r z p. said (λ h. h.0) p.holds)

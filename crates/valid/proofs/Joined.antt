@@ -1,12 +1,13 @@
 -- The parts of a long test make the whole. Assumes nothing.
-use mathlib.Core.Path.{◌≡◌}
-use mathlib.Core.Bool.{not}
+use mathlib.Core.Path.{◌≡◌, ◌∙◌}
+use mathlib.Core.Bool.{Bool, not}
 use mathlib.Core.List.{List}
 use Prim.Native.Nat.{ℕ}
 use lib.Dec.{eqb}
 use lib.ListN.{length, get_or}
+use borrow.Author.Rules.{rules}
 use borrow.Author.Tests.{eq-eqb}
-use Rattle.bits.specs.Language.{pick, between}
+use Rattle.bits.specs.Language.{pick, both, between}
 use Rattle.oamd.specs.declared.Programme.{Programme}
 use Rattle.oamd.specs.Tables.{most_objects, trim_configs, trim_head, per_object_byte, trim_fixed}
 use Rattle.oamd.specs.Programme.{set?, clear?, has_reserved}
@@ -16,6 +17,32 @@ use Rattle.form.specs.Answer.{configs_at, trim_at}
 use Rattle.valid.specs.Parts.{beds_valid, behind_beds_valid, assignment_valid}
 use Rattle.valid.proofs.Entries.{both-assoc}
 use Rattle.valid.proofs.Sent.{configs-length, bytes-length}
+
+-- ---- as code makes them, call by call: `search parts` goes from the test of a definition to what the calls say of its parts
+
+-- two tests together, each by what is said of it
+pub joined : (r a b s t : Bool) → r ≡ both a b → a ≡ s → b ≡ t → r ≡ both s t
+joined r a b s t e f g = rw (e, f, g)
+
+-- a value by its range, of which each part may come out of a call
+pub ranged : (r on on' : Bool) (low low' high high' v v' : ℕ) → r ≡ between_if on low high v → on ≡ on' → low ≡ low' → high ≡ high' → v ≡ v'
+    → r ≡ between_if on' low' high' v'
+ranged r on on' low low' high high' v v' e f g h k = rw (e, f, g, h, k)
+
+-- whether two numbers are the same, either out of a call
+pub same_numbers : (m n a b : ℕ) → m ≡ a → n ≡ b → eqb m n ≡ eqb a b
+same_numbers m n a b e f = rw (e, f)
+
+-- both by way of another
+pub compared : (m n x y a b : ℕ) → m ≡ x → x ≡ a → n ≡ y → y ≡ b → eqb m n ≡ eqb a b
+compared m n x y a b e f g h = same_numbers m n a b (e ∙ f) (g ∙ h)
+
+pub negated : (a b : Bool) → a ≡ b → not a ≡ not b
+negated a b e = rw e
+
+pub ruleset parts = (joined, ranged, same_numbers, compared, rules)
+
+-- ---- of the definitions
 
 pub programme-parts : (p : Programme)
     → programme_valid p

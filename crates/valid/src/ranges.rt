@@ -3,10 +3,12 @@ ghost use Rattle.std.specs.Prelude.{◌≡◌};
 ghost use Rattle.bits.specs.Language.{between};
 ghost use Rattle.form.specs.Valid.{between_if};
 
+use bits::both;
+
 pub fn between(low: u8, high: u8, v: u8) -> bool
     ensures { result ≡ between low high v }
 {
-    (low <= v) & (v <= high)
+    both(low <= v, v <= high)
 }
 
 #[tactic(auto, unfolding(form::specs::Valid::between_if))]
@@ -14,7 +16,7 @@ pub fn wide_between_if(carried: bool, low: u32, high: u32, v: u32) -> bool
     ensures { result ≡ between_if carried low high v }
 {
     if carried {
-        (low <= v) & (v <= high)
+        both(low <= v, v <= high)
     } else {
         v == 0
     }

@@ -7,6 +7,7 @@ ghost use Rattle.form.specs.Valid.{scene_valid, least_divergence, most_divergenc
 ghost use Rattle.valid.specs.Parts.{within4, within_limits, rendered_valid};
 
 use crate::ranges::{between, between_if};
+use bits::less;
 use oamd::{Divergence, Precise, Scene};
 use record::DYNAMIC;
 
@@ -55,10 +56,10 @@ fn over(records: &[u8], at: usize, a: u8, b: u8, c: u8, d: u8) -> u8
     requires { at + 4 ≤ length records.now }
     ensures { eqb result 0 ≡ within4 records.now at a b c d }
 {
-    records[at].saturating_sub(a)
-        | records[at + 1].saturating_sub(b)
-        | records[at + 2].saturating_sub(c)
-        | records[at + 3].saturating_sub(d)
+    less(records[at], a)
+        | less(records[at + 1], b)
+        | less(records[at + 2], c)
+        | less(records[at + 3], d)
 }
 
 // Whether bytes 2 to 17 are at most what they may be where render info is sent. They are 16, one behind the other, joined with no test between: so the machine

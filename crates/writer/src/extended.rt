@@ -11,7 +11,7 @@ ghost use Rattle.writer.specs.Parts.{extra_bits, Stand, Needed, Wide};
 use crate::Groups;
 use crate::each::{each_width, put_each};
 use crate::putting::put;
-use bits::pick;
+use bits::{as_flag, pick};
 use coding::Packed;
 use laying::Pen;
 use oamd::RECORD_STRIDE;
@@ -47,11 +47,11 @@ pub fn put_extended_fields(
     requires needed { Needed (records_at records.now n 0) groups }
     ensures { Laid (most_extended_fields n) out.old out.new pen result (extended_element_bits (records_at records.now n 0)) }
 {
-    let next = put(out, pen, 1, u32::from(groups.diverges));
+    let next = put(out, pen, 1, as_flag(groups.diverges) as u32);
     let next = put_each(out, next, pick(groups.diverges, n, 0), |i| {
         divergence(records, RECORD_STRIDE * i)
     });
-    let next = put(out, next, 1, u32::from(groups.refines));
+    let next = put(out, next, 1, as_flag(groups.refines) as u32);
     put_each(
         out,
         next,

@@ -11,7 +11,7 @@ ghost use Rattle.form.specs.Answer.{tables_of, refused_write, refused_to, fitted
 ghost use Rattle.writer.specs.Parts.{Enough};
 ghost use Rattle.writer.specs.Survey.{Gathered, Judged};
 
-use bits::Refusal;
+use bits::{Refusal, either};
 use oamd::{Programme, Timing, WriteAnswer};
 use units::{BitCount, ByteCount};
 
@@ -40,7 +40,7 @@ impl Groups {
     fn some(self) -> bool
         ensures { result ≡ pick self.diverges true self.refines }
     {
-        self.diverges | self.refines
+        either(self.diverges, self.refines)
     }
 }
 

@@ -15,6 +15,7 @@ use crate::putting::put;
 use crate::sizes::{room_of, size_for};
 use crate::timing::timing_width;
 use crate::{Found, Measures};
+use bits::as_flag;
 use laying::Pen;
 use oamd::{Programme, Timing};
 use units::BitCount;
@@ -82,11 +83,11 @@ fn put_form(
 {
     let some = m.groups.some();
     let there = trim[0] == 1;
-    let one = u32::from(0 < timing.blocks);
-    let two = u32::from(some);
-    let three = u32::from(there);
+    let one = as_flag(0 < timing.blocks);
+    let two = as_flag(some);
+    let three = as_flag(there);
     let header = put_header(out, laying::start(), programme);
-    let count = put(out, header, 4, one + two + three);
+    let count = put(out, header, 4, one as u32 + two as u32 + three as u32);
     let object = put_object_element(
         0 < timing.blocks,
         out,

@@ -3,6 +3,7 @@ ghost use Rattle.std.specs.Prelude.{◌≡◌, ◌+◌, ◌-◌, ◌*◌, ◌≤
 ghost use Rattle.laying.specs.Laying.{most_position};
 ghost use Rattle.writer.specs.Parts.{Sized};
 
+use bits::minus;
 use units::{BitCount, ByteCount};
 
 // The size of an element with n bits inside.
@@ -10,7 +11,7 @@ pub fn size_for(n: BitCount) -> u32
     requires { 1 ≤ n.0 }
     ensures { Sized n.0 result }
 {
-    n.bytes().raw().saturating_sub(1)
+    minus(n.bytes().raw(), 1)
 }
 
 // The bits that an element of size v has inside: its size counts the bytes, less 1.

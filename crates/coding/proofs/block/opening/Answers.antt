@@ -7,5 +7,5 @@ use Rattle.coding.proofs.block.opening.Goals as goal
 pub returns : goal.returns
 unfolding opening_bits
 returns c =
-    let active = behind_is (ap (to_bits 1) c.saturating_sub-idle.ensures) c.pack-p.ensures in
+    let active = behind_is (ap (to_bits 1) c.less-idle.ensures) c.pack-p.ensures in
     c.nothing.ensures ▹ active ▸ c.status-p.ensures ▸ c.basic_if.ensures

@@ -4,5 +4,5 @@ use Rattle.coding.proofs.frame.groups.Goals as goal
 
 pub returns : goal.returns
 returns c =
-    behind_is (size_is c.args.v c.saturating_sub-a.ensures c.saturating_sub-b.ensures c.saturating_sub-c.ensures)
+    behind_is (size_is c.args.v c.minus-a.ensures c.minus-b.ensures c.minus-c.ensures)
     (c.group_if-p.ensures ▸ c.group_if-p-2.ensures ▸ c.group_if-p-3.ensures ▸ c.group.ensures)

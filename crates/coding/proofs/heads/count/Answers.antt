@@ -4,4 +4,4 @@ use Rattle.coding.proofs.heads.count.Goals as goal
 
 pub returns : goal.returns
 returns c =
-    behind_is (count_is c.args.n c.pick-low.ensures c.saturating_sub-more.ensures) (c.pack.ensures ▸ c.pack_if.ensures)
+    behind_is (count_is c.args.n c.choice-low.ensures c.less-more.ensures) (c.pack.ensures ▸ c.pack_if.ensures)

@@ -3,4 +3,4 @@ use Rattle.coding.proofs.parts.distance.Goals as goal
 
 pub returns : goal.returns
 returns c =
-    group-behind (distance_is c.args.v c.saturating_sub-index.ensures c.pick-width.ensures c.pick-value.ensures) c.either.ensures
+    group-behind (distance_is c.args.v c.less-index.ensures c.pick-width.ensures c.pick-value.ensures) c.either.ensures

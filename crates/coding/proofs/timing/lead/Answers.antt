@@ -8,4 +8,4 @@ pub returns : goal.returns
 unfolding offset_bits
 returns c =
     nonempty (packs_is (ap offset_bits c.coded_offset-offset.ensures) (c.nothing.ensures ▹ c.pack.ensures ▸ c.pack_if.ensures ▸ c.pack_if-2.ensures)
-    ▹ behind_is (ap (to_bits 3) c.saturating_sub-more.ensures) c.pack-2.ensures)
+    ▹ behind_is (ap (to_bits 3) c.less-more.ensures) c.pack-2.ensures)

@@ -11,4 +11,4 @@ pub returns : goal.returns
 unfolding gain_of
 returns c =
     let g = c.args.g in
-    rw (c.pick-3.ensures, c.pick-2.ensures, c.pick-sent.ensures, c.saturating_sub-fine.ensures, c.pick.ensures, less-of (ltb g.bits 15) (zero_db + 15) (zero_db + 14) g.bits)
+    rw (c.pick-3.ensures, c.pick-2.ensures, c.pick-sent.ensures, c.less-fine.ensures, c.pick.ensures, less-of (ltb g.bits 15) (zero_db + 15) (zero_db + 14) g.bits)

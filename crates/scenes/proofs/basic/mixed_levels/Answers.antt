@@ -18,8 +18,8 @@ returns c =
     let args = c.args in
     let gain-sent = c.has_gain-gained.ensures in
     let rank-sent = c.has_priority-ranked.ensures in
-    let gain = pair-taken gain-sent (λ u i. bits_if (eqb i 2) 6) c.pick-priority_off.ensures c.look_gain-g.ensures looks-give in
-    let rank = pair-taken rank-sent (λ u d. bits_if (both u (clear? d)) 5) c.pick-3.ensures c.look_priority-p.ensures looks-give in
+    let gain = pair-taken gain-sent (λ u i. bits_if (eqb i 2) 6) c.chosen-priority_off.ensures c.look_gain-g.ensures looks-give in
+    let rank = pair-taken rank-sent (λ u d. bits_if (both u (clear? d)) 5) c.chosen.ensures c.look_priority-p.ensures looks-give in
     record {
       coded = _;
       held = record {
@@ -28,5 +28,5 @@ returns c =
       };
       means = both_found
           (pair-valued gain-sent (λ i b. gain_of (record { index = i; bits = b }) args.gainbefore) _ c.gain_of.ensures c.pick.ensures)
-          (pair-valued rank-sent (λ d b. priority_of (record { bydefault = d; bits = b })) _ c.priority_of.ensures c.pick-2.ensures);
+          (pair-valued rank-sent (λ d b. priority_of (record { bydefault = d; bits = b })) _ c.priority_of.ensures c.choice.ensures);
     }

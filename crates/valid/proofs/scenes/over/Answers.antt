@@ -4,4 +4,4 @@ use Rattle.valid.proofs.scenes.over.Goals as goal
 
 pub returns : goal.returns
 returns c =
-    simp (or-zero, both-assoc) (rw (c.saturating_sub-4.ensures, under, c.saturating_sub-3.ensures, under, c.saturating_sub-2.ensures, under, c.saturating_sub.ensures, under))
+    simp (or-zero, both-assoc) (rw (c.less-4.ensures, under, c.less-3.ensures, under, c.less-2.ensures, under, c.less.ensures, under))

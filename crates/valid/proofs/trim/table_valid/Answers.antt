@@ -1,6 +1,5 @@
-use Rattle.std.proofs.Common.{rules}
-use Rattle.valid.proofs.Joined.{trim-parts}
+use Rattle.valid.proofs.Joined.{parts, trim-parts}
 use Rattle.valid.proofs.trim.table_valid.Goals as goal
 
 pub returns : goal.returns
-returns c = rw (trim-parts _ _) (search rules)
+returns c = rw (trim-parts _ _) (search parts depth 12)

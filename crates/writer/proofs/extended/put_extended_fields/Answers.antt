@@ -1,5 +1,4 @@
-use Rattle.std.proofs.Common.{arith, rules, true, false, ◌*◌, ◌≡◌}
-use Rattle.bits.specs.Language.{as_flag}
+use Rattle.std.proofs.Common.{arith, rules, true, false, ◌*◌}
 use Rattle.bits.specs.Writes.{only}
 use Rattle.laying.specs.Laying.{Laid}
 use Rattle.writer.specs.Most.{most_extra}
@@ -39,9 +38,7 @@ put_each-requires-clause-parts c =
 pub returns : goal.returns
 returns c =
     let a = c.args in
-    let one : c.from.result ≡ as_flag a.groups.diverges = search rules in
-    let two : c.from-2.result ≡ as_flag a.groups.refines = search rules in
     let n = c.pick-2.ensures in
     let positions = extras-laid false a.records.now a.n a.groups.refines n (c.put_each.ensures most_extra (numbered-extras false a.records.now a.n)
     (packs-extras false a.records.now a.n (pick_le a.groups.refines n) (λ i r h e. search rules))) in
-    extended-laid c.requires.needed one two c.put-next.ensures (divergences (goal.at.returns c).After-put_each-next) c.put-next-2.ensures positions
+    extended-laid c.requires.needed c.as_flag.ensures c.as_flag-2.ensures c.put-next.ensures (divergences (goal.at.returns c).After-put_each-next) c.put-next-2.ensures positions

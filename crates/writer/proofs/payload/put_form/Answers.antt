@@ -1,5 +1,4 @@
-use Rattle.std.proofs.Common.{List, ap, arith, rules, ltb, eqb, get_or, ℕ, ◌≡◌, ◌∙◌}
-use Rattle.bits.specs.Language.{as_flag}
+use Rattle.std.proofs.Common.{List, ap, arith, ℕ, ◌≡◌, ◌∙◌}
 use Rattle.bits.specs.Writes.{only}
 use Rattle.form.specs.Form.{object_element_bits, extended_element_bits, element_bits}
 use Rattle.record.specs.Bytes.{records_at}
@@ -59,12 +58,9 @@ returns c =
     let a = c.args in
     let records = a.records.now in
     let m = c.requires.measured in
-    let one : c.from-one.result ≡ as_flag (ltb 0 a.timing.blocks) = search rules in
-    let two : c.from-two.result ≡ as_flag c.some-some.result = search rules in
-    let three : c.from-three.result ≡ as_flag (eqb (get_or a.trim.now 0 0) 1) = search rules in
     let n = ap (λ (k : ℕ). only c.some-some.result (element_bits 5 (extended_element_bits (records_at records k 0)))) m.count in
     laid-within (omega (arith, m.few))
     (form-laid (tables_of a.programme a.timing records a.trim.now) _ _ (extended_there m.needed c.some-some.ensures)
-    (trim_there a.programme.objects a.trim.now) c.start.ensures one two three
+    (trim_there a.programme.objects a.trim.now) c.start.ensures c.as_flag-one.ensures c.as_flag-two.ensures c.as_flag-three.ensures
     c.put_header-header.ensures c.put-count.ensures c.put_object_element-object.ensures
     (laid_is n c.put_extended_element-extended.ensures) c.put_trim_element.ensures)
