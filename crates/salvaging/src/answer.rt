@@ -47,6 +47,14 @@ fn drop_of(g: Gone) -> Drop
     }
 }
 
+impl From<Gone> for Drop {
+    fn from(g: Gone) -> Drop
+        ensures { result ≡ drop_of g }
+    {
+        drop_of(g)
+    }
+}
+
 // The elements that go, as they are reported.
 fn report(found: Sifted) -> [Drop; MOST_ELEMENTS]
     requires { (found.drops ≤ most_elements) × (length found.gone ≡ most_elements) }

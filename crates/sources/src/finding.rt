@@ -218,7 +218,7 @@ pub fn source_in(sources: &[Source], k: u32) -> Source
 // ---- numbers
 
 impl Source {
-    pub(crate) fn number(self) -> u8
+    pub fn number(self) -> u8
         ensures { result ≡ source_number self }
     {
         match self {
@@ -234,7 +234,7 @@ impl Source {
 }
 
 impl Field {
-    pub(crate) fn number(self) -> u8
+    pub fn number(self) -> u8
         ensures { result ≡ field_number self }
     {
         self as u8

@@ -26,7 +26,7 @@ pub fn index_of(blocks: u32, object: u32, block: u32) -> usize
 
 impl Source {
     // The field that it names, if it names one.
-    pub(crate) fn named(self) -> Option<Named>
+    pub fn named(self) -> Option<Named>
         ensures { result ≡ named_by self }
     {
         match self {
@@ -87,7 +87,7 @@ impl Known<'_> {
     }
 
     // Every byte of a record.
-    pub(crate) fn told_at(self, object: u32, block: u32, byte: u32) -> Told
+    pub fn told_at(self, object: u32, block: u32, byte: u32) -> Told
         requires { Asked self.payload.now self.blocks object block × Recorded self.payload.now self.records.now × (byte < record_bytes) }
         ensures { result ≡ told_at self.entry.payload.now self.entry.blocks byte object block }
     {
